@@ -1,0 +1,13 @@
+use Rattle.std.proofs.Common.{◌≤◌, ◌+◌, ℕ, List, length, arith}
+use Rattle.std.proofs.lemmas.Grind.{common_steps}
+use Rattle.std.specs.Io.KnownBytes.{Consumes}
+use Rattle.ua_io.specs.Faults.{TakesAtMost}
+use Rattle.ua_io.proofs.Known.{Consumes_then, OnErr_always}
+use Rattle.ua_io.proofs.whole.read_all.Goals as goal
+
+pub returns-in_err-extend_from_slice-clause-taken :
+    goal.returns-in_err-extend_from_slice-clause-taken
+returns-in_err-extend_from_slice-clause-taken g c =
+    let taken : TakesAtMost (g.S.Source.left c.args.source.now) (g.S.Source.left c.read.new.self) (c.args.limit + 1) =
+    (_, grind (arith, common_steps, c.in-Ok.ensures.within), Consumes_then _ _ _ _ _ c.loop-buf.invariant.taken c.in-Ok.ensures.bytes.0) in
+    OnErr_always _ taken
