@@ -1,0 +1,3 @@
+pub mod TermsRead
+pub mod TermsBack
+pub mod TermLanguage
