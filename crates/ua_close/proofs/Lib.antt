@@ -1,0 +1,10 @@
+pub mod Counting
+pub mod LogLemmas
+pub mod RankingLaws
+pub mod ApplyForms
+pub mod ArrangementLaws
+pub mod Turns
+pub mod RecordLaws
+pub mod Reaching
+pub mod Walks
+pub mod Closing

@@ -1,0 +1,72 @@
+-- Records of a closure: what one more keeps.
+use Rattle.std.proofs.Common.{◌≡◌, ℕ, zero, suc, ◌<◌, ◌≤◌, List, [], ◌∷◌, ◌++◌, length, take, refl, sym, ap, subst, arith, Some, append_assoc}
+use Rattle.std.specs.Prelude.{slice_get, slice_index}
+use Rattle.std.specs.List.{AllByRecursion}
+use Rattle.std.proofs.lemmas.List.{append-nil, map-append, get_or_append_left, length-map}
+use Rattle.ua_table.specs.declared.origins.Origin.{Origin}
+use Rattle.ua_table.specs.declared.origins.Origin.TheVariants.{Gen, Op}
+use Rattle.ua_table.specs.Algebras.{Vector, Product, IsVector, arities, apply}
+use Rattle.ua_table.specs.Origins.{IsOrigin, origin_value}
+use Rattle.ua_table.specs.Orders.{Record, IsNext, IsSerialFrom, IsSerial}
+use Rattle.ua_table.proofs.Lists.{all_weaker}
+use Rattle.ua_close.specs.Records.{rows_of, rows_at, IsNew, AreRecordsFrom, AreRecords}
+
+pub rows_of-append : (xs ys : List Record) → rows_of (xs ++ ys) ≡ rows_of xs ++ rows_of ys
+rows_of-append xs ys = map-append (λ (r : Record). r.0) xs ys
+
+pub length-rows_of : (rs : List Record) → length (rows_of rs) ≡ length rs
+length-rows_of rs = length-map rs (λ (r : Record). r.0)
+
+-- one more record
+records_push : (p : Product) (gens earlier : List Vector) (rs : List Record) (r : Record) → AreRecordsFrom p gens earlier rs → IsNew p gens (earlier ++ rows_of rs) r → AreRecordsFrom p gens earlier (rs ++ r ∷ [])
+records_push p gens earlier [] r h new = (subst (λ (rows : List Vector). IsNew p gens rows r) (append-nil earlier) new, tt)
+records_push p gens earlier (s ∷ rs) r h new =
+    (h.0, records_push p gens (earlier ++ s.0 ∷ []) rs r h.1 (subst (λ (rows : List Vector). IsNew p gens rows r) (sym (append_assoc earlier (s.0 ∷ []) (rows_of rs))) new))
+
+pub AreRecords-push : (p : Product) (gens : List Vector) (rs : List Record) (r : Record) → AreRecords p gens rs → IsNew p gens (rows_of rs) r → AreRecords p gens (rs ++ r ∷ [])
+AreRecords-push p gens rs r h new = records_push p gens [] rs r h new
+
+-- one more record that is the next
+serial_push : (p : Product) (gens earlier : List Vector) (rs : List Record) (r : Record) → IsSerialFrom p gens earlier rs → IsNext p gens (earlier ++ rows_of rs) r → IsSerialFrom p gens earlier (rs ++ r ∷ [])
+serial_push p gens earlier [] r h new = (subst (λ (rows : List Vector). IsNext p gens rows r) (append-nil earlier) new, tt)
+serial_push p gens earlier (s ∷ rs) r h new =
+    (h.0, serial_push p gens (earlier ++ s.0 ∷ []) rs r h.1 (subst (λ (rows : List Vector). IsNext p gens rows r) (sym (append_assoc earlier (s.0 ∷ []) (rows_of rs))) new))
+
+pub IsSerial-push : (p : Product) (gens : List Vector) (rs : List Record) (r : Record) → IsSerial p gens rs → IsNext p gens (rows_of rs) r → IsSerial p gens (rs ++ r ∷ [])
+IsSerial-push p gens rs r h new = serial_push p gens [] rs r h new
+
+-- the rows are vectors of the product
+vectors_from : (p : Product) (gens earlier : List Vector) (rs : List Record) → AreRecordsFrom p gens earlier rs → AllByRecursion (IsVector p) (rows_of rs)
+vectors_from p gens earlier [] h = tt
+vectors_from p gens earlier (r ∷ rs) h = (h.0.vector, vectors_from p gens (earlier ++ r.0 ∷ []) rs h.1)
+
+pub rows_are_vectors : (p : Product) (gens : List Vector) (rs : List Record) → AreRecords p gens rs → AllByRecursion (IsVector p) (rows_of rs)
+rows_are_vectors p gens rs h = vectors_from p gens [] rs h
+
+-- a record is new after those before it
+record_from : (p : Product) (gens earlier : List Vector) (rs : List Record) (k : ℕ) (r : Record) → AreRecordsFrom p gens earlier rs → slice_get rs k ≡ Some r → IsNew p gens (earlier ++ take k (rows_of rs)) r
+record_from p gens earlier [] k r h e = cc
+record_from p gens earlier (s ∷ rs) zero r h e =
+    let same : s ≡ r = cc in
+    let nil : earlier ≡ earlier ++ [] = sym (append-nil earlier) in
+    subst (λ (t : Record). IsNew p gens (earlier ++ []) t) same (subst (λ (ws : List Vector). IsNew p gens ws s) nil h.0)
+record_from p gens earlier (s ∷ rs) (suc k) r h e =
+    subst (λ (ws : List Vector). IsNew p gens ws r) (append_assoc earlier (s.0 ∷ []) (take k (rows_of rs))) (record_from p gens (earlier ++ s.0 ∷ []) rs k r h.1 e)
+
+pub record_at : (p : Product) (gens : List Vector) (rs : List Record) (k : ℕ) (r : Record) → AreRecords p gens rs → slice_get rs k ≡ Some r → IsNew p gens (take k (rows_of rs)) r
+record_at p gens rs k r h e = record_from p gens [] rs k r h e
+
+-- rows that are named stay where they are
+rows_at-more : (rows more : List Vector) (n : ℕ) (args : List ℕ) → n ≤ length rows → AllByRecursion (λ a. a < n) args → rows_at (rows ++ more) args ≡ rows_at rows args
+rows_at-more rows more n [] m h = refl
+rows_at-more rows more n (a ∷ args) m h = λ i. get_or_append_left rows more [] a (let low = h.0 in omega (arith, low, m)) i ∷ rows_at-more rows more n args m h.1 i
+
+-- and so does the value of an origin over them
+pub origin_value-more : (p : Product) (gens rows more : List Vector) (n : ℕ) (o : Origin) → n ≤ length rows → IsOrigin (arities p) (length gens) n o → origin_value p gens (rows ++ more) o ≡ origin_value p gens rows o
+origin_value-more p gens rows more n (Gen i) m h = refl
+origin_value-more p gens rows more n (Op f args) m h = ap (apply p f) (rows_at-more rows more n (take (slice_index (arities p) f) args) m h.earlier)
+
+-- an origin over some rows is one over more
+pub IsOrigin-more : (ks : List ℕ) (gens n m : ℕ) (o : Origin) → n ≤ m → IsOrigin ks gens n o → IsOrigin ks gens m o
+IsOrigin-more ks gens n m (Gen i) h k = k
+IsOrigin-more ks gens n m (Op f args) h k = record { operation = k.operation; count = k.count; earlier = all_weaker (λ a. a < n) (λ a. a < m) (λ a low. omega (arith, low, h)) (take (slice_index ks f) args) k.earlier; unused = k.unused }

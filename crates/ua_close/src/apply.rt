@@ -1,0 +1,56 @@
+//! Operations of a product at rows of a log.
+
+ghost use Rattle.std.specs.Prelude.{◌≡◌, ◌<◌, ◌≤◌, length, map, take, slice_index};
+ghost use Rattle.std.specs.List.{AllByRecursion};
+ghost use Rattle.ua_table.specs.Algebras.{Vector, IsProduct, IsVector, arities, apply, column, numeral};
+ghost use Rattle.ua_close.specs.Records.{rows_of, rows_at};
+ghost use Rattle.ua_close.specs.Slices.{vectors_behind};
+
+use crate::log::Log;
+use ua_table::{Elem, Frame, OpTable};
+
+/// The rows that the arguments name, and empty slices after them.
+fn named_rows<'a>(rows: &'a Log, args: &[u32]) -> [&'a [Elem]; 4]
+    requires few { length args.now ≤ 4 }
+    requires named { AllByRecursion (λ a. a < length rows.now) args.now }
+    ensures { vectors_behind (take (length args.now) result) ≡ rows_at (rows_of rows.now) args.now }
+{
+    let mut named: [&[Elem]; 4] = [&[]; 4];
+    for (j, a) in args.iter().enumerate() {
+        named[j] = rows.row(*a);
+    }
+    named
+}
+
+/// The value of an operation at the entries of some rows at one coordinate.
+fn entry(table: &OpTable, rows: &[&[Elem]], i: usize) -> Elem
+    requires few { length rows.now ≤ 4 }
+    requires arity { length rows.now ≡ table.now.arity }
+    requires wide { AllByRecursion (λ (v : Vector). i < length v) (vectors_behind rows.now) }
+    requires below { AllByRecursion (λ x. x < table.now.size) (column (vectors_behind rows.now) i) }
+    ensures { result ≡ slice_index table.now.values (numeral table.now.size (column (vectors_behind rows.now) i)) }
+{
+    let mut xs = [0; 4];
+    for (j, row) in rows.iter().enumerate() {
+        xs[j] = row[i];
+    }
+    table.value(&xs[..rows.len()])
+}
+
+/// Writes the vector of an operation at the rows that the arguments name.
+pub fn apply(frame: &Frame, op: u32, rows: &Log, args: &[u32], out: &mut [Elem])
+    requires operation { op < length (arities frame.now) }
+    requires arity { length args.now ≡ slice_index (arities frame.now) op }
+    requires few { length args.now ≤ 4 }
+    requires named { AllByRecursion (λ a. a < length rows.now) args.now }
+    requires rows { AllByRecursion (IsVector frame.now) (rows_of rows.now) }
+    requires width { length out.old ≡ length frame.now }
+    ensures value { out.new ≡ apply frame.now op (rows_at (rows_of rows.now) args.now) }
+    ensures vector { IsVector frame.now out.new }
+{
+    let named = named_rows(rows, args);
+    for i in 0..frame.width() {
+        let table = frame.algebra_at(i).op(op);
+        out[i as usize] = entry(table, &named[..args.len()], i as usize);
+    }
+}

@@ -1,0 +1,18 @@
+//! The closure of vectors under the operations of a product.
+#![tactic(auto)]
+
+mod apply;
+mod close;
+mod listing;
+mod log;
+mod problem;
+mod serial;
+mod sorting;
+mod widths;
+
+pub use close::{CloseError, Closure, close_set};
+pub use listing::Listing;
+pub use ua_table::{FreeGate, Gate, Run};
+
+#[cfg(test)]
+mod tests;
