@@ -1,0 +1,4 @@
+mod Rows
+mod Checks
+mod Serving
+mod Built

@@ -1,0 +1,11 @@
+pub mod Texts
+pub mod Sessions
+pub mod Refusals
+pub mod Operands
+pub mod CloseCommand
+pub mod Replies
+pub mod Outputs
+pub mod Served
+pub mod Codes
+pub mod Words
+pub mod Runs

@@ -1,0 +1,175 @@
+//! The command `close`.
+
+ghost use Rattle.std.specs.Prelude.{◌≡◌, ◌<◌, ◌≤◌, ◌*◌, [], length, replicate, Some, IfOk, IfErr};
+ghost use Rattle.std.specs.List.{AllByRecursion};
+ghost use Rattle.ua_script.specs.declared.script.Number.{Number};
+ghost use Rattle.ua_table.specs.declared.limits.TheConstants.{SIZE, BUDGET};
+ghost use Rattle.ua_table.specs.Algebras.{arities_of};
+ghost use Rattle.ua_table.specs.Numbering.{records};
+ghost use Rattle.ua_shell.specs.Sessions.{lookup, bounds_of};
+ghost use Rattle.ua_shell.specs.Operands.{values_of, vectors_of, Fits};
+ghost use Rattle.ua_shell.specs.CloseCommand.{close_errors, closure_text, IsPermitted, CloseReply};
+ghost use Rattle.ua_shell.specs.Refusals.{first_refusal};
+
+use crate::operands::{find_algebra, first_above, first_other_length, first_vector_above};
+use crate::refusals::{Refusal, refusal_reply};
+use crate::texts::{push_number, push_rows};
+use std::alloc::{AllocError, Global};
+use std::thread::Threads;
+use ua_close::{CloseError, Closure, close_set};
+use ua_script::{Items, Mode, Number, Word};
+use ua_table::limits::{BUDGET, SIZE};
+use ua_table::{Algebra, Elem, Frame, Gate, Run, Vectors};
+
+/// The algebra of a `close`, or the first of its errors.
+fn checked<'a>(
+    session: &'a [Algebra],
+    algebra: &Word,
+    width: Number,
+    gens: &[Items],
+) -> Result<&'a Algebra, Refusal>
+    ensures known { IfOk result (λ a. lookup session.now algebra.now.name ≡ Some a.now) }
+    ensures none { IfOk result (λ a. close_errors session.now (record { algebra = algebra.now; width = width; gens = gens.now }) ≡ []) }
+    ensures first { IfErr result (λ r. first_refusal (close_errors session.now (record { algebra = algebra.now; width = width; gens = gens.now })) ≡ Some r) }
+{
+    let Some(known) = find_algebra(session, algebra.name.text()) else {
+        return Err(Refusal::Unknown(algebra.place));
+    };
+    if width.value == 0 {
+        return Err(Refusal::Range(width.place));
+    }
+    if let Some(place) = first_vector_above(known.size(), gens) {
+        return Err(Refusal::Range(place));
+    }
+    if let Some(place) = first_other_length(width.value, gens) {
+        return Err(Refusal::Shape(place));
+    }
+    Ok(known)
+}
+
+/// The elements that are written.
+fn elements(alloc: Global, values: &[Number], size: u32) -> Result<Vec<Elem>, AllocError>
+    requires below { AllByRecursion (λ (n : Number). n.value < size) values.now }
+    requires small { size ≤ SIZE }
+    ensures { IfOk result (λ v. v.items ≡ values_of values.now) }
+{
+    let mut items = Vec::with_capacity(alloc, values.len())?;
+    for n in values {
+        items.push(n.value as Elem)?;
+    }
+    Ok(items)
+}
+
+/// The vectors that are written.
+fn vectors(alloc: Global, width: u32, size: u32, gens: &[Items]) -> Result<Vectors, AllocError>
+    requires fit { AllByRecursion (Fits width size) gens.now }
+    requires few { length gens.now ≤ 16777216 }
+    requires small { size ≤ SIZE }
+    ensures { IfOk result (λ vs. vs ≡ record { width = width; items = vectors_of gens.now }) }
+{
+    let mut vectors = Vectors::new(alloc, width);
+    for v in gens {
+        let row = elements(alloc, v.values.as_slice(), size)?;
+        vectors.add(&row)?;
+    }
+    Ok(vectors)
+}
+
+/// What `close_set` answers for a power of the algebra.
+fn close_power<R: Threads + Sync, G: Gate>(
+    rt: &R,
+    alloc: Global,
+    algebra: &Algebra,
+    width: u32,
+    gens: &[Items],
+    run: &Run<G>,
+) -> Result<Closure, CloseError>
+    requires some { 0 < width }
+    requires fit { AllByRecursion (Fits width algebra.now.size) gens.now }
+    requires few { length gens.now ≤ 16777216 }
+    ensures { IsPermitted (replicate width algebra.now) (vectors_of gens.now) (bounds_of run.now.budget run.now.workers) result }
+{
+    let vectors = vectors(alloc, width, algebra.size(), gens)?;
+    match Frame::power(algebra, width) {
+        Ok(frame) => close_set(rt, alloc, &frame, &vectors, run),
+        Err(_) => Err(wide_power(alloc, algebra, width, vectors.len(), run.budget)?),
+    }
+}
+
+/// The error for a power with more coordinates than a frame has.
+fn wide_power(
+    alloc: Global,
+    algebra: &Algebra,
+    width: u32,
+    gens: u32,
+    budget: u32,
+) -> Result<CloseError, AllocError>
+    requires budget { budget ≤ BUDGET }
+    ensures { IfOk result (λ e. e ≡ CloseError.Wide (records (arities_of algebra.now) gens budget) (budget * width)) }
+{
+    let Ok(line) = Frame::power(algebra, 1) else {
+        unreachable!()
+    };
+    let shape = line.shape(alloc)?;
+    Ok(CloseError::Wide {
+        records: shape.records(gens, budget),
+        cells: u128::from(budget) * u128::from(width),
+    })
+}
+
+/// The reply to a closure.
+fn closure_reply(
+    alloc: Global,
+    algebra: &Algebra,
+    budget: u32,
+    mode: Mode,
+    closure: &Closure,
+) -> Result<Vec<u8>, AllocError>
+    ensures { IfOk result (λ v. v.items ≡ closure_text algebra.now budget mode closure.now) }
+{
+    let mut out = Vec::new(alloc);
+    let rows = match closure {
+        Closure::Closed(rows) => {
+            out.extend_from_slice(b"closed ")?;
+            push_number(&mut out, u128::from(rows.len()))?;
+            rows
+        }
+        Closure::Exceeds(rows) => {
+            out.extend_from_slice(b"exceeds ")?;
+            push_number(&mut out, u128::from(budget))?;
+            rows
+        }
+    };
+    out.push(b'\n')?;
+    if mode != Mode::Count {
+        push_rows(&mut out, algebra, rows)?;
+    }
+    Ok(out)
+}
+
+/// The reply to `close`: the first of its errors, or the closure.
+pub fn answer_close<R: Threads + Sync, G: Gate>(
+    rt: &R,
+    alloc: Global,
+    session: &[Algebra],
+    run: &Run<G>,
+    word: &Word,
+    width: Number,
+    gens: &[Items],
+    mode: Mode,
+) -> Result<Vec<u8>, AllocError>
+    requires { length gens.now ≤ 16777216 }
+    ensures { IfOk result (λ v. CloseReply session.now (bounds_of run.now.budget run.now.workers) (record { algebra = word.now; width = width; gens = gens.now }) mode v.items) }
+{
+    let algebra = match checked(session, word, width, gens) {
+        Ok(algebra) => algebra,
+        Err(refusal) => return refusal_reply(alloc, refusal),
+    };
+    match close_power(rt, alloc, algebra, width.value, gens, run) {
+        Ok(closure) => closure_reply(alloc, algebra, run.budget, mode, &closure),
+        Err(CloseError::Wide { records, cells }) => {
+            refusal_reply(alloc, Refusal::Wide { records, cells })
+        }
+        Err(CloseError::OutOfMemory) => Err(AllocError),
+    }
+}

@@ -1,0 +1,16 @@
+//! The session, the replies and the top call.
+#![tactic(auto)]
+
+mod close;
+mod operands;
+mod refusals;
+mod run_call;
+mod serve;
+mod status;
+#[cfg(test)]
+mod tests;
+mod texts;
+mod words;
+
+pub use run_call::run;
+pub use status::Status;

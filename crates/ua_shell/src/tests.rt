@@ -1,0 +1,214 @@
+//! Whole runs over memory.
+
+use crate::{Status, run};
+use std::alloc::{AllocError, Global};
+use std::test::Fail;
+use std::thread::Threads;
+use ua_io::{MemSink, MemSource};
+use ua_table::FreeGate;
+use ua_text::{FaultKind, TextFault};
+
+const MEET: &str = "algebra M size 2\nop meet 2 = 0 0 0 1\nend\n";
+
+/// How a run ended, and what it wrote.
+#[derive(Drop)]
+struct Ended {
+    status: Status,
+    out: Vec<u8>,
+}
+
+/// Runs a script; the calls listed fail.
+fn run_with<R: Threads + Sync>(
+    rt: &R,
+    alloc: Global,
+    words: &[String],
+    script: &[u8],
+    source_fails: &[u32],
+    sink_fails: &[u32],
+) -> Result<Ended, AllocError> {
+    let mut source = MemSource::new(
+        script.to_vec(alloc)?,
+        1_000_000,
+        source_fails.to_vec(alloc)?,
+    );
+    let room = vec![in alloc; 0; 1_000_000]?;
+    let mut sink = MemSink::new(room, 1_000_000, sink_fails.to_vec(alloc)?);
+    let status = run(rt, alloc, words, &mut source, &mut sink, &FreeGate);
+    Ok(Ended {
+        status,
+        out: sink.into_bytes(),
+    })
+}
+
+/// Runs a script that follows the block of M, with no words.
+fn answer<R: Threads + Sync>(rt: &R, alloc: Global, text: &str) -> Result<Ended, AllocError> {
+    let script = format!(in alloc; "{MEET}{text}")?;
+    run_with(rt, alloc, &[], script.as_bytes(), &[], &[])
+}
+
+#[test]
+fn replies(rt: HostRuntime) -> Result<(), Fail> {
+    let alloc = rt.alloc();
+    for (command, reply) in [
+        (
+            "close M 2 [0 1] [1 0]",
+            "closed 3\n[0 0] 2 meet 2 1\n[0 1] 0 gen 0\n[1 0] 1 gen 1\n",
+        ),
+        ("close M 2", "closed 0\n"),
+        ("close M 2 [0 1] [0 1]", "closed 1\n[0 1] 0 gen 0\n"),
+        (
+            "close M 3 [0 1 1] [1 0 1] [1 1 0] [1 1 1] count",
+            "closed 8\n",
+        ),
+        ("# nothing is asked", ""),
+        (
+            "close M 2 close M 1 [1]",
+            "closed 0\nclosed 1\n[1] 0 gen 0\n",
+        ),
+    ] {
+        let ended = answer(&rt, alloc, command)?;
+        assert_eq!(rt; ended.status, Status::Done, "{command}");
+        assert_eq!(rt; ended.out.as_slice(), reply.as_bytes(), "{command}");
+    }
+    Ok(())
+}
+
+#[test]
+fn constants(rt: HostRuntime) -> Result<(), Fail> {
+    let alloc = rt.alloc();
+    let script = b"algebra K size 2 op c 0 = 1 end close K 3 close K 3 [1 1 1]";
+    let ended = run_with(&rt, alloc, &[], script, &[], &[])?;
+    assert_eq!(rt; ended.status, Status::Done);
+    let reply = b"closed 1\n[1 1 1] 0 c\nclosed 1\n[1 1 1] 0 gen 0\n";
+    assert_eq!(rt; ended.out.as_slice(), reply.as_slice());
+    Ok(())
+}
+
+#[test]
+fn errors(rt: HostRuntime) -> Result<(), Fail> {
+    let alloc = rt.alloc();
+    for (command, reply) in [
+        ("close X 2", "error unknown 4:7\n"),
+        ("close M 2 [0 2]", "error range 4:14\n"),
+        ("close M 0 [0 2]", "error range 4:9\n"),
+        ("close M 2 [0]", "error shape 4:11\n"),
+        ("close M 2 [0] [5 5]", "error range 4:16\n"),
+        ("close M 67108865", "error wide 100000001 671088650000\n"),
+        ("close M 6711", "error wide 100000001 67110000\n"),
+        ("close M 6710", "closed 0\n"),
+        ("close X 2 close M 2", "error unknown 4:7\nclosed 0\n"),
+    ] {
+        let ended = answer(&rt, alloc, command)?;
+        assert_eq!(rt; ended.status, Status::Done, "{command}");
+        assert_eq!(rt; ended.out.as_slice(), reply.as_bytes(), "{command}");
+    }
+    Ok(())
+}
+
+#[test]
+fn more_than_the_budget(rt: HostRuntime) -> Result<(), Fail> {
+    let alloc = rt.alloc();
+    let script = b"algebra Z size 2 op plus 2 = 0 1 1 0 end close Z 14
+        [1 0 0 0 0 0 0 0 0 0 0 0 0 0] [0 1 0 0 0 0 0 0 0 0 0 0 0 0] [0 0 1 0 0 0 0 0 0 0 0 0 0 0]
+        [0 0 0 1 0 0 0 0 0 0 0 0 0 0] [0 0 0 0 1 0 0 0 0 0 0 0 0 0] [0 0 0 0 0 1 0 0 0 0 0 0 0 0]
+        [0 0 0 0 0 0 1 0 0 0 0 0 0 0] [0 0 0 0 0 0 0 1 0 0 0 0 0 0] [0 0 0 0 0 0 0 0 1 0 0 0 0 0]
+        [0 0 0 0 0 0 0 0 0 1 0 0 0 0] [0 0 0 0 0 0 0 0 0 0 1 0 0 0] [0 0 0 0 0 0 0 0 0 0 0 1 0 0]
+        [0 0 0 0 0 0 0 0 0 0 0 0 1 0] [0 0 0 0 0 0 0 0 0 0 0 0 0 1] count";
+    let ended = run_with(&rt, alloc, &[], script, &[], &[])?;
+    assert_eq!(rt; ended.status, Status::Done);
+    assert_eq!(rt; ended.out.as_slice(), b"exceeds 10000\n".as_slice());
+    Ok(())
+}
+
+#[test]
+fn faults_of_the_text(rt: HostRuntime) -> Result<(), Fail> {
+    let alloc = rt.alloc();
+    for (script, line, column, kind) in [
+        (
+            "algebra M size 2\nop meet 2 = 0 0 0\nend\nclose M 2",
+            3,
+            1,
+            FaultKind::Value,
+        ),
+        (
+            "algebra M size 2\nop meet 2 = 0 0 0 2\nend",
+            2,
+            19,
+            FaultKind::Value,
+        ),
+        ("algebra M size 256", 1, 16, FaultKind::Number),
+        ("algebra M size 2 end con M", 1, 22, FaultKind::Unbuilt),
+        (
+            "algebra M size 2 end close M 2 least",
+            1,
+            32,
+            FaultKind::Unbuilt,
+        ),
+        ("algebra M size 2 end algebra M", 1, 30, FaultKind::Name),
+        ("algebra", 1, 8, FaultKind::End),
+        (
+            "algebra M size 2 end close M 2 [0 ?]",
+            1,
+            35,
+            FaultKind::Byte,
+        ),
+        (
+            "algebra M size 2 end close M 2 [0 =]",
+            1,
+            35,
+            FaultKind::Item,
+        ),
+        ("close M 2 =", 1, 11, FaultKind::Word),
+    ] {
+        let ended = run_with(&rt, alloc, &[], script.as_bytes(), &[], &[])?;
+        let fault = TextFault { line, column, kind };
+        assert_eq!(rt; ended.status, Status::Syntax(fault), "{script}");
+        assert!(rt; ended.out.is_empty(), "{script}");
+    }
+    Ok(())
+}
+
+#[test]
+fn words_are_refused(rt: HostRuntime) -> Result<(), Fail> {
+    let alloc = rt.alloc();
+    for word in ["--help", "", "--", "script.ua"] {
+        let words = [String::from_str(alloc, word)?];
+        let ended = run_with(&rt, alloc, &words, MEET.as_bytes(), &[0], &[])?;
+        assert_eq!(rt; ended.status, Status::Usage, "{word}");
+        assert!(rt; ended.out.is_empty());
+    }
+    Ok(())
+}
+
+#[test]
+fn faults_of_the_source_and_the_sink(rt: HostRuntime) -> Result<(), Fail> {
+    let alloc = rt.alloc();
+    let script = format!(in alloc; "{MEET}close M 2 close M 2 close M 2")?;
+    let ended = run_with(&rt, alloc, &[], script.as_bytes(), &[0], &[])?;
+    assert_eq!(rt; ended.status, Status::ReadFault);
+    assert!(rt; ended.out.is_empty());
+    let ended = run_with(&rt, alloc, &[], script.as_bytes(), &[], &[2])?;
+    assert_eq!(rt; ended.status, Status::WriteFault);
+    assert_eq!(rt; ended.out.as_slice(), b"closed 0\nclosed 0\n".as_slice());
+    Ok(())
+}
+
+#[test]
+fn the_longest_script(rt: HostRuntime) -> Result<(), Fail> {
+    let alloc = rt.alloc();
+    let mut blanks = vec![in alloc; b' '; 16_777_216]?;
+    let ended = run_with(&rt, alloc, &[], &blanks, &[], &[])?;
+    assert_eq!(rt; ended.status, Status::Done);
+    assert!(rt; ended.out.is_empty());
+    blanks.push(b' ')?;
+    let ended = run_with(&rt, alloc, &[], &blanks, &[], &[])?;
+    assert_eq!(rt; ended.status, Status::TooLong);
+    Ok(())
+}
+
+#[test]
+fn codes(rt: HostRuntime) {
+    assert_eq!(rt; Status::Done.code(), 0);
+    assert_eq!(rt; Status::Usage.code(), 2);
+    assert_eq!(rt; Status::TooLong.code(), 7);
+}
