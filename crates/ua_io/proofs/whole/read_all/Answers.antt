@@ -1,6 +1,5 @@
-use Rattle.std.proofs.Common.{◌≤◌, ◌+◌, ℕ, List, length, arith}
+use Rattle.std.proofs.Common.{◌+◌, arith}
 use Rattle.std.proofs.lemmas.Grind.{common_steps}
-use Rattle.std.specs.Io.KnownBytes.{Consumes}
 use Rattle.ua_io.specs.Faults.{TakesAtMost}
 use Rattle.ua_io.proofs.Known.{Consumes_then, OnErr_always}
 use Rattle.ua_io.proofs.whole.read_all.Goals as goal
