@@ -254,7 +254,7 @@ fn all_arities(alloc: Global) -> Result<Algebra, Fail> {
     let mut values = Vec::new(alloc);
     for n in 0..81_u32 {
         let (a, b, c, d) = (n / 27, n / 9 % 3, n / 3 % 3, n % 3);
-        values.push(((a + 2 * b * c + d) % 3) as u8)?;
+        values.push(((a + 2 * b * c + d) % 3) as Elem)?;
     }
     let ops: [(&[u8], u8, &[Elem]); 4] = [
         (b"f", 4, values.as_slice()),
