@@ -25,3 +25,6 @@ pub mod Judge
 pub mod Readable
 pub mod BlockReading
 pub mod Prints
+pub mod ByteKinds
+pub mod PrintedTokens
+pub mod PrintedBlocks

@@ -8,6 +8,8 @@ use Rattle.ua_text.specs.Blocks.{IsBlockOperation, IsBlock, block}
 use Rattle.ua_text.specs.Pieces.{Placed}
 use Rattle.ua_text.specs.Signs.{Wanted, text_of, AreSpelled, Front}
 use Rattle.ua_text.specs.Words.{same}
+use Rattle.ua_text.specs.declared.faults.ReadFault.{ReadFault}
+use Rattle.ua_text.specs.declared.faults.ReadFault.TheVariants as faults
 use Rattle.ua_text.specs.declared.readers.Miss.{Miss}
 use Rattle.ua_text.specs.declared.readers.Miss.TheVariants as misses
 
@@ -15,6 +17,11 @@ use Rattle.ua_text.specs.declared.readers.Miss.TheVariants as misses
 abbrev pub Gives : {A : Type 0} → Result A Miss → (A → Type 0) → Type 0
 Gives (Ok a) P = P a
 Gives (Err e) P = e ≡ misses.OutOfMemory
+
+-- a value of which this holds is read, unless memory runs out
+abbrev pub ReadsAs : {A : Type 0} → Result A ReadFault → (A → Type 0) → Type 0
+ReadsAs (Ok a) P = P a
+ReadsAs (Err e) P = e ≡ faults.OutOfMemory
 
 -- this value, and this holds
 abbrev pub IsValue : Option ℕ → ℕ → Type 0 → Type 0

@@ -1,9 +1,12 @@
 //! The canonical print.
 
-ghost use Rattle.std.specs.Prelude.{◌≡◌, ◌∷◌, ◌++◌, [], OnOk, IfOk};
+ghost use Rattle.std.specs.Prelude.{◌≡◌, ◌∷◌, ◌++◌, [], codes, true, OnOk, IfOk};
 ghost use Rattle.std.specs.Fmt.{decimal};
-ghost use Rattle.ua_text.specs.Signs.{sign, numeral, begins_line, joins, gap_behind, line_end, printed};
-ghost use Rattle.ua_text.specs.Blocks.{operation, body, block};
+ghost use Rattle.ua_text.specs.Signs.{sign, numeral, begins_line, ends_line, joins, gap_behind, line_end, printed, AreSpelled};
+ghost use Rattle.ua_table.specs.Names.{is_name};
+ghost use Rattle.ua_text.specs.Pieces.{tokens_of};
+ghost use Rattle.ua_text.specs.Reading.{IsBlockAt};
+ghost use Rattle.ua_text.specs.Blocks.{operation, body, block, IsBlock};
 ghost use Rattle.ua_text.specs.Printing.{Shows};
 ghost use Rattle.ua_text.specs.declared.symbols.Role.{Role};
 
@@ -17,6 +20,16 @@ fn begins_line(role: Role) -> bool
 {
     match role {
         Role::Begins | Role::Line => true,
+        _ => false,
+    }
+}
+
+/// Whether a token goes on to the end of its line.
+fn ends_line(role: Role) -> bool
+    ensures { result ≡ ends_line role }
+{
+    match role {
+        Role::Json => true,
         _ => false,
     }
 }
@@ -63,7 +76,7 @@ impl Printer {
         let Some(last) = self.last else {
             return Ok(());
         };
-        if begins_line(role) {
+        if ends_line(last) || begins_line(role) {
             self.out.push(b'\n')?;
         } else if !joins(last, role) {
             self.out.push(b' ')?;
@@ -107,7 +120,8 @@ impl Printer {
 
 /// Prints an operation.
 fn put_operation(printer: &mut Printer, op: &OpTable) -> Result<(), AllocError>
-    ensures { OnOk result (Shows printer.old printer.new (operation op.now)) }
+    ensures named { OnOk result (is_name op.now.name ≡ true) }
+    ensures shown { OnOk result (Shows printer.old printer.new (operation op.now)) }
 {
     printer.put(Role::Line, b"op")?;
     printer.put(Role::Named, op.name().text())?;
@@ -121,7 +135,9 @@ fn put_operation(printer: &mut Printer, op: &OpTable) -> Result<(), AllocError>
 
 /// Prints a block.
 pub fn put_block(printer: &mut Printer, a: &Algebra) -> Result<(), AllocError>
-    ensures { OnOk result (Shows printer.old printer.new (block a.now)) }
+    ensures formed { OnOk result (IsBlock a.now) }
+    ensures spelled { OnOk result (AreSpelled (codes "algebra" ∷ []) (block a.now)) }
+    ensures shown { OnOk result (Shows printer.old printer.new (block a.now)) }
 {
     printer.put(Role::Begins, b"algebra")?;
     printer.put(Role::Named, a.name().text())?;
@@ -134,9 +150,11 @@ pub fn put_block(printer: &mut Printer, a: &Algebra) -> Result<(), AllocError>
     Ok(())
 }
 
-/// The text of an algebra, in canonical print.
+/// The text of an algebra, in canonical print. Where it is within the limit of a text, it is read as the
+/// algebra.
 pub fn print_algebra(alloc: Global, a: &Algebra) -> Result<Vec<u8>, AllocError>
-    ensures { IfOk result (λ bytes. bytes.items ≡ printed (block a.now)) }
+    ensures back { IfOk result (λ bytes. IsBlockAt a.now (tokens_of bytes.items) []) }
+    ensures text { IfOk result (λ bytes. bytes.items ≡ printed (block a.now)) }
 {
     let mut printer = Printer::new(alloc);
     put_block(&mut printer, a)?;
