@@ -1,5 +1,5 @@
 -- What items in the forms that are built consist of. A further form is a further case here.
-use Rattle.std.proofs.Common.{◌≡◌, ℕ, true, false, List, [], ◌∷◌, ◌++◌, length, map, codes, refl, sym, ◌∙◌, subst, append_assoc, arith}
+use Rattle.std.proofs.Common.{◌≡◌, ℕ, zero, suc, ◌<◌, get_or, true, false, List, [], ◌∷◌, ◌++◌, length, map, codes, refl, sym, ◌∙◌, subst, append_assoc, arith}
 use Rattle.std.specs.Prelude.{Contains}
 use Rattle.std.specs.List.{AllByRecursion, flat_map}
 use Rattle.std.proofs.lemmas.Bool.{false≢true}
@@ -143,3 +143,9 @@ item_some i [] ws l f = none i ws f where
   none (items.Command (commands.Check a json)) ws h = h
   none (items.Command (commands.Make place name what)) ws h = h
 item_some i (t ∷ ts) ws l f = absurd (omega arith)
+
+-- an item of spelled items is spelled
+pub spelled_at : (xs : List Item) (i : ℕ) (d : Item) → i < length xs → AreSpelled forms_built (flat_map item xs) → AreSpelled forms_built (item (get_or xs i d))
+spelled_at [] i d l h = absurd (omega arith)
+spelled_at (x ∷ xs) zero d l h = spelled_left forms_built (item x) (flat_map item xs) h
+spelled_at (x ∷ xs) (suc i) d l h = spelled_at xs i d (omega arith) (spelled_right forms_built (item x) (flat_map item xs) h)

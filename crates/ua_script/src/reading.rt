@@ -7,6 +7,8 @@ ghost use Rattle.ua_text.specs.Languages.{IsFault};
 ghost use Rattle.ua_text.specs.Grammars.{forms_of};
 ghost use Rattle.ua_text.specs.declared.faults.TextFault.{TextFault};
 ghost use Rattle.ua_text.specs.declared.faults.ReadFault.{ReadFault};
+ghost use Rattle.ua_text.specs.Reading.{ReadsAs};
+ghost use Rattle.ua_script.specs.declared.script.Script.{Script};
 ghost use Rattle.ua_script.specs.Grammar.{scripts, forms_built, IsScript};
 ghost use Rattle.ua_script.specs.Tables.{script_forms};
 
@@ -198,6 +200,7 @@ fn script_grammar() -> Grammar
 /// Linear in the length of the text, but for the names of its items, which are kept in a set.
 pub fn parse(alloc: Global, bytes: &[u8]) -> Result<Script, ReadFault>
     requires { length bytes.now ≤ 16777216 }
+    ensures only { (s : Script) → IsScript forms_built bytes.now s → ReadsAs result (λ script. script ≡ s) }
     ensures script { IfOk result (IsScript forms_built bytes.now) }
     ensures fault { (fault : TextFault) → result ≡ Err (ReadFault.Text fault) → IsFault (scripts forms_built) (tokens_of bytes.now) (end_of bytes.now) fault }
 {

@@ -1,3 +1,4 @@
 pub mod TermsRead
 pub mod TermsBack
 pub mod TermLanguage
+pub mod TermsAgain

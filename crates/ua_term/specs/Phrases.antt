@@ -26,6 +26,19 @@ abbrev pub phrases : List Phrase → Phrases
 phrases [] = none
 phrases (p ∷ ps) = more p (phrases ps)
 
+-- line and column 0, where nothing stands
+abbrev pub nowhere : Place
+nowhere = record { line = 0; column = 0 }
+
+-- the same terms without their places
+abbrev mutual
+  pub bare_phrase : Phrase → Phrase
+  bare_phrase (phrase word place arguments) = phrase word nowhere (bare_phrases arguments)
+
+  pub bare_phrases : Phrases → Phrases
+  bare_phrases none = none
+  bare_phrases (more p ps) = more (bare_phrase p) (bare_phrases ps)
+
 -- how many words
 abbrev mutual
   pub words_in : Phrase → ℕ

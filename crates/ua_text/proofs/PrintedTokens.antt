@@ -1,24 +1,23 @@
 -- What is printed is cut into the tokens that were wanted.
-use Rattle.std.proofs.Common.{◌≡◌, ◌⊎◌, inl, inr, ℕ, zero, suc, ◌+◌, ◌<◌, ◌==◌, Bool, true, false, ◌&&◌, ◌||◌, not, if◌then◌else◌, cond, List, [], ◌∷◌, ◌++◌, length, take, drop, take_while, nat_lt, nat_le, map, Option, Some, None, refl, sym, ap, ◌∙◌, subst, append_assoc, arith}
-use Rattle.std.specs.List.{list_all, AllByRecursion, Contains}
+use Rattle.std.proofs.Common.{◌≡◌, inl, inr, ℕ, ◌+◌, ◌<◌, ◌==◌, Bool, true, false, ◌&&◌, ◌||◌, not, if◌then◌else◌, cond, List, [], ◌∷◌, ◌++◌, length, drop, take_while, nat_lt, nat_le, Some, refl, sym, ap, ◌∙◌, subst, append_assoc, arith}
+use Rattle.std.specs.List.{list_all, AllByRecursion}
 use Rattle.std.proofs.Math.Seq.{take-append_seam}
 use Rattle.std.proofs.lemmas.List.Sums.{take_while-cons}
 use Rattle.ua_table.specs.declared.limits.TheConstants.{NAME}
 use Rattle.std.proofs.lemmas.Bool.{true≢false, false≢true, eqb-true}
 use Rattle.ua_table.specs.Names.{is_letter, is_digit, is_word_byte, is_word, is_name}
-use Rattle.ua_text.specs.declared.pieces.TokenKind.{TokenKind}
 use Rattle.ua_text.specs.declared.pieces.TokenKind.TheVariants.{Word, Number, Mark, Json, Bad}
 use Rattle.ua_text.specs.declared.pieces.Piece.{Piece}
-use Rattle.ua_text.specs.declared.pieces.Piece.TheVariants.{Gap, Lexeme}
+use Rattle.ua_text.specs.declared.pieces.Piece.TheVariants.{Lexeme}
 use Rattle.ua_text.specs.declared.symbols.Role.{Role}
 use Rattle.ua_text.specs.declared.symbols.Role.TheVariants as roles
 use Rattle.ua_text.specs.Bytes.{is_blank, is_mark, is_in_line, is_number}
-use Rattle.ua_text.specs.Pieces.{Placed, piece, number_piece, word_piece, placed, tokens_from, tokens_of, is_number_kind}
+use Rattle.ua_text.specs.Pieces.{Placed, piece, number_piece, word_piece, placed, tokens_from, tokens_of}
 use Rattle.std.specs.Fmt.{decimal}
 use Rattle.ua_text.specs.Words.{same, among}
 use Rattle.ua_text.specs.Signs.{Sign, Spelled, Numeral, Wanted, sign_text, text_of, texts, token_texts, is_bad, is_mark_text, is_json, IsSpelled, AreSpelled, begins_line, ends_line, joins, gap, shown, after, line_end, printed}
 use Rattle.ua_text.proofs.WordLemmas.{both, negated, or_true, same-true, contains_among}
-use Rattle.ua_text.proofs.Behind.{front_lexeme, front_gap}
+use Rattle.ua_text.proofs.Behind.{front_lexeme}
 use Rattle.ua_text.proofs.Running.{IsGood}
 use Rattle.ua_text.proofs.Digits.{number_of_decimal}
 use Rattle.ua_text.proofs.ByteKinds.{letter_apart, digit_apart, mark_apart, digit_in_word, mark_in_no_word}
