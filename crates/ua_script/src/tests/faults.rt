@@ -90,6 +90,19 @@ fn commands_in_line_four(rt: HostRuntime) -> Result<(), Fail> {
         (b"close M 999999999 # and [nothing", None),
         (b"close M 2 # the generators\n[0 1]", None),
         (b"close M 2 _", Some((4, 11, FaultKind::Byte))),
+        (b"close\tM\r\n2\r\n]", Some((6, 1, FaultKind::Word))),
+        (b"close M # the width", Some((4, 20, FaultKind::End))),
+        (b"close M 2 [0 1 # ]", Some((4, 19, FaultKind::End))),
+        (b"close M 2 {\"kind\"", Some((4, 11, FaultKind::Word))),
+        (
+            b"algebra N size 1 end algebra N size 1 end",
+            Some((4, 30, FaultKind::Name)),
+        ),
+        (
+            b"close a_name_of_thirty_two_bytes_______ 2",
+            Some((4, 7, FaultKind::Byte)),
+        ),
+        (b"close a_name_of_thirty_two_bytes______ 2", None),
     ] {
         assert_eq!(rt; behind_block(rt.alloc(), text)?, at, "{text:?}");
     }

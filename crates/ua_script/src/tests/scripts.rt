@@ -1,6 +1,6 @@
 //! Worked scripts.
 
-use crate::{Command, Item, Mode, Place, Provable, parse};
+use crate::{Command, Item, Mode, Place, Provable, parse, print};
 use std::test::Fail;
 
 #[test]
@@ -57,5 +57,21 @@ fn a_block_and_a_command(rt: HostRuntime) -> Result<(), Fail> {
             }
         )
     );
+    Ok(())
+}
+
+#[test]
+fn canonical_print(rt: HostRuntime) -> Result<(), Fail> {
+    let canonical =
+        b"algebra M size 2\nop meet 2 = 0 0 0 1\nend\nclose M 2 [0 1] [1 0]\nclose M 1 [] count\n";
+    let loose =
+        b"algebra M # two elements\n size 2 op meet 2=0 0\n0 1 end close M 2[0 1][1 0]close M 1[ ]count";
+    for text in [canonical.as_slice(), loose] {
+        let Ok(script) = parse(rt.alloc(), text) else {
+            return Err(Fail::from("refused"));
+        };
+        let printed = print(rt.alloc(), &script)?;
+        assert_eq!(rt; printed.as_slice(), canonical.as_slice());
+    }
     Ok(())
 }
