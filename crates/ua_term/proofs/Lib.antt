@@ -2,3 +2,4 @@ pub mod TermsRead
 pub mod TermsBack
 pub mod TermLanguage
 pub mod TermsAgain
+pub mod TreeLemmas

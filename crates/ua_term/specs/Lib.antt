@@ -1,3 +1,5 @@
 pub mod Phrases
 pub mod Terms
 pub mod PhraseCodes
+pub mod Trees
+pub mod Meanings
