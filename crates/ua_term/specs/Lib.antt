@@ -3,3 +3,4 @@ pub mod Terms
 pub mod PhraseCodes
 pub mod Trees
 pub mod Meanings
+pub mod Resolved

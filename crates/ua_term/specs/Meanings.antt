@@ -1,5 +1,5 @@
 -- What a term as it is written stands for in an algebra, and how a term is written in it.
-use Rattle.std.specs.Prelude.{ℕ, suc, ◌==◌, ◌||◌, nat_lt, Bool, true, false, not, if◌then◌else◌, List, [], ◌∷◌, ◌++◌, drop, min, length, nat_eq, slice_index, slice_index_or}
+use Rattle.std.specs.Prelude.{ℕ, suc, ◌==◌, ◌||◌, nat_lt, Bool, true, false, not, if◌then◌else◌, List, [], ◌∷◌, ◌++◌, drop, min, length, nat_eq, slice_index, slice_index_or, Option, Some, None}
 use Rattle.std.specs.Cmp.Lexicographic.{pointwise}
 use Rattle.std.specs.Fmt.{decimal}
 use Rattle.std.specs.List.{position_or_len}
@@ -10,9 +10,16 @@ use Rattle.ua_table.specs.Terms.{Tree, Generator, Application, Trees, none, more
 use Rattle.ua_text.specs.declared.tokens.Place.{Place}
 use Rattle.ua_term.specs.Phrases.{Phrase, Phrases, phrase, nowhere, none as nothing, more as also}
 
--- the number of a variable: its digits, or the greatest number of 32 bits where they say more
+-- the number, or the greatest of 32 bits where it is more
+abbrev pub saturated : ℕ → ℕ
+saturated n = min n 4294967295
+
+-- the number of a variable
 abbrev pub variable_number : List ℕ → ℕ
-variable_number word = min 4294967295 (digits_value 10 (drop 1 word))
+variable_number word = saturated (digits_value 10 (drop 1 word))
+
+abbrev pub variable_of : List ℕ → Option ℕ
+variable_of word = if is_variable word then Some (variable_number word) else None
 
 -- the number of the operation of this name, or how many there are where there is none
 abbrev pub operation_number : FiniteAlgebra → List ℕ → ℕ
@@ -26,6 +33,11 @@ has_operation a word = nat_lt (operation_number a word) (length a.operations)
 abbrev pub how_many : Phrases → ℕ
 how_many nothing = 0
 how_many (also p ps) = suc (how_many ps)
+
+-- the first, where there is one
+abbrev pub first_place : List Place → Option Place
+first_place [] = None
+first_place (place ∷ places) = Some place
 
 -- a place where a test fails
 abbrev pub place_if : Bool → Place → List Place

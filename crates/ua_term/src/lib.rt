@@ -1,8 +1,11 @@
 //! Terms as they are written, and terms over the operations of an algebra.
 #![tactic(auto)]
 
+mod faults;
+mod resolving;
 mod terms;
 mod written;
 
+pub use faults::TermFault;
 pub use terms::{Term, eval};
 pub use written::Written;

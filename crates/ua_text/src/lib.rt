@@ -21,7 +21,7 @@ pub use faults::{FaultKind, ReadFault, TextFault};
 pub use finder::find_fault;
 pub use grammar::{Form, Grammar};
 pub use numbers::number_value;
-pub use pieces::TokenKind;
+pub use pieces::{TokenKind, is_variable};
 pub use printing::{Printer, print_algebra, put_block};
 pub use readers::{
     Miss, exact, is_next, is_over, name, name_of, next, number, number_of, out_of_memory,

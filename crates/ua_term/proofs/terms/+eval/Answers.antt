@@ -38,7 +38,7 @@ value-requires-clause-arity t c =
     length-take-le c.len.result c.loop-i.values (omega arith) ∙ e
 
 pub value-requires-clause-below : goal.value-requires-clause-below
-value-requires-clause-below t c = 
+value-requires-clause-below t c =
     let h = applied_term c.args.algebra.now (length c.args.args.now) c.args.term.now c.in-Op.f c.in-Op.terms c.in-Op.is c.requires.term in
     let o = operation_facts c.args.algebra.now c.in-Op.f c.op-op.result.now c.op-op.ensures.algebra c.op-op.ensures.operation in
     let size = o.size in
