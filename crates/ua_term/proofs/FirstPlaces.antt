@@ -1,11 +1,11 @@
 -- The first fault of a term, word by word.
-use Rattle.std.proofs.Common.{◌≡◌, ℕ, zero, suc, ◌+◌, ◌<◌, ◌≤◌, ◌==◌, Bool, true, false, ◌||◌, not, cond, List, [], ◌∷◌, ◌++◌, length, map, take, get_or, slice_index, Option, Some, None, refl, sym, ap, subst, ◌∙◌, arith}
+use Rattle.std.proofs.Common.{◌≡◌, ℕ, zero, suc, ◌+◌, ◌<◌, ◌≤◌, ◌==◌, Bool, true, false, ◌||◌, not, List, [], ◌∷◌, ◌++◌, length, map, take, get_or, slice_index, Some, None, refl, sym, ap, ◌∙◌, arith}
 use Rattle.std.proofs.Math.Seq.{take-suc}
 use Rattle.std.proofs.lemmas.List.{map-append}
 use Rattle.ua_table.specs.Names.{is_variable}
 use Rattle.ua_table.specs.Algebras.{FiniteAlgebra, arities_of}
 use Rattle.ua_text.specs.declared.tokens.Place.{Place}
-use Rattle.ua_term.specs.Phrases.{Phrase, Phrases, phrase, phrases, none, more, word_of, place_of, arguments_of, words_in, all_words}
+use Rattle.ua_term.specs.Phrases.{Phrase, phrase, phrases, word_of, place_of, arguments_of, words_in, all_words}
 use Rattle.ua_term.specs.Meanings.{place_if, first_place, how_many, has_operation, operation_number, unknown_operations, all_unknown_operations, misshapen, all_misshapen, variable_of, variable_number, tree_in, trees_in}
 use Rattle.ua_table.specs.Terms.{Application, more as more_trees}
 use Rattle.ua_term.specs.Trees.{trees}

@@ -5,3 +5,5 @@ pub mod TermsAgain
 pub mod TreeLemmas
 pub mod Naming
 pub mod FirstPlaces
+pub mod TermReading
+pub mod TermParsing

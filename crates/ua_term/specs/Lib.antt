@@ -4,3 +4,4 @@ pub mod PhraseCodes
 pub mod Trees
 pub mod Meanings
 pub mod Resolved
+pub mod Reading

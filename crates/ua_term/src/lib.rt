@@ -2,6 +2,7 @@
 #![tactic(auto)]
 
 mod faults;
+mod reading;
 mod resolving;
 mod terms;
 mod written;
