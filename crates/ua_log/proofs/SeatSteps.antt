@@ -1,5 +1,6 @@
 -- A board is started, seats are split and joined, and the board is closed.
-use Rattle.std.proofs.Common.{◌≡◌, ◌≢◌, ◌↔◌, ◌⊎◌, inl, inr, ⊎_elim, ℕ, zero, suc, ◌+◌, ◌<◌, ◌≤◌, ◌^◌, Bool, true, false, List, [], ◌∷◌, ◌++◌, length, set, get_or, refl, sym, ap, ◌∙◌, subst, arith, le_trans, le_refl, Some}
+use Rattle.std.proofs.Common.{◌≡◌, ◌≢◌, ◌↔◌, ◌⊎◌, inl, inr, ⊎_elim, ℕ, zero, suc, ◌+◌, ◌<◌, ◌≤◌, ◌^◌, Bool, true, false, List, [], ◌∷◌, ◌++◌, length, set, get_or, refl, sym, ap, ◌∙◌, subst, arith, le_trans, le_refl, Some, replicate, length-append}
+use Rattle.std.proofs.lemmas.List.{length-replicate, get_or-replicate, get_or_append_left, get_or-append-add}
 use Rattle.std.proofs.lemmas.Bool.{lt-ltb, le-ltb, cases_lt}
 use Rattle.std.specs.Prelude.{◌==◌, nat_lt, if◌then◌else◌, slice_index, slice_get}
 use Rattle.std.specs.List.{AllByRecursion}
@@ -224,7 +225,7 @@ module _ (p : Plan) (id : ℕ) (own : Worker) (kept : List Worker) (made : ℕ) 
       two_seats = let t = part_two one s.views id other v w here was_there apart in omega (arith, t, length-total (workers s.views))
 
 -- the board at the start
-pub begins : (p : Plan) (words : List ℕ) → AreWords p words [] 0 false → IsRuled p (opening words [] (first_view p))
+begins : (p : Plan) (words : List ℕ) → AreWords p words [] 0 false → IsRuled p (opening words [] (first_view p))
 begins p words ws = record {
   log = []; claims = 0; halted = false;
   words = ws;
@@ -245,6 +246,23 @@ begins p words ws = record {
     views zero u e = subst (λ (y : View). IsView p [] 0 false 1 y) (some-injective (first_view p) u e)
         record { plan = λ _. refl; headed = ((λ n. refl), (λ _. (refl, tt, (λ _. record { seen = refl; puts = refl; slices = refl; known = refl; note = refl })))) }
     views (suc i) u e = absurd (some-ne-none u (sym e))
+
+-- the words at the start
+starts : (p : Plan) (words : List ℕ) → words ≡ first_words p → AreWords p words [] 0 false
+starts p words e =
+    let fixed = fixed_words p in
+    let empty : List ℕ = replicate {A = ℕ} p.budget 0 in
+    let long = length-append fixed empty in
+    let many = length-replicate {A = ℕ} p.budget 0 in
+    subst (λ (ws : List ℕ). AreWords p ws [] 0 false) (sym e) record {
+      count = omega (arith, long, many);
+      claim = refl;
+      fixed = λ k below. ap (slice_index (first_words p)) (let z : 1 + k ≡ suc k = omega arith in z) ∙ get_or_append_left fixed empty 0 k below;
+      rows = λ k below. ap (slice_index (first_words p)) (let z : first_row p + k ≡ suc (length fixed + k) = omega arith in z) ∙ get_or-append-add fixed empty k 0 ∙ get_or-replicate {A = ℕ} p.budget k 0 0 below;
+    }
+
+pub begins_empty : (p : Plan) (words : List ℕ) → words ≡ first_words p → IsRuled p (opening words [] (first_view p))
+begins_empty p words e = begins p words (starts p words e)
 
 -- a place that none of the workers has seen, none has put
 none_put : (log : List Origin) (c : ℕ) (h : Bool) (k : ℕ) (ws : List Worker) → AllByRecursion (Agrees log c h) ws → AllByRecursion (λ w. length w.seen ≤ k) ws → total (λ (w : Worker). times k w.puts) ws ≡ 0

@@ -25,7 +25,6 @@ const HALT: u64 = 1 << 63;
 impl Plan {
     /// The number of the row word at place i.
     pub(crate) fn row(&self, i: u32) -> usize
-        requires { i < BUDGET }
         ensures { result ≡ first_row self.now + i }
     {
         self.shape.arities().len() + 3 + i as usize
@@ -36,10 +35,7 @@ impl Plan {
         requires { self.now.budget ≤ BUDGET }
         ensures { IfOk result (λ words. words.items ≡ first_words self.now) }
     {
-        let mut words = Vec::new(alloc);
-        words.push(0)?;
-        words.push(u64::from(self.gens))?;
-        words.push(u64::from(self.budget))?;
+        let mut words = vec![in alloc; 0, u64::from(self.gens), u64::from(self.budget)]?;
         for k in self.shape.arities() {
             words.push(u64::from(*k))?;
         }
