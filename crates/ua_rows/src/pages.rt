@@ -1,6 +1,6 @@
 //! Rows of one stride, end to end in pages.
 
-ghost use Rattle.std.specs.Prelude.{◌≡◌, ◌+◌, ◌<◌, ◌≤◌, ◌^◌, [], ◌∷◌, ◌++◌, ◌-◌, length, replicate, slice_get, Some, OnOk, OnErr};
+ghost use Rattle.std.specs.Prelude.{◌≡◌, ◌*◌, ◌/◌, ◌%◌, ◌+◌, ◌<◌, ◌≤◌, ◌^◌, [], ◌∷◌, ◌++◌, ◌-◌, length, replicate, slice_get, vec_len, vec_capacity, Some, OnOk, OnErr};
 
 use std::alloc::{AllocError, Global};
 use std::marker::Model;
@@ -31,7 +31,31 @@ impl Model for Pages {
 
     ghost view = { λ a. record { stride = a.stride; rows = stored_rows a.stride (2 ^ a.shift) a.pages.items a.count; room = 2 ^ a.shift * length a.pages.items - a.count } };
 
-    ghost invariant = { λ a. (a.shift < 32) × ArePages a.stride (2 ^ a.shift) a.count a.pages.items };
+    ghost invariant = { λ a. (a.shift < 64) × ArePages a.stride (2 ^ a.shift) a.count a.pages.items };
+}
+
+/// The page of row i, and where in it the row starts.
+#[inline(always)]
+fn place_of(i: usize, shift: u32, stride: usize) -> (usize, usize)
+    requires shift { shift < 64 }
+    requires small { stride * 2 ^ shift < 2 ^ 40 }
+    ensures page { result.0 ≡ i / 2 ^ shift }
+    ensures start { result.1 ≡ stride * (i % 2 ^ shift) }
+{
+    let page = i >> shift;
+    (page, (i - (page << shift)) * stride)
+}
+
+/// Appends a row to a page that has room for it, with zeros up to the stride.
+fn extend(page: &mut Vec<Elem>, v: &[Elem], stride: usize)
+    requires fits { length v.now ≤ stride }
+    requires room { vec_len page.old + stride ≤ vec_capacity page.old }
+    ensures items { page.new.items ≡ page.old.items ++ (v.now ++ replicate (stride - length v.now) 0) }
+    ensures capacity { vec_capacity page.old ≤ vec_capacity page.new }
+{
+    let end = page.len() + stride;
+    page.extend_from_slice(v).unwrap();
+    page.resize(end, 0).unwrap();
 }
 
 impl Pages {
@@ -65,8 +89,7 @@ impl Pages {
         ensures row { slice_get self.now.rows i ≡ Some result.now }
         ensures stride { length result.now ≡ self.now.stride }
     {
-        let page = i >> self.shift;
-        let start = (i - (page << self.shift)) * self.stride;
+        let (page, start) = place_of(i, self.shift, self.stride);
         &self.pages[page][start..start + self.stride]
     }
 
@@ -94,10 +117,7 @@ impl Pages {
         ensures rows { self.new.rows ≡ self.old.rows ++ (v.now ++ replicate (self.old.stride - length v.now) 0) ∷ [] }
         ensures room { self.new.room + 1 ≡ self.old.room }
     {
-        let page = &mut self.pages[self.count >> self.shift];
-        let end = page.len() + self.stride;
-        page.extend_from_slice(v).unwrap();
-        page.resize(end, 0).unwrap();
+        extend(&mut self.pages[self.count >> self.shift], v, self.stride);
         self.count += 1;
     }
 }

@@ -1,7 +1,7 @@
 //! Eight elements at a time: hashes and comparison by words of 64 bits.
 
 ghost use Rattle.std.specs.Prelude.{◌≡◌, ◌<◌, ◌≤◌, ◌↔◌, ◌++◌, ◌-◌, length, replicate, IsTrue};
-ghost use Rattle.std.specs.Int.{from_le_bytes, w64};
+ghost use Rattle.std.specs.Int.{from_le_bytes, to_le_bytes, w64};
 ghost use Rattle.ua_rows.specs.Words as words;
 
 use ua_table::Elem;
@@ -25,6 +25,15 @@ pub(crate) fn mixed(hash: u64, word: u64) -> u64
     low ^ high
 }
 
+/// The number that has the elements of a word as its bytes, the first the lowest.
+#[inline(always)]
+pub(crate) fn number_of(word: Word) -> u64
+    ensures number { result ≡ from_le_bytes w64 word }
+    ensures word { to_le_bytes w64 result ≡ word }
+{
+    u64::from_le_bytes(word)
+}
+
 /// The elements of a part of a word, with zeros after them.
 fn padded(part: &[Elem]) -> Word
     requires { length part.now ≤ LANES }
@@ -44,12 +53,12 @@ pub(crate) fn hash_of(v: &[Elem]) -> u64
     let (full, rest) = v.as_chunks::<LANES>();
     let mut hash = SEED;
     for word in full {
-        hash = mixed(hash, u64::from_le_bytes(*word));
+        hash = mixed(hash, number_of(*word));
     }
     if rest.is_empty() {
         return hash;
     }
-    mixed(hash, u64::from_le_bytes(padded(rest)))
+    mixed(hash, number_of(padded(rest)))
 }
 
 /// The bits in which some words differ.
@@ -59,8 +68,8 @@ fn difference(a: &[Word], b: &[Word]) -> u64
     ensures { (result ≡ 0) ↔ (a.now ≡ b.now) }
 {
     let mut bits = 0;
-    for (x, y) in a.iter().zip(b.iter()) {
-        bits |= u64::from_le_bytes(*x) ^ u64::from_le_bytes(*y);
+    for i in 0..a.len() {
+        bits |= number_of(a[i]) ^ number_of(b[i]);
     }
     bits
 }
