@@ -23,6 +23,12 @@ all_set P [] i x p h = tt
 all_set P (y ∷ ys) zero x p h = (p, h.1)
 all_set P (y ∷ ys) (suc i) x p h = (h.0, all_set P ys i x p h.1)
 
+-- what stands at a place stands within the list
+pub slice_get_within : {X : Type 0} (xs : List X) (i : ℕ) (x : X) → slice_get xs i ≡ Some x → i < length xs
+slice_get_within [] i x e = cc
+slice_get_within (y ∷ ys) zero x e = omega arith
+slice_get_within (y ∷ ys) (suc i) x e = let r = slice_get_within ys i x e in omega (arith, r)
+
 -- ---- numbers
 
 -- a count within n pages' rows: its page and its place in it

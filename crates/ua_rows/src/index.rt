@@ -1,7 +1,8 @@
 //! An index of rows by their hashes.
 
-ghost use Rattle.std.specs.Prelude.{◌≡◌, ◌<◌, ◌≤◌, ℕ, List, [], ◌∷◌, ◌++◌, length, IfOk, OnOk, OnErr};
-ghost use Rattle.ua_rows.specs.Indexing.{entry_of, bucket_of, hashes_of, IsIndex, HaveRoomBut, HaveRoom};
+ghost use Rattle.std.specs.Prelude.{◌≡◌, ◌<◌, ◌≤◌, ℕ, List, [], ◌∷◌, ◌++◌, length, vec_len, IfOk, OnOk};
+ghost use Rattle.smallvec.specs.SmallVec.{HasRoomFor};
+ghost use Rattle.ua_rows.specs.Indexing.{slot_of, entry_of, bucket_of, hashes_of, IsIndex, HaveRoomBut, HaveRoom};
 
 use crate::pages::Pages;
 use crate::words::hash_of;
@@ -33,6 +34,39 @@ pub(crate) struct Index {
     buckets: Vec<SmallVec<Entry, 3>>,
     /// The bucket that was entered last, which alone may lack room for one more entry.
     last: usize,
+    ghost within: { 0 < vec_len buckets → last < vec_len buckets },
+}
+
+/// The place of a hash's bucket among so many.
+#[inline(always)]
+fn slot_of(hash: u64, count: usize) -> usize
+    requires { 0 < count }
+    ensures slot { result ≡ slot_of count hash }
+    ensures below { result < count }
+{
+    hash as usize & (count - 1)
+}
+
+/// Appends an entry to a bucket, and leaves room for one more.
+fn push_with_room(bucket: &mut SmallVec<Entry, 3>, entry: Entry) -> Result<(), AllocError>
+    ensures items { OnOk result (bucket.new.items ≡ bucket.old.items ++ entry ∷ []) }
+    ensures room { OnOk result (HasRoomFor bucket.new 1) }
+{
+    bucket.reserve(2)?;
+    bucket.push_reserved(entry);
+    Ok(())
+}
+
+/// Enters the next row, and leaves room for one more entry in its bucket.
+fn enter(buckets: &mut Vec<SmallVec<Entry, 3>>, hash: u64, row: u32) -> Result<(), AllocError>
+    requires some { 0 < length buckets.old.items }
+    ensures index { OnOk result ((hashes : List ℕ) → length hashes ≡ row → IsIndex hashes buckets.old.items → IsIndex (hashes ++ hash ∷ []) buckets.new.items) }
+    ensures room { OnOk result (HaveRoom buckets.old.items → HaveRoom buckets.new.items) }
+    ensures count { OnOk result (length buckets.new.items ≡ length buckets.old.items) }
+{
+    let slot = slot_of(hash, buckets.len());
+    push_with_room(&mut buckets[slot], entry_for(hash, row))?;
+    Ok(())
 }
 
 /// So many empty buckets.
@@ -65,10 +99,7 @@ fn rebuilt(
     let mut buckets = empty_buckets(alloc, count)?;
     for i in 0..rows.len() {
         let hash = hash_of(&rows.row(i)[..width]);
-        let slot = hash as usize & (buckets.len() - 1);
-        let bucket = &mut buckets[slot];
-        bucket.reserve(2)?;
-        bucket.push_reserved(entry_for(hash, i as u32));
+        enter(&mut buckets, hash, i as u32)?;
     }
     Ok(buckets)
 }
@@ -93,7 +124,7 @@ impl Index {
         if self.buckets.is_empty() {
             return &[];
         }
-        self.buckets[hash as usize & (self.buckets.len() - 1)].as_slice()
+        self.buckets[slot_of(hash, self.buckets.len())].as_slice()
     }
 
     /// Makes room for one more entry in each bucket.
@@ -104,12 +135,12 @@ impl Index {
         ensures index { IsIndex (hashes_of width rows.now.rows) self.new.buckets.items }
         ensures room { OnOk result (HaveRoom self.new.buckets.items) }
         ensures some { OnOk result (0 < length self.new.buckets.items) }
-        ensures err { OnErr result (self.new.buckets ≡ self.old.buckets) }
-        ensures last { OnErr result (self.new.last ≡ self.old.last) }
+        ensures others { HaveRoomBut self.new.last self.new.buckets.items }
     {
         if rows.len() >= self.buckets.len() {
             let count = (self.buckets.len() * 2).max(BUCKETS);
             self.buckets = rebuilt(self.alloc, rows, width, count)?;
+            self.last = 0;
             return Ok(());
         }
         self.buckets[self.last].reserve(1)?;
@@ -123,7 +154,7 @@ impl Index {
         ensures index { (hashes : List ℕ) → length hashes ≡ row → IsIndex hashes self.old.buckets.items → IsIndex (hashes ++ hash ∷ []) self.new.buckets.items }
         ensures room { HaveRoomBut self.new.last self.new.buckets.items }
     {
-        let slot = hash as usize & (self.buckets.len() - 1);
+        let slot = slot_of(hash, self.buckets.len());
         self.buckets[slot].push_reserved(entry_for(hash, row));
         self.last = slot;
     }
