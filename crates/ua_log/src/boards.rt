@@ -140,10 +140,7 @@ impl Board {
         ensures same { seat.new ≡ seat.old }
     {
         let row = self.plan.row(i);
-        let word = self
-            .table
-            .shared
-            .load::<RecallStep>(&mut seat.token, row);
+        let word = self.table.shared.load::<RecallStep>(&mut seat.token, row);
         let found = self
             .plan
             .shape
@@ -242,9 +239,7 @@ impl Board {
         ensures { seat.new ≡ record seat.old { own = joined seat.old.kept seat.old.own other.own; kept = seat.old.kept ++ other.own ∷ other.kept } }
     {
         let Seat { token, seen, bound } = other;
-        self.table
-            .shared
-            .join_seat::<Seats>(&mut seat.token, token);
+        self.table.shared.join_seat::<Seats>(&mut seat.token, token);
         if seat.seen < seen {
             seat.seen = seen;
             seat.bound = bound;
