@@ -1,3 +1,4 @@
 pub mod WordLaws
 pub mod PageLaws
 pub mod IndexLaws
+pub mod ListLaws

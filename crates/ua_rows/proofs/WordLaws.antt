@@ -111,7 +111,10 @@ chunks_of_front n (suc k) xs ys e =
 
 -- how many words, by division
 pub words_count : (n q b : ℕ) → n + 7 ≡ q * 8 + b → b < 8 → words_for n ≡ q
-words_count n q b e h = ap (λ m. m / 8) e ∙ div-mul-add q 8 b h
+words_count n q b e h =
+    let whole = mod-add-div' n 8 in
+    let below : n % 8 < 8 = mod-lt n (let p : 0 < 8 = omega arith in p) in
+    omega (arith, whole, below, e, h)
 
 -- the words of a vector by its full words and the rest
 pub hash_of_whole : (v : List ℕ) → drop (length v / 8 * 8) v ≡ [] → hash_of v ≡ fold mixed SEED (map (from_le_bytes w64) (first_chunks 8 (length v / 8) v))

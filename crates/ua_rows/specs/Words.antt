@@ -1,6 +1,6 @@
 -- Vectors as words of eight elements, and their hashes.
 use Rattle.std.specs.Prelude.{◌≡◌, ℕ, ◌+◌, ◌-◌, ◌*◌, ◌/◌, ◌%◌, ◌^◌, List, ◌++◌, length, fold, map, take, drop, replicate}
-use Rattle.std.specs.Int.{from_le_bytes, w64}
+use Rattle.std.specs.Int.{from_le_bytes, w64, div_ceil}
 use Rattle.std.specs.Int.Bits.{bit_xor}
 use Rattle.std.specs.Simd.{first_chunks}
 use Rattle.ua_rows.specs.declared.words.TheConstants.{LANES, SEED, FACTOR}
@@ -8,7 +8,7 @@ use Rattle.ua_table.specs.Algebras.{Vector}
 
 -- how many words hold so many elements
 abbrev pub words_for : ℕ → ℕ
-words_for n = (n + (LANES - 1)) / LANES
+words_for n = div_ceil n LANES
 
 -- the vector with zeros after it, up to the end of its last word
 abbrev pub padded : Vector → Vector

@@ -96,8 +96,18 @@ impl Rows {
         &self.row(i)[from as usize..to as usize]
     }
 
-    /// The place of the vector that stands at the front of a key, of which the hash is given. A key is a
-    /// vector alone, or with zeros up to the stride.
+    /// Whether the vector at the front of a key is vector i. A key is a vector alone, or with zeros up to
+    /// the stride.
+    #[inline(always)]
+    fn stands_at(&self, i: u32, key: &[Elem]) -> bool
+        requires named { i < length self.now.items }
+        requires key { IsKey self.now.width key.now }
+        ensures { IsTrue result ↔ (slice_get self.now.items i ≡ Some (take self.now.width key.now)) }
+    {
+        same(&self.pages.row(i as usize)[..key.len()], key)
+    }
+
+    /// The place of the vector at the front of a key, of which the hash is given.
     #[inline(always)]
     fn search(&self, key: &[Elem], hash: u64) -> Option<u32>
         requires key { IsKey self.now.width key.now }
@@ -107,7 +117,7 @@ impl Rows {
     {
         let tag = (hash >> 32) as u32;
         for entry in self.index.bucket(hash) {
-            if entry.tag == tag && same(&self.pages.row(entry.row as usize)[..key.len()], key) {
+            if entry.tag == tag && self.stands_at(entry.row, key) {
                 return Some(entry.row);
             }
         }
