@@ -94,6 +94,7 @@ module _ {X : Type 0} where
 
 -- a vector that is none of different ones differs from them
 pub distinct_more : (rows : List Vector) (v : Vector) → IsDistinct (pointwise nat_eq) rows → ¬ Contains rows v → IsDistinct (pointwise nat_eq) (rows ++ v ∷ [])
+unfolding IsDistinct
 distinct_more [] v d new = (tt, d)
 distinct_more (r ∷ rs) v d new = (all_more rs d.0, distinct_more rs v d.1 (λ h. new (Contains-tail r v rs h)))
   where

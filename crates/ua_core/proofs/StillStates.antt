@@ -1,8 +1,8 @@
 -- A still machine that meets the rule has exactly the generated subuniverse as its rows.
 use Rattle.std.proofs.Common.{◌≡◌, ◌≢◌, ◌↔◌, ◌⊎◌, inl, inr, ⊎_elim, ℕ, zero, suc, ◌+◌, ◌<◌, ◌≤◌, Bool, true, false, List, [], ◌∷◌, ◌++◌, length, take, get_or, Option, Some, None, refl, sym, ap, ◌∙◌, subst, arith, le_trans}
-use Rattle.std.specs.Prelude.{Contains, slice_get, slice_index}
+use Rattle.std.specs.Prelude.{Contains, slice_get, slice_index, sum}
 use Rattle.std.specs.List.{AllByRecursion}
-use Rattle.std.proofs.lemmas.List.Elements.{All-from_recursion}
+use Rattle.std.proofs.lemmas.List.Sums.{get_or-le-sum_by}
 use Rattle.ua_table.specs.declared.origins.Origin.{Origin}
 use Rattle.ua_table.specs.declared.origins.Origin.TheVariants.{Gen, Op}
 use Rattle.ua_table.specs.Algebras.{Vector, Product, arities, apply}
@@ -14,7 +14,7 @@ use Rattle.ua_table.specs.Slices.{bound, slice_operation, slice_tuples, slice_ro
 use Rattle.ua_table.proofs.Choices.{greatest_tops}
 use Rattle.ua_table.proofs.Counts.{one_has, once_in, Contains-times}
 use Rattle.ua_table.proofs.GeneratedLaws.{generator_in, result_in, Sg-least}
-use Rattle.ua_table.proofs.Lists.{all_at, found, get_or-slice_get}
+use Rattle.ua_table.proofs.Lists.{all_at, found, get_or-slice_get, Contains-slice_get}
 use Rattle.ua_table.proofs.SliceLaws.{bound_laws, slices_partition}
 use Rattle.ua_rows.specs.RowLists.{rows_at}
 use Rattle.ua_core.specs.Machines.{Task, Worker, Machine, HasResults}
@@ -46,7 +46,11 @@ placed rows (v ∷ vs) h =
 
 -- the greatest of some numbers below n is below n
 greatest_below : (n : ℕ) (xs : List ℕ) → 0 < length xs → AllByRecursion (λ x. x < n) xs → greatest xs < n
-greatest_below n xs some h = let t = greatest_tops xs some in all_at (λ x. x < n) xs (greatest xs) h t.held
+greatest_below n xs some h = let t = greatest_tops xs some in all_at (λ x. x < n) xs (greatest xs) h t.here
+
+-- an operation with places, so some place
+positive_sum : (ks : List ℕ) (f : ℕ) → f < length ks → 0 < slice_index ks f → 0 < sum ks
+positive_sum ks f in_range some = let le = get_or-le-sum_by (λ x. x) ks f 0 in_range in omega (arith, le, some)
 
 module _ (t : Task) (m : Machine) (shape : IsShape (arities t.product)) (r : IsRuled t m) (still : IsStill t m) where
   abbrev p : Product
@@ -97,17 +101,11 @@ module _ (t : Task) (m : Machine) (shape : IsShape (arities t.product)) (r : IsR
       let positive : 0 < length (k ∷ places) = omega arith in
       let row : slice_row ks cut.slice < length m.rows = let g = greatest_below (length m.rows) (k ∷ places) positive low in let e = cut.row in omega (arith, g, e) in
       let stands = cut.stands in
-      let below : cut.slice < bound ks (length m.rows) = (laws.below (length m.rows) cut.slice (some_places (k ∷ places) f in_range some)).1 row in
+      let below : cut.slice < bound ks (length m.rows) = (laws.below (length m.rows) cut.slice (positive_sum ks f in_range some)).1 row in
       let tuple = found (slice_tuples ks cut.slice) cut.number stands.number in
       let same : tuple.0 ≡ k ∷ places = sym (get_or-slice_get (slice_tuples ks cut.slice) cut.number tuple.0 [] tuple.1) ∙ stands.standing in
-      let h = all_done cut.slice below tuple.0 (at_contains (slice_tuples ks cut.slice) cut.number tuple.0 tuple.1) in
+      let h = all_done cut.slice below tuple.0 (Contains-slice_get (slice_tuples ks cut.slice) cut.number tuple.0 tuple.1) in
       subst (λ (q : ℕ × List ℕ). Contains m.rows (apply p q.0 (rows_at m.rows q.1))) (λ i. (stands.operation i, same i)) h
-    where
-      at_contains : (xs : List (List ℕ)) (i : ℕ) (x : List ℕ) → slice_get xs i ≡ Some x → Contains xs x
-      at_contains xs i x e = Contains-slice_get xs i x e
-
-      some_places : (xs : List ℕ) (g : ℕ) → g < length ks → 0 < slice_index ks g → 0 < sum ks
-      some_places xs g lt pos = sum_some ks g lt pos
 
   rows_closed : IsClosed p m.rows
   rows_closed f args in_range arity h =
