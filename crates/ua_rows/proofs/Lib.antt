@@ -2,3 +2,4 @@ pub mod WordLaws
 pub mod PageLaws
 pub mod IndexLaws
 pub mod ListLaws
+pub mod ApplyForms

@@ -87,7 +87,7 @@ front_key w a n h low high =
       whole = omega (arith, l, low);
       short = omega (arith, l, high, s);
       zeros = ap (λ m. drop w (take m a)) rest ∙ drop-take w (n - w) a ∙ ap (take (n - w)) h.zeros
-      ∙ zeros_front (n - w) (length a - w) (omega (arith, high)) ∙ ap (λ m. replicate (m - w) 0) (sym l);
+          ∙ zeros_front (n - w) (length a - w) (omega (arith, high)) ∙ ap (λ m. replicate (m - w) 0) (sym l);
     }
   where
     zeros_front : (m n : ℕ) → m ≤ n → take m (replicate {A = ℕ} n 0) ≡ replicate m 0
@@ -168,7 +168,7 @@ pushed_kept w store after lookup entered ready v hash h long new few stride rows
       stride = stride ∙ h.stride;
       padded = subst (AllByRecursion (IsKey w)) (sym rows) (all_append (IsKey w) store.rows (row ∷ []) h.padded (key, tt));
       strides = subst (λ (rs : List Vector). AllByRecursion (λ (r : Vector). length r ≡ after.stride) rs) (sym rows)
-      (subst (λ s. AllByRecursion (λ (r : Vector). length r ≡ s) (store.rows ++ row ∷ [])) (sym stride) (all_append (λ (r : Vector). length r ≡ store.stride) store.rows (row ∷ []) h.strides (row_long, tt)));
+          (subst (λ s. AllByRecursion (λ (r : Vector). length r ≡ s) (store.rows ++ row ∷ [])) (sym stride) (all_append (λ (r : Vector). length r ≡ store.stride) store.rows (row ∷ []) h.strides (row_long, tt)));
       few = omega (arith, more, few);
       different = subst (IsDistinct (pointwise nat_eq)) (sym (ap (items_of w) rows ∙ items_more w store.stride store.rows v long)) (distinct_push (items_of w store.rows) v h.different new);
       entered = subst (λ (hs : List ℕ). IsIndex hs entered.buckets.items) (sym hashes) (index (hashes_of w store.rows) (length-map store.rows (λ (r : Vector). hash_of (take w r))) h.entered);

@@ -4,3 +4,4 @@ pub mod Paging
 pub mod Indexing
 pub mod Keys
 pub mod Listing
+pub mod Gathered

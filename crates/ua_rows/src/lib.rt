@@ -5,11 +5,13 @@
 #![tactic(auto)]
 
 mod index;
+mod operations;
 mod pages;
 mod row_iter;
 mod row_lists;
 mod words;
 
+pub use operations::apply;
 pub use row_iter::RowsIter;
 pub use row_lists::Rows;
 

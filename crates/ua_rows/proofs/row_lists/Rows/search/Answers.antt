@@ -27,7 +27,7 @@ pub loop-entry-preserved : goal.loop-entry-preserved
 loop-entry-preserved c =
     none_more c.args.self.now.items c.bucket-entry-items.result.now (c.args.hash / 4294967296) (take c.args.self.now.width c.args.key.now) c.loop-entry.entry-index (record { tag = 0; row = 0 }) c.loop-entry-test.true c.loop-entry.invariant
     (elim c.else-entry-tag.branch [
-      else-entry-tag-via-then-entry-tag+else-stands_at w ↦ λ tagged there. absurd (never (sym (w.stands_at.ensures.1 there) ∙ w.if-stands_at.false))
+      | else-entry-tag-via-then-entry-tag+else-stands_at w ↦ λ tagged there. absurd (never (sym (w.stands_at.ensures.1 there) ∙ w.if-stands_at.false))
       | else-entry-tag-via-else-entry-tag w ↦ λ tagged there. w.if-entry-tag.false tagged
     ])
   where
