@@ -25,9 +25,6 @@ use Rattle.ua_core.specs.Runs.{run_from, MayRunFrom, run, MayRun}
 use Rattle.ua_core.proofs.RowLemmas.{at_longer, at_end, at_last, all_set, all_both, set_other, place_below, distinct_more, origin_value-more, results_seen, results_more}
 
 -- each slice of a worker was claimed
-AreLow : ℕ → Worker → Type 0
-AreLow claims w = AllByRecursion (λ s. s < claims) w.slices
-
 slices_low : (claims : ℕ) (ws : List Worker) → ((s : ℕ) → total (λ (w : Worker). times s w.slices) ws ≤ once_below claims s) → AllByRecursion (λ (w : Worker). AllByRecursion (λ s. s < claims) w.slices) ws
 slices_low claims [] h = tt
 slices_low claims (w ∷ ws) h = (
@@ -56,7 +53,7 @@ module _ (t : Task) (shape : IsShape (arities t.product)) where
     puts : (k : ℕ) → times k new.puts + once_below (length m.rows) k ≡ times k w.puts + once_below (length rows) k
     slices : (s : ℕ) → times s new.slices + once_below m.claims s ≡ times s w.slices + once_below claims s
 
-  low_slices : (m : Machine) → IsRuled t m → AllByRecursion (λ (w : Worker). AllByRecursion (λ s. s < m.claims) w.slices) m.workers
+  pub low_slices : (m : Machine) → IsRuled t m → AllByRecursion (λ (w : Worker). AllByRecursion (λ s. s < m.claims) w.slices) m.workers
   low_slices m r = slices_low m.claims m.workers (λ s. let x = r.slices_once s in omega (arith, x))
 
   turned : (m : Machine) (rows : List Vector) (origins : List Origin) (claims : ℕ) (halted : Bool) (n : ℕ) (w new : Worker) → slice_get m.workers n ≡ Some w → Turn m rows origins claims w new → IsRuled t m

@@ -6,15 +6,17 @@ use Rattle.std.specs.Cmp.Lexicographic.{pointwise, bytes_decides}
 use Rattle.std.proofs.lemmas.List.{get_or_append_left}
 use Rattle.ua_table.specs.declared.origins.Origin.{Origin}
 use Rattle.ua_table.specs.declared.origins.Origin.TheVariants.{Gen, Op}
-use Rattle.ua_table.specs.Algebras.{Vector, Product, arities, apply}
+use Rattle.ua_table.specs.Algebras.{Vector, Product, IsProduct, IsVector, arities, apply}
 use Rattle.ua_table.specs.Origins.{IsOrigin, origin_value}
 use Rattle.ua_table.specs.Numbering.{IsShape}
 use Rattle.ua_table.specs.Slices.{bound, slice_operation, slice_tuples, slice_row}
-use Rattle.ua_table.proofs.Lists.{all_at, all_from_contains, all_weaker, Contains-cases, Contains-head, Contains-tail, Contains-none}
+use Rattle.ua_table.proofs.Lists.{all_at, All-slice_get, found, get_or-slice_get, all_from_contains, all_weaker, Contains-cases, Contains-head, Contains-tail, Contains-none}
 use Rattle.ua_table.proofs.Rows.{slices_of_rows}
 use Rattle.ua_table.proofs.SliceLaws.{bound_laws}
 use Rattle.ua_rows.specs.RowLists.{rows_at}
+use Rattle.ua_table.proofs.ApplyLemmas.{IsVector-apply}
 use Rattle.ua_core.specs.Machines.{HasResults}
+use Rattle.ua_core.specs.Rules.{AreMade}
 
 module _ {X : Type 0} where
   -- what stands among the first j items stands among the first k
@@ -142,3 +144,38 @@ results_more p rows more seen s shape below h =
         let same = rows_at-more rows more (length rows) tuple (omega arith) (slice_places (arities p) (length rows) s tuple shape below c) in
         subst (λ vs. Contains (take seen (rows ++ more)) (apply p f vs)) (sym same)
           (take_longer rows more seen (apply p f (rows_at rows tuple)) (all_at P (slice_tuples (arities p) s) tuple h c)))
+
+-- what holds of the item at each place holds of all
+all_places : {X : Type 0} (P : X → Type 0) (xs : List X) → ((k : ℕ) (x : X) → slice_get xs k ≡ Some x → P x) → AllByRecursion P xs
+all_places P [] h = tt
+all_places P (x ∷ xs) h = (h 0 x refl, all_places P xs (λ k y e. h (suc k) y e))
+
+-- rows that have origins over earlier rows are vectors of the product
+module _ (p : Product) (gens rows : List Vector) (origins : List Origin) (product : IsProduct p) (admitted : AllByRecursion (IsVector p) gens) (made : AreMade p gens rows origins) where
+  vectors_at : (b : ℕ) (places : List ℕ) → ((k : ℕ) (v : Vector) → k < b → slice_get rows k ≡ Some v → IsVector p v) → b ≤ length rows → AllByRecursion (λ k. k < b) places → AllByRecursion (IsVector p) (rows_at rows places)
+  vectors_at b [] rec le h = tt
+  vectors_at b (k ∷ ks) rec le h =
+      let there = found rows k (let low = h.0 in omega (arith, low, le)) in
+      (subst (IsVector p) (sym (get_or-slice_get rows k there.0 [] there.1)) (rec k there.0 h.0 there.1), vectors_at b ks rec le h.1)
+
+  length-rows_at : (places : List ℕ) → length (rows_at rows places) ≡ length places
+  length-rows_at [] = refl
+  length-rows_at (k ∷ ks) = ap suc (length-rows_at ks)
+
+  vector_of : (b : ℕ) (o : Origin) → ((k : ℕ) (v : Vector) → k < b → slice_get rows k ≡ Some v → IsVector p v) → b ≤ length rows → IsOrigin (arities p) (length gens) b o → IsVector p (origin_value p gens rows o)
+  vector_of b (Gen i) rec le h = let there = found gens i h in subst (IsVector p) (sym (get_or-slice_get gens i there.0 [] there.1)) (All-slice_get (IsVector p) gens i there.0 admitted there.1)
+  vector_of b (Op f args) rec le h =
+      let places = take (slice_index (arities p) f) args in
+      IsVector-apply p f (rows_at rows places) product h.operation (length-rows_at places ∙ h.count) (vectors_at b places rec le h.earlier)
+
+  vectors_below : (b k : ℕ) (v : Vector) → k < b → slice_get rows k ≡ Some v → IsVector p v
+  vectors_below zero k v h e = absurd (omega (arith, h))
+  vectors_below (suc b) k v h e =
+      let low = place_below rows k v e in
+      let there = found origins k (let c = made.count in omega (arith, c, low)) in
+      let value = made.value k there.0 there.1 in
+      let same : origin_value p gens rows there.0 ≡ v = cc in
+      subst (IsVector p) same (vector_of k there.0 (λ j w lt is. vectors_below b j w (omega (arith, lt, h)) is) (omega (arith, low)) (made.origin k there.0 there.1))
+
+  pub made_vectors : AllByRecursion (IsVector p) rows
+  made_vectors = all_places (IsVector p) rows (λ k v e. vectors_below (suc k) k v (omega arith) e)

@@ -7,7 +7,9 @@
 
 mod errors;
 mod events;
+mod hands;
 pub mod laws;
+mod parts;
 
 pub use errors::{ReplayError, StepError};
 pub use events::{Event, EventKind};
