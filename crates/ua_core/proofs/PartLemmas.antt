@@ -1,7 +1,8 @@
 -- From the parts of a state to the machine that they are.
-use Rattle.std.proofs.Common.{◌≡◌, ◌≢◌, ◌↔◌, ◌⊎◌, inl, inr, ⊎_elim, ℕ, zero, suc, ◌+◌, ◌<◌, ◌≤◌, max, Bool, true, false, List, [], ◌∷◌, ◌++◌, length, map, take, set, get_or, Option, Some, None, refl, sym, ap, ◌∙◌, subst, arith, le_trans}
-use Rattle.std.proofs.lemmas.List.{length-map}
-use Rattle.std.specs.Prelude.{Contains, IsTrue, IfSome, MatchOption, nat_lt, nat_eq, slice_get, is_some, vec_len, Result, Ok, Err, IsErr, IsErrAnd}
+use Rattle.std.proofs.Common.{◌≡◌, ◌≢◌, ◌↔◌, ◌⊎◌, inl, inr, ⊎_elim, ℕ, zero, suc, ◌+◌, ◌<◌, ◌≤◌, max, Bool, true, false, List, [], ◌∷◌, ◌++◌, length, map, take, drop, set, get_or, Option, Some, None, refl, sym, ap, ◌∙◌, subst, arith, le_trans}
+use Rattle.std.proofs.lemmas.List.{length-map, get_or-set_same}
+use Rattle.std.proofs.Math.Seq.{take-append_seam}
+use Rattle.std.specs.Prelude.{Contains, IsTrue, IfSome, IfNone, OnErr, not, MatchOption, nat_lt, nat_eq, slice_get, is_some, vec_len, Result, Ok, Err, IsErr, IsErrAnd}
 use Rattle.std.specs.List.{AllByRecursion, IsDistinct}
 use Rattle.std.specs.Cmp.Lexicographic.{pointwise, bytes_decides}
 use Rattle.std.proofs.lemmas.Bool.{lt-ltb, ltb-true}
@@ -177,3 +178,35 @@ after_join a n v live t first other_number free read other left own seen is_read
 -- a test that did not fail
 pub is_true : (b : Bool) → b ≡ true → IsTrue b
 is_true b e = e
+
+-- ---- a row that is put
+
+-- an item written over a list of the same length
+pub written : (n : ℕ) (out items : List ℕ) → n ≡ length items → length out ≡ length items → take n (out ++ drop (length out) items) ≡ out
+written n out items is same = ap (λ (k : ℕ). take k (out ++ drop (length out) items)) (is ∙ sym same) ∙ take-append_seam out (drop (length out) items)
+
+-- where a look-up finds nothing, the vector is none of the rows, and the other way
+pub none_found : (rows : List Vector) (v : Vector) (o : Option ℕ) → IfNone o (¬ Contains rows v) → is_some o ≡ false → ¬ Contains rows v
+none_found rows v None none e = none
+none_found rows v (Some i) none e = cc
+
+pub found_none : (rows : List Vector) (v : Vector) (o : Option ℕ) → IfSome o (λ i. slice_get rows i ≡ Some v) → ¬ Contains rows v → is_some o ≡ false
+found_none rows v None some lacks = refl
+found_none rows v (Some i) some lacks = absurd (lacks (Contains-slice_get rows i v some))
+
+pub not_false : (b : Bool) → not b ≡ false → b ≡ true
+not_false true e = refl
+not_false false e = cc
+
+pub on_err : {A E : Type 0} (r : Result A E) (P : Type 0) → P → OnErr r P
+on_err (Ok x) P h = tt
+on_err (Err e) P h = h
+
+-- a hand that was written is read back
+pub written_hand : (hs : List Hand) (n : ℕ) (new read : Hand) → n < length hs → read ≡ get_or (set hs n new) n read → read ≡ new
+written_hand hs n new read low e = e ∙ get_or-set_same hs n new read low
+
+pub set_twice : {X : Type 0} (xs : List X) (i : ℕ) (x y : X) → set (set xs i x) i y ≡ set xs i y
+set_twice [] i x y = refl
+set_twice (z ∷ zs) zero x y = refl
+set_twice (z ∷ zs) (suc i) x y = ap (λ l. z ∷ l) (set_twice zs i x y)

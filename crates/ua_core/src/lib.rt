@@ -10,6 +10,8 @@ mod events;
 mod hands;
 pub mod laws;
 mod parts;
+mod states;
 
 pub use errors::{ReplayError, StepError};
 pub use events::{Event, EventKind};
+pub use states::State;
