@@ -1,0 +1,5 @@
+pub mod WordLaws
+pub mod PageLaws
+pub mod IndexLaws
+pub mod ListLaws
+pub mod ApplyForms
