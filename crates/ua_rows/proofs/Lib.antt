@@ -3,3 +3,4 @@ pub mod PageLaws
 pub mod IndexLaws
 pub mod ListLaws
 pub mod ApplyForms
+pub mod KernelLaws

@@ -5,3 +5,4 @@ pub mod Indexing
 pub mod Keys
 pub mod Listing
 pub mod Gathered
+pub mod Kernels

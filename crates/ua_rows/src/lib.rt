@@ -5,6 +5,7 @@
 #![tactic(auto)]
 
 mod index;
+mod kernels;
 mod operations;
 mod pages;
 mod row_iter;

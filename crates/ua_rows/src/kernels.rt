@@ -1,0 +1,77 @@
+//! Tables of values read at the entries of rows, eight coordinates at a time.
+
+ghost use Rattle.std.specs.Prelude.{◌≡◌, ◌+◌, ◌*◌, ◌^◌, ◌<◌, ◌≤◌, ◌++◌, [], ◌∷◌, length, map, take, drop, slice_index};
+ghost use Rattle.std.specs.List.{AllByRecursion, range_with_len};
+ghost use Rattle.std.specs.Int.{from_le_bytes, to_le_bytes, w64};
+ghost use Rattle.ua_table.specs.Algebras.{Vector, column, numeral};
+ghost use Rattle.ua_rows.specs.Words as words;
+ghost use Rattle.ua_rows.specs.Gathered.{vectors_behind};
+ghost use Rattle.ua_rows.specs.Kernels.{looked_from, AreRowsBelow};
+
+use crate::words::{LANES, SEED, mixed, number_of};
+use ua_table::Elem;
+
+/// How many cells a byte can name.
+pub(crate) const CELLS: usize = 256;
+
+/// The eight entries of a row from this one on, as a word.
+#[inline(always)]
+fn word_at(row: &[Elem], i: usize) -> u64
+    requires { i + LANES ≤ length row.now }
+    ensures { to_le_bytes w64 result ≡ map (slice_index row.now) (range_with_len i LANES) }
+{
+    number_of([
+        row[i],
+        row[i + 1],
+        row[i + 2],
+        row[i + 3],
+        row[i + 4],
+        row[i + 5],
+        row[i + 6],
+        row[i + 7],
+    ])
+}
+
+/// Writes a word as the eight entries from this one on.
+#[inline(always)]
+fn put(out: &mut [Elem], i: usize, word: u64)
+    requires { i + LANES ≤ length out.old }
+    ensures { out.new ≡ take i out.old ++ to_le_bytes w64 word ++ drop (i + LANES) out.old }
+{
+    out[i..i + LANES].copy_from_slice(&word.to_le_bytes());
+}
+
+/// The cells that the bytes of a word name.
+#[inline(always)]
+fn look(cells: &[Elem; CELLS], word: u64) -> u64
+    ensures { to_le_bytes w64 result ≡ map (slice_index cells.now) (to_le_bytes w64 word) }
+{
+    let [a, b, c, d, e, f, g, h] = word.to_le_bytes();
+    number_of([
+        cells[a as usize],
+        cells[b as usize],
+        cells[c as usize],
+        cells[d as usize],
+        cells[e as usize],
+        cells[f as usize],
+        cells[g as usize],
+        cells[h as usize],
+    ])
+}
+
+/// The numbers in base n whose digits are the entries of the rows, at eight coordinates from one on: each
+/// a byte of the word.
+#[inline(always)]
+fn numbers(n: u64, rows: &[&[Elem]], i: usize) -> u64
+    requires some { 0 < n }
+    requires small { n ^ length rows.now ≤ CELLS }
+    requires rows { AllByRecursion (λ (v : Vector). i + LANES ≤ length v) (vectors_behind rows.now) }
+    requires below { AllByRecursion (AllByRecursion (λ x. x < n)) (vectors_behind rows.now) }
+    ensures { to_le_bytes w64 result ≡ map (λ k. numeral n (column (vectors_behind rows.now) k)) (range_with_len i LANES) }
+{
+    let mut numbers = 0;
+    for row in rows {
+        numbers = numbers * n + word_at(row, i);
+    }
+    numbers
+}
