@@ -1,15 +1,17 @@
 -- Tables read by words.
-use Rattle.std.proofs.Common.{◌≡◌, ℕ, zero, suc, ◌+◌, ◌-◌, ◌*◌, ◌/◌, ◌%◌, ◌^◌, ◌<◌, ◌≤◌, List, [], ◌∷◌, ◌++◌, length, map, take, drop, get_or, refl, sym, ap, ◌∙◌, subst, arith}
+use Rattle.std.proofs.Common.{◌≡◌, ℕ, zero, suc, ◌+◌, ◌-◌, ◌*◌, ◌/◌, ◌%◌, ◌^◌, ◌<◌, ◌≤◌, List, [], ◌∷◌, ◌++◌, length, map, take, drop, get_or, refl, sym, ap, ◌∙◌, subst, arith, Bor}
 use Rattle.std.specs.Prelude.{slice_index, fold, replicate}
 use Rattle.std.specs.List.{AllByRecursion, range_with_len}
 use Rattle.std.specs.Int.{from_le_bytes, to_le_bytes, w64}
 use Rattle.std.specs.Prelude.{slice_get, Some}
+use Rattle.std.proofs.lemmas.Option.{slice_get-get_or}
+use Rattle.ua_rows.specs.Gathered.{vectors_behind}
 use Rattle.std.proofs.lemmas.Nat.{le_bytes_8, from_le_bytes-to_le_bytes_8}
 use Rattle.std.proofs.Math.Nat.{pow-le-pow_right}
 use Rattle.std.proofs.lemmas.List.{length-map, length-take, take_more, map-append}
 use Rattle.std.proofs.lemmas.List.Sums.{fold-append}
 use Rattle.ua_table.proofs.ApplyLemmas.{numeral-below}
-use Rattle.ua_table.proofs.Lists.{get_or-slice_get}
+use Rattle.ua_table.proofs.Lists.{get_or-slice_get, mapped_at}
 use Rattle.ua_rows.proofs.PageLaws.{slice_get_within}
 use Rattle.ua_table.specs.Algebras.{Vector, numeral, column}
 
@@ -74,14 +76,18 @@ taken_below n zero vs h = tt
 taken_below n (suc j) [] h = tt
 taken_below n (suc j) (v ∷ vs) h = (h.0, taken_below n j vs h.1)
 
--- the number of the first digits at a coordinate fits a byte
-pub lane_below : (n j k : ℕ) (vs : List Vector) → 0 < n → n ^ length vs ≤ 256 → AllByRecursion (AllByRecursion (λ x. x < n)) vs → numeral n (column (take j vs) k) < 256
-lane_below n j k vs some small h =
+-- the number of the first digits at a coordinate
+pub lane_within : (n j k : ℕ) (vs : List Vector) → 0 < n → AllByRecursion (AllByRecursion (λ x. x < n)) vs → numeral n (column (take j vs) k) < n ^ length vs
+lane_within n j k vs some h =
     let digits = column (take j vs) k in
     let low = numeral-below n digits (column_below n (take j vs) k some (taken_below n j vs h)) in
     let long : length digits ≤ length vs = (let a = length-map (take j vs) (λ (v : Vector). slice_index v k) in let b = length-take j vs in omega (arith, a, b)) in
     let power : n ^ length digits ≤ n ^ length vs = pow-le-pow_right some long in
-    omega (arith, low, power, small)
+    omega (arith, low, power)
+
+-- it may fit a byte
+pub lane_below : (n j k : ℕ) (vs : List Vector) → 0 < n → n ^ length vs ≤ 256 → AllByRecursion (AllByRecursion (λ x. x < n)) vs → numeral n (column (take j vs) k) < 256
+lane_below n j k vs some small h = let low = lane_within n j k vs some h in omega (arith, low, small)
 
 -- one digit more
 pub lane_more : (n j k : ℕ) (vs : List Vector) (v : Vector) → slice_get vs j ≡ Some v → numeral n (column (take (j + 1) vs) k) ≡ numeral n (column (take j vs) k) * n + slice_index v k
@@ -111,3 +117,22 @@ numbers_fit n i j total vs v some small below at so_far =
     let low = worth_below i (λ k. numeral n (column (take j vs) k) * n + 0) (λ k. let a = lane_below n (j + 1) k vs some small below in let b = lane_more n j k vs v at in omega (arith, a, b)) in
     let e : total * n ≡ worth (λ k. numeral n (column (take j vs) k)) i * n = ap (λ t. t * n) so_far in
     omega (arith, e, zero_more, low)
+
+-- ---- references to rows
+
+-- the row that a reference points to
+pub row_there : (rows : List (Bor (List ℕ))) (j : ℕ) (d : Bor (List ℕ)) → j < length rows → slice_get (vectors_behind rows) j ≡ Some (get_or rows j d).now
+row_there rows j d low = mapped_at (λ (r : Bor (List ℕ)). r.now) rows j (get_or rows j d) (slice_get-get_or rows j d low)
+
+-- as many rows as references
+pub length_behind : (rows : List (Bor (List ℕ))) → length (vectors_behind rows) ≡ length rows
+length_behind rows = length-map rows (λ (r : Bor (List ℕ)). r.now)
+
+-- the number of one digit more, below the table's length
+pub number_more : (n i j number : ℕ) (vs : List Vector) (v : Vector) (size : ℕ) → 0 < n → AllByRecursion (AllByRecursion (λ x. x < n)) vs → n ^ length vs ≤ size → slice_get vs j ≡ Some v → number ≡ numeral n (column (take j vs) i)
+    → (number * n + slice_index v i ≡ numeral n (column (take (j + 1) vs) i)) × (number * n + slice_index v i < size)
+number_more n i j number vs v size some below table at so_far =
+    let more = lane_more n j i vs v at in
+    let low = lane_within n (j + 1) i vs some below in
+    let e : number * n + slice_index v i ≡ numeral n (column (take (j + 1) vs) i) = ap (λ m. m * n + slice_index v i) so_far ∙ sym more in
+    (e, omega (arith, e, low, table))

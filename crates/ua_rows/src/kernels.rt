@@ -6,13 +6,22 @@ ghost use Rattle.std.specs.Int.{from_le_bytes, to_le_bytes, w64};
 ghost use Rattle.ua_table.specs.Algebras.{Vector, column, numeral};
 ghost use Rattle.ua_rows.specs.Words as words;
 ghost use Rattle.ua_rows.specs.Gathered.{vectors_behind};
-ghost use Rattle.ua_rows.specs.Kernels.{looked_from, AreRowsBelow};
+ghost use Rattle.ua_rows.specs.Kernels.{looked, looked_from, AreRowsBelow};
 
 use crate::words::{LANES, SEED, mixed, number_of};
 use ua_table::Elem;
 
 /// How many cells a byte can name.
 pub(crate) const CELLS: usize = 256;
+
+/// A table of values, by the numbers that its arguments make as digits.
+#[derive(Drop, Debug)]
+pub(crate) enum Kernel<'a> {
+    /// So few values that a byte names one, and zeros after them, in base `n`.
+    Few { n: u64, cells: [Elem; CELLS] },
+    /// Values in base `n`.
+    Many { n: usize, values: &'a [Elem] },
+}
 
 /// The eight entries of a row from this one on, as a word.
 #[inline(always)]
@@ -74,4 +83,61 @@ fn numbers(n: u64, rows: &[&[Elem]], i: usize) -> u64
         numbers = numbers * n + word_at(row, i);
     }
     numbers
+}
+
+/// The value at the entries of the rows at one coordinate.
+#[inline(always)]
+fn value_at(n: usize, values: &[Elem], rows: &[&[Elem]], i: usize) -> Elem
+    requires some { 0 < n }
+    requires table { n ^ length rows.now ≤ length values.now }
+    requires rows { AllByRecursion (λ (v : Vector). i < length v) (vectors_behind rows.now) }
+    requires below { AllByRecursion (AllByRecursion (λ x. x < n)) (vectors_behind rows.now) }
+    ensures { result ≡ looked values.now n (vectors_behind rows.now) i }
+{
+    let mut number = 0;
+    for row in rows {
+        number = number * n + row[i] as usize;
+    }
+    values[number]
+}
+
+/// The values at the entries of the rows at eight coordinates from one on.
+#[inline(always)]
+fn values_at(n: usize, values: &[Elem], rows: &[&[Elem]], i: usize) -> u64
+    requires some { 0 < n }
+    requires table { n ^ length rows.now ≤ length values.now }
+    requires rows { AllByRecursion (λ (v : Vector). i + LANES ≤ length v) (vectors_behind rows.now) }
+    requires below { AllByRecursion (AllByRecursion (λ x. x < n)) (vectors_behind rows.now) }
+    requires room { i + LANES < 2 ^ 63 }
+    ensures { to_le_bytes w64 result ≡ looked_from values.now n (vectors_behind rows.now) i LANES }
+{
+    number_of([
+        value_at(n, values, rows, i),
+        value_at(n, values, rows, i + 1),
+        value_at(n, values, rows, i + 2),
+        value_at(n, values, rows, i + 3),
+        value_at(n, values, rows, i + 4),
+        value_at(n, values, rows, i + 5),
+        value_at(n, values, rows, i + 6),
+        value_at(n, values, rows, i + 7),
+    ])
+}
+
+impl<'a> Kernel<'a> {
+    ghost use Rattle.ua_rows.specs.Kernels.{base_of, cells_of, Reads};
+
+    /// The values at the entries of the rows at eight coordinates from one on.
+    #[inline(always)]
+    fn word(&self, rows: &[&[Elem]], i: usize) -> u64
+        requires reads { Reads self.now (length rows.now) }
+        requires rows { AllByRecursion (λ (v : Vector). i + LANES ≤ length v) (vectors_behind rows.now) }
+        requires below { AllByRecursion (AllByRecursion (λ x. x < base_of self.now)) (vectors_behind rows.now) }
+        requires room { i + LANES < 2 ^ 63 }
+        ensures { to_le_bytes w64 result ≡ looked_from (cells_of self.now) (base_of self.now) (vectors_behind rows.now) i LANES }
+    {
+        match self {
+            Kernel::Few { n, cells } => look(cells, numbers(*n, rows, i)),
+            Kernel::Many { n, values } => values_at(*n, values, rows, i),
+        }
+    }
 }

@@ -7,12 +7,8 @@ use Rattle.std.proofs.lemmas.Option.{slice_get-get_or}
 use Rattle.ua_table.specs.Algebras.{Vector, numeral, column}
 use Rattle.ua_table.proofs.Lists.{mapped_at, All-slice_get}
 use Rattle.ua_rows.specs.Gathered.{vectors_behind}
-use Rattle.ua_rows.proofs.KernelLaws.{numbers_more, numbers_fit, bytes_of_worth, lane_below, same_over_range}
+use Rattle.ua_rows.proofs.KernelLaws.{numbers_more, numbers_fit, bytes_of_worth, lane_below, same_over_range, row_there}
 use Rattle.ua_rows.proofs.kernels.numbers.Goals as goal
-
--- the row that is read
-row_there : (rows : List (Bor (List ℕ))) (j : ℕ) (d : Bor (List ℕ)) → j < length rows → slice_get (vectors_behind rows) j ≡ Some (get_or rows j d).now
-row_there rows j d low = mapped_at (λ (r : Bor (List ℕ)). r.now) rows j (get_or rows j d) (slice_get-get_or rows j d low)
 
 -- as many rows as references
 few : (n : ℕ) (rows : List (Bor (List ℕ))) → n ^ length rows ≤ 256 → n ^ length (vectors_behind rows) ≤ 256
