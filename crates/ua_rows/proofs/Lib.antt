@@ -4,3 +4,4 @@ pub mod IndexLaws
 pub mod ListLaws
 pub mod ApplyForms
 pub mod KernelLaws
+pub mod MaskLaws

@@ -1,6 +1,6 @@
 //! Tables of values read at the entries of rows, eight coordinates at a time.
 
-ghost use Rattle.std.specs.Prelude.{◌≡◌, ◌+◌, ◌*◌, ◌^◌, ◌<◌, ◌≤◌, ◌++◌, [], ◌∷◌, length, map, take, drop, slice_index};
+ghost use Rattle.std.specs.Prelude.{◌≡◌, ◌+◌, ◌-◌, ◌*◌, ◌^◌, ◌<◌, ◌≤◌, ◌++◌, [], ◌∷◌, length, map, take, drop, replicate, fold, slice_index};
 ghost use Rattle.std.specs.List.{AllByRecursion, range_with_len};
 ghost use Rattle.std.specs.Int.{from_le_bytes, to_le_bytes, w64};
 ghost use Rattle.ua_table.specs.Algebras.{Vector, column, numeral};
@@ -48,6 +48,15 @@ fn put(out: &mut [Elem], i: usize, word: u64)
     ensures { out.new ≡ take i out.old ++ to_le_bytes w64 word ++ drop (i + LANES) out.old }
 {
     out[i..i + LANES].copy_from_slice(&word.to_le_bytes());
+}
+
+/// A word with zeros as its last `cleared` entries.
+#[inline(always)]
+fn front_of(word: u64, cleared: usize) -> u64
+    requires { cleared < LANES }
+    ensures { to_le_bytes w64 result ≡ take (LANES - cleared) (to_le_bytes w64 word) ++ replicate cleared 0 }
+{
+    word & (u64::MAX >> (8 * cleared))
 }
 
 /// The cells that the bytes of a word name.
