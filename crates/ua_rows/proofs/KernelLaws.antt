@@ -20,7 +20,7 @@ use Rattle.ua_table.specs.Algebras.{Vector, numeral, column}
 -- the number of a word whose bytes are one step further in base n
 pub step_of_words : (n a b c d e f g h p q r s t u v w : ℕ)
     → (a + b * 256 + c * 65536 + d * 16777216 + e * 4294967296 + f * 1099511627776 + g * 281474976710656 + h * 72057594037927936) * n
-      + (p + q * 256 + r * 65536 + s * 16777216 + t * 4294967296 + u * 1099511627776 + v * 281474976710656 + w * 72057594037927936)
+    + (p + q * 256 + r * 65536 + s * 16777216 + t * 4294967296 + u * 1099511627776 + v * 281474976710656 + w * 72057594037927936)
     ≡ (a * n + p) + (b * n + q) * 256 + (c * n + r) * 65536 + (d * n + s) * 16777216 + (e * n + t) * 4294967296 + (f * n + u) * 1099511627776 + (g * n + v) * 281474976710656 + (h * n + w) * 72057594037927936
 step_of_words n a b c d e f g h p q r s t u v w = omega arith
 
@@ -103,9 +103,9 @@ pub numbers_more : (n i j x total : ℕ) (vs : List Vector) (v : Vector) → 0 <
     → (total * n + x ≡ worth (λ k. numeral n (column (take (j + 1) vs) k)) i) × (total * n + x < 2 ^ 64)
 numbers_more n i j x total vs v some small below at fits bytes so_far =
     let more : total * n + x ≡ worth (λ k. numeral n (column (take (j + 1) vs) k)) i =
-        (λ l. so_far l * n + worth_of_bytes i x (slice_index v) fits bytes l)
-        ∙ worth_step n i (λ k. numeral n (column (take j vs) k)) (slice_index v)
-        ∙ ap (from_le_bytes w64) (same_over_range (λ k. numeral n (column (take j vs) k) * n + slice_index v k) (λ k. numeral n (column (take (j + 1) vs) k)) i 8 (λ k. sym (lane_more n j k vs v at))) in
+    (λ l. so_far l * n + worth_of_bytes i x (slice_index v) fits bytes l)
+    ∙ worth_step n i (λ k. numeral n (column (take j vs) k)) (slice_index v)
+    ∙ ap (from_le_bytes w64) (same_over_range (λ k. numeral n (column (take j vs) k) * n + slice_index v k) (λ k. numeral n (column (take (j + 1) vs) k)) i 8 (λ k. sym (lane_more n j k vs v at))) in
     let low = worth_below i (λ k. numeral n (column (take (j + 1) vs) k)) (λ k. lane_below n (j + 1) k vs some small below) in
     (more, omega (arith, more, low))
 

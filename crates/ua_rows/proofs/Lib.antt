@@ -5,3 +5,4 @@ pub mod ListLaws
 pub mod ApplyForms
 pub mod KernelLaws
 pub mod MaskLaws
+pub mod WriteLaws

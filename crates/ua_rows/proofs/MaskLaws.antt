@@ -20,7 +20,7 @@ zero_below : 0 < 256
 zero_below = omega arith
 
 module _ (a b c d e f g h x : ℕ) (ha : a < 256) (hb : b < 256) (hc : c < 256) (hd : d < 256) (he : e < 256) (hf : f < 256) (hg : g < 256) (hh : h < 256)
-  (is : x ≡ a + b * 256 + c * 65536 + d * 16777216 + e * 4294967296 + f * 1099511627776 + g * 281474976710656 + h * 72057594037927936) where
+    (is : x ≡ a + b * 256 + c * 65536 + d * 16777216 + e * 4294967296 + f * 1099511627776 + g * 281474976710656 + h * 72057594037927936) where
   first_1 : to_le_bytes w64 (x % 256) ≡ a ∷ 0 ∷ 0 ∷ 0 ∷ 0 ∷ 0 ∷ 0 ∷ 0 ∷ []
   first_1 =
       let low : ℕ = a in

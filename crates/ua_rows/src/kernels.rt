@@ -3,6 +3,7 @@
 ghost use Rattle.std.specs.Prelude.{◌≡◌, ◌+◌, ◌-◌, ◌*◌, ◌^◌, ◌<◌, ◌≤◌, ◌++◌, [], ◌∷◌, length, map, take, drop, replicate, fold, slice_index};
 ghost use Rattle.std.specs.List.{AllByRecursion, range_with_len};
 ghost use Rattle.std.specs.Int.{from_le_bytes, to_le_bytes, w64};
+ghost use Rattle.std.specs.Simd.{first_chunks};
 ghost use Rattle.ua_table.specs.Algebras.{Vector, column, numeral};
 ghost use Rattle.ua_rows.specs.Words as words;
 ghost use Rattle.ua_rows.specs.Gathered.{vectors_behind};
@@ -148,5 +149,45 @@ impl<'a> Kernel<'a> {
             Kernel::Few { n, cells } => look(cells, numbers(*n, rows, i)),
             Kernel::Many { n, values } => values_at(*n, values, rows, i),
         }
+    }
+
+    /// Writes the values of the first words, and answers their hash.
+    #[inline(always)]
+    fn write_full(&self, rows: &[&[Elem]], count: usize, out: &mut [Elem]) -> u64
+        requires reads { Reads self.now (length rows.now) }
+        requires fits { LANES * count ≤ length out.old }
+        requires small { length out.old < 2 ^ 40 }
+        requires rows { AllByRecursion (λ (v : Vector). length v ≡ length out.old) (vectors_behind rows.now) }
+        requires below { AllByRecursion (AllByRecursion (λ x. x < base_of self.now)) (vectors_behind rows.now) }
+        ensures values { take (LANES * count) out.new ≡ looked_from (cells_of self.now) (base_of self.now) (vectors_behind rows.now) 0 (LANES * count) }
+        ensures hash { result ≡ fold words.mixed SEED (map (from_le_bytes w64) (first_chunks LANES count out.new)) }
+    {
+        let mut hash = SEED;
+        for c in 0..count {
+            let word = self.word(rows, LANES * c);
+            put(out, LANES * c, word);
+            hash = mixed(hash, word);
+        }
+        hash
+    }
+
+    /// Writes the values at the entries of the rows, with zeros after the width, and answers their hash.
+    #[inline(always)]
+    pub(crate) fn write(&self, rows: &[&[Elem]], width: usize, out: &mut [Elem]) -> u64
+        requires reads { Reads self.now (length rows.now) }
+        requires some { 0 < width }
+        requires long { length out.old ≡ LANES * words.words_for width }
+        requires small { length out.old < 2 ^ 40 }
+        requires rows { AllByRecursion (λ (v : Vector). length v ≡ length out.old) (vectors_behind rows.now) }
+        requires below { AllByRecursion (AllByRecursion (λ x. x < base_of self.now)) (vectors_behind rows.now) }
+        ensures values { out.new ≡ words.padded (looked_from (cells_of self.now) (base_of self.now) (vectors_behind rows.now) 0 width) }
+        ensures hash { result ≡ words.hash_of (looked_from (cells_of self.now) (base_of self.now) (vectors_behind rows.now) 0 width) }
+    {
+        let full = (width - 1) / LANES;
+        let hash = self.write_full(rows, full, out);
+        let cleared = LANES * (full + 1) - width;
+        let word = front_of(self.word(rows, LANES * full), cleared);
+        put(out, LANES * full, word);
+        mixed(hash, word)
     }
 }

@@ -22,14 +22,14 @@ pub overflow_mul-numbers : goal.overflow_mul-numbers
 overflow_mul-numbers c =
     let row : Bor (List ℕ) = record { ref_ptr = (0, 0); now = [] } in
     let h = numbers_fit c.args.n c.args.i c.loop-row.row-index c.loop-row.numbers (vectors_behind c.args.rows.now) (get_or c.args.rows.now c.loop-row.row-index row).now c.requires.some (few c.args.n c.args.rows.now c.requires.small) c.requires.below
-        (row_there c.args.rows.now c.loop-row.row-index row c.loop-row-test.true) c.loop-row.invariant in
+    (row_there c.args.rows.now c.loop-row.row-index row c.loop-row-test.true) c.loop-row.invariant in
     omega (arith, h)
 
 pub overflow_add-numbers : goal.overflow_add-numbers
 overflow_add-numbers c =
     let row : Bor (List ℕ) = record { ref_ptr = (0, 0); now = [] } in
     let h = (numbers_more c.args.n c.args.i c.loop-row.row-index c.word_at.result c.loop-row.numbers (vectors_behind c.args.rows.now) (get_or c.args.rows.now c.loop-row.row-index row).now c.requires.some (few c.args.n c.args.rows.now c.requires.small) c.requires.below
-        (row_there c.args.rows.now c.loop-row.row-index row c.loop-row-test.true) c.word_at.type_inv c.word_at.ensures c.loop-row.invariant).1 in
+    (row_there c.args.rows.now c.loop-row.row-index row c.loop-row-test.true) c.word_at.type_inv c.word_at.ensures c.loop-row.invariant).1 in
     omega (arith, h)
 
 pub loop-row-preserved : goal.loop-row-preserved

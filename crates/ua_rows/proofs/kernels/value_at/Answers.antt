@@ -16,7 +16,7 @@ overflow_mul-number c =
     let row : Bor (List ℕ) = record { ref_ptr = (0, 0); now = [] } in
     let size = length c.args.values.now in
     let h = number_more c.args.n c.args.i c.loop-row.row-index c.loop-row.number (vectors_behind c.args.rows.now) (get_or c.args.rows.now c.loop-row.row-index row).now size c.requires.some c.requires.below
-        (table_size c.args.n c.args.rows.now size c.requires.table) (row_there c.args.rows.now c.loop-row.row-index row c.loop-row-test.true) c.loop-row.invariant in
+    (table_size c.args.n c.args.rows.now size c.requires.table) (row_there c.args.rows.now c.loop-row.row-index row c.loop-row-test.true) c.loop-row.invariant in
     let low = h.1 in
     let fits : size < 2 ^ 64 = search rules in
     omega (arith, low, fits)
@@ -29,7 +29,7 @@ overflow_add-number c =
     let row : Bor (List ℕ) = record { ref_ptr = (0, 0); now = [] } in
     let size = length c.args.values.now in
     let h = number_more c.args.n c.args.i c.loop-row.row-index c.loop-row.number (vectors_behind c.args.rows.now) (get_or c.args.rows.now c.loop-row.row-index row).now size c.requires.some c.requires.below
-        (table_size c.args.n c.args.rows.now size c.requires.table) (row_there c.args.rows.now c.loop-row.row-index row c.loop-row-test.true) c.loop-row.invariant in
+    (table_size c.args.n c.args.rows.now size c.requires.table) (row_there c.args.rows.now c.loop-row.row-index row c.loop-row-test.true) c.loop-row.invariant in
     let low = h.1 in
     let fits : size < 2 ^ 64 = search rules in
     omega (arith, low, fits)
