@@ -6,3 +6,4 @@ pub mod ApplyForms
 pub mod KernelLaws
 pub mod MaskLaws
 pub mod WriteLaws
+pub mod ScratchLaws

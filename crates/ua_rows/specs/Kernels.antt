@@ -1,7 +1,7 @@
 -- A table of values read at the entries of rows, coordinate by coordinate.
-use Rattle.std.specs.Prelude.{◌≡◌, ℕ, ◌+◌, ◌*◌, ◌-◌, ◌^◌, ◌<◌, ◌≤◌, List, length, map, slice_index, replicate, ◌++◌}
+use Rattle.std.specs.Prelude.{◌≡◌, ℕ, ◌+◌, ◌*◌, ◌-◌, ◌^◌, ◌<◌, ◌≤◌, List, length, map, slice_get, slice_index, Some}
 use Rattle.std.specs.List.{AllByRecursion, range_with_len}
-use Rattle.ua_table.specs.Algebras.{Vector, numeral, column}
+use Rattle.ua_table.specs.Algebras.{Vector, FiniteAlgebra, Product, IsVector, arities, apply, numeral, column}
 use Rattle.ua_rows.specs.declared.kernels.Kernel.{Kernel}
 use Rattle.ua_rows.specs.declared.kernels.Kernel.TheVariants.{Few, Many}
 use Rattle.ua_rows.specs.declared.kernels.TheConstants.{CELLS}
@@ -32,3 +32,13 @@ cells_of (Many n values) = values.now
 abbrev pub Reads : Kernel → ℕ → Type 0
 Reads (Few n cells) count = (0 < n) × (n ^ count ≤ CELLS)
 Reads (Many n values) count = (0 < n) × (n ^ count ≤ length values.now)
+
+-- the kernel of operation f of the product, whose algebras all have one size: it gives the operation's vectors
+pub record IsKernel (p : Product) (f : ℕ) (kernel : Kernel) : Type 0 where
+  pub sizes : AllByRecursion (λ (a : FiniteAlgebra). a.size ≡ base_of kernel) p
+  pub reads : Reads kernel (slice_index (arities p) f)
+  pub value : (rows : List Vector) → length rows ≡ slice_index (arities p) f → AllByRecursion (IsVector p) rows → apply p f rows ≡ looked_from (cells_of kernel) (base_of kernel) rows 0 (length p)
+
+-- each is the kernel of the operation of its number
+abbrev pub AreKernels : Product → List Kernel → Type 0
+AreKernels p kernels = (f : ℕ) (kernel : Kernel) → slice_get kernels f ≡ Some kernel → f < length (arities p) → IsKernel p f kernel

@@ -10,11 +10,13 @@ mod operations;
 mod pages;
 mod row_iter;
 mod row_lists;
+mod scratch_rows;
 mod words;
 
 pub use operations::apply;
 pub use row_iter::RowsIter;
 pub use row_lists::Rows;
+pub use scratch_rows::Scratch;
 
 #[cfg(test)]
 mod tests;

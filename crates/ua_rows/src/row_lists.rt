@@ -109,7 +109,7 @@ impl Rows {
 
     /// The place of the vector at the front of a key, of which the hash is given.
     #[inline(always)]
-    fn search(&self, key: &[Elem], hash: u64) -> Option<u32>
+    pub(crate) fn search(&self, key: &[Elem], hash: u64) -> Option<u32>
         requires key { IsKey self.now.width key.now }
         requires hash { hash ≡ words.hash_of (take self.now.width key.now) }
         ensures found { IfSome result (λ i. slice_get self.now.items i ≡ Some (take self.now.width key.now)) }
