@@ -7,3 +7,4 @@ pub mod KernelLaws
 pub mod MaskLaws
 pub mod WriteLaws
 pub mod ScratchLaws
+pub mod OperationLaws

@@ -1,7 +1,7 @@
 -- A table of values read at the entries of rows, coordinate by coordinate.
-use Rattle.std.specs.Prelude.{◌≡◌, ℕ, ◌+◌, ◌*◌, ◌-◌, ◌^◌, ◌<◌, ◌≤◌, List, length, map, slice_get, slice_index, Some}
+use Rattle.std.specs.Prelude.{◌≡◌, ℕ, ◌+◌, ◌*◌, ◌-◌, ◌^◌, ◌<◌, ◌≤◌, List, length, map, take, slice_get, slice_index, Some}
 use Rattle.std.specs.List.{AllByRecursion, range_with_len}
-use Rattle.ua_table.specs.Algebras.{Vector, FiniteAlgebra, Product, IsVector, arities, apply, numeral, column}
+use Rattle.ua_table.specs.Algebras.{Vector, Operation, FiniteAlgebra, Product, IsVector, arities, apply, numeral, column}
 use Rattle.ua_rows.specs.declared.kernels.Kernel.{Kernel}
 use Rattle.ua_rows.specs.declared.kernels.Kernel.TheVariants.{Few, Many}
 use Rattle.ua_rows.specs.declared.kernels.TheConstants.{CELLS}
@@ -32,6 +32,12 @@ cells_of (Many n values) = values.now
 abbrev pub Reads : Kernel → ℕ → Type 0
 Reads (Few n cells) count = (0 < n) × (n ^ count ≤ CELLS)
 Reads (Many n values) count = (0 < n) × (n ^ count ≤ length values.now)
+
+-- the kernel of an operation: it has its size as its base, its values first, and a cell for each tuple
+pub record HasKernel (o : Operation) (kernel : Kernel) : Type 0 where
+  pub base : base_of kernel ≡ o.size
+  pub values : take (length o.values) (cells_of kernel) ≡ o.values
+  pub reads : Reads kernel o.arity
 
 -- the kernel of operation f of the product, whose algebras all have one size: it gives the operation's vectors
 pub record IsKernel (p : Product) (f : ℕ) (kernel : Kernel) : Type 0 where

@@ -96,6 +96,15 @@ impl Rows {
         &self.row(i)[from as usize..to as usize]
     }
 
+    /// Vector i, with zeros up to the end of its last word.
+    #[inline(always)]
+    pub(crate) fn padded(&self, i: u32) -> &[Elem]
+        requires { i < length self.now.items }
+        ensures { result.now ≡ words.padded (slice_index_or self.now.items i []) }
+    {
+        self.pages.row(i as usize)
+    }
+
     /// Whether the vector at the front of a key is vector i. A key is a vector alone, or with zeros up to
     /// the stride.
     #[inline(always)]
