@@ -13,6 +13,6 @@ loop-table-preserved c =
     let j = c.loop-table.table-index in
     let o = c.table-item.result in
     let front : take j ops ++ o ∷ [] ≡ take (j + 1) ops = ap (λ (x : Operation). take j ops ++ x ∷ []) c.table-item.is ∙ sym (take_more ops j o c.loop-table-test.true) in
-    subst (λ (ks : List Kernel). AllZip HasKernel (take (j + 1) ops) ks) (sym c.in_ok-push.ensures.items)
+    subst (λ (ks : List Kernel). AllZip HasKernel (take (j + 1) ops) ks) (sym {A = List Kernel} c.in_ok-push.ensures.items)
     (subst (λ (os : List Operation). AllZip HasKernel os (c.loop-table.kernels.items ++ c.kernel_of.result ∷ [])) front
     (zip_push HasKernel (take j ops) c.loop-table.kernels.items o c.kernel_of.result c.loop-table.invariant c.kernel_of.ensures.kernel))

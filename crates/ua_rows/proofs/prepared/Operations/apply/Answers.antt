@@ -1,9 +1,9 @@
 use Rattle.std.proofs.Common.{◌≡◌, ◌<◌, ◌≤◌, ◌*◌, ℕ, List, [], ◌∷◌, length, get_or, map, ap, sym, ◌∙◌, subst, Some}
 use Rattle.std.specs.Prelude.{slice_get, slice_index}
 use Rattle.std.specs.List.{AllByRecursion}
-use Rattle.std.proofs.lemmas.Option.{slice_get-get_or}
+use Rattle.std.proofs.lemmas.List.FromFn.{length-map-range_with_len}
 use Rattle.ua_table.specs.Algebras.{Vector, Product, IsProduct, IsVector, arities, apply}
-use Rattle.ua_table.proofs.ApplyLemmas.{IsVector-apply}
+use Rattle.ua_table.proofs.ApplyLemmas.{length-apply}
 use Rattle.ua_rows.specs.RowLists.{rows_at}
 use Rattle.ua_rows.specs.declared.kernels.Kernel.{Kernel}
 use Rattle.ua_rows.specs.Kernels.{AreKernels, IsKernel}
@@ -82,3 +82,18 @@ pub returns-in_default-args-clause-vector : goal.returns-in_default-args-clause-
 returns-in_default-args-clause-vector c =
     applied_vector c.args.self.now c.args.op c.args.rows.now.items c.args.args.now c.apply-in_default-args.new.self (subst IsProduct c.self.view_is c.self.invariant.0) c.requires.operation c.requires.arity c.requires.rows c.requires.named
     (c.apply-in_default-args.ensures ∙ ap (λ (p : Product). apply p c.args.op (rows_at c.args.rows.now.items c.args.args.now)) c.self.view_is)
+
+pub returns-in_default-clause-width : goal.returns-in_default-clause-width
+returns-in_default-clause-width c = ap length (c.apply.ensures ∙ ap (λ (p : Product). apply p c.args.op (rows_at c.args.rows.now.items c.args.args.now)) c.self.view_is) ∙ length-apply c.args.self.now c.args.op (rows_at c.args.rows.now.items c.args.args.now)
+
+pub returns-in_default-args-clause-width : goal.returns-in_default-args-clause-width
+returns-in_default-args-clause-width c = ap length (c.apply-in_default-args.ensures ∙ ap (λ (p : Product). apply p c.args.op (rows_at c.args.rows.now.items c.args.args.now)) c.self.view_is) ∙ length-apply c.args.self.now c.args.op (rows_at c.args.rows.now.items c.args.args.now)
+
+pub returns-in-len1-clause-width : goal.returns-in-len1-clause-width
+returns-in-len1-clause-width c = ap length c.read.ensures ∙ length-map-range_with_len _ 0 (length c.args.out.now) ∙ c.requires.width
+
+pub returns-in-len2-clause-width : goal.returns-in-len2-clause-width
+returns-in-len2-clause-width c = ap length c.read-in-len2.ensures ∙ length-map-range_with_len _ 0 (length c.args.out.now) ∙ c.requires.width
+
+pub returns-in-len3-clause-width : goal.returns-in-len3-clause-width
+returns-in-len3-clause-width c = ap length c.read-in-len3.ensures ∙ length-map-range_with_len _ 0 (length c.args.out.now) ∙ c.requires.width
