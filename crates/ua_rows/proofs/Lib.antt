@@ -3,3 +3,8 @@ pub mod PageLaws
 pub mod IndexLaws
 pub mod ListLaws
 pub mod ApplyForms
+pub mod KernelLaws
+pub mod MaskLaws
+pub mod WriteLaws
+pub mod ScratchLaws
+pub mod OperationLaws

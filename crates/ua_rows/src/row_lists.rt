@@ -96,6 +96,15 @@ impl Rows {
         &self.row(i)[from as usize..to as usize]
     }
 
+    /// Vector i, with zeros up to the end of its last word.
+    #[inline(always)]
+    pub(crate) fn padded(&self, i: u32) -> &[Elem]
+        requires { i < length self.now.items }
+        ensures { result.now ≡ words.padded (slice_index_or self.now.items i []) }
+    {
+        self.pages.row(i as usize)
+    }
+
     /// Whether the vector at the front of a key is vector i. A key is a vector alone, or with zeros up to
     /// the stride.
     #[inline(always)]
@@ -109,7 +118,7 @@ impl Rows {
 
     /// The place of the vector at the front of a key, of which the hash is given.
     #[inline(always)]
-    fn search(&self, key: &[Elem], hash: u64) -> Option<u32>
+    pub(crate) fn search(&self, key: &[Elem], hash: u64) -> Option<u32>
         requires key { IsKey self.now.width key.now }
         requires hash { hash ≡ words.hash_of (take self.now.width key.now) }
         ensures found { IfSome result (λ i. slice_get self.now.items i ≡ Some (take self.now.width key.now)) }
