@@ -1,0 +1,4 @@
+pub mod PartitionLaws
+pub mod BlockLaws
+pub mod MergeLaws
+pub mod ForestLaws

@@ -1,0 +1,8 @@
+//! Partitions of the numbers below a size, in normal form.
+#![tactic(auto)]
+
+mod part;
+mod sets;
+
+pub use part::Part;
+pub use sets::DisjointSets;
