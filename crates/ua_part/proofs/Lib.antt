@@ -2,3 +2,5 @@ pub mod PartitionLaws
 pub mod BlockLaws
 pub mod MergeLaws
 pub mod ForestLaws
+pub mod LabelLaws
+pub mod JoinLaws

@@ -1,3 +1,4 @@
 pub mod Partitions
 pub mod Blocks
 pub mod Forests
+pub mod Labels

@@ -1,6 +1,7 @@
 //! Partitions of the numbers below a size, in normal form.
 #![tactic(auto)]
 
+mod labels;
 mod part;
 mod sets;
 

@@ -1,9 +1,11 @@
 //! Partitions, their order and their lattice.
 
-ghost use Rattle.std.specs.Prelude.{◌≡◌, ◌<◌, ◌↔◌, length, slice_index, IfOk, IsTrue};
-ghost use Rattle.ua_part.specs.Partitions.{IsPart, SameBlock, LiesBelow, identity_on, full_on};
+ghost use Rattle.std.specs.Prelude.{◌≡◌, ◌<◌, ◌^◌, ◌↔◌, length, slice_index, IfOk, IsTrue};
+ghost use Rattle.ua_part.specs.Partitions.{IsPart, SameBlock, LiesBelow, IsByLabels, IsMeet, IsJoin, identity_on, full_on};
 ghost use Rattle.ua_part.specs.Blocks.{block_count};
 
+use crate::labels::by_both;
+use crate::sets::DisjointSets;
 use std::alloc::{AllocError, Global};
 use std::marker::Model;
 
@@ -41,6 +43,15 @@ impl Part {
     {
         let leaders = vec![in alloc; 0; size as usize]?;
         Ok(Part { leaders })
+    }
+
+    /// The partition that puts places with equal labels into one block, in a time that grows with
+    /// their number.
+    pub fn from_labels(alloc: Global, labels: &[u32]) -> Result<Part, AllocError>
+        requires { length labels.now < 2 ^ 32 }
+        ensures { IfOk result (IsByLabels labels.now) }
+    {
+        by_both(alloc, labels, labels)
     }
 
     /// A partition equal to this one, in memory of its own.
@@ -125,5 +136,23 @@ impl Part {
             }
         }
         count
+    }
+
+    /// What both partitions relate.
+    pub fn meet(&self, alloc: Global, other: &Part) -> Result<Part, AllocError>
+        requires { length self.now ≡ length other.now }
+        ensures { IfOk result (IsMeet self.now other.now) }
+    {
+        by_both(alloc, self.leaders(), other.leaders())
+    }
+
+    /// The least partition above both.
+    pub fn join(&self, alloc: Global, other: &Part) -> Result<Part, AllocError>
+        requires { length self.now ≡ length other.now }
+        ensures { IfOk result (IsJoin self.now other.now) }
+    {
+        let mut sets = DisjointSets::of(self.copy(alloc)?);
+        sets.unite_blocks(other);
+        Ok(sets.into_part())
     }
 }

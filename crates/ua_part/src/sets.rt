@@ -1,7 +1,7 @@
 //! Disjoint sets that are united, step by step, until they are the blocks of a partition.
 
 ghost use Rattle.std.specs.Prelude.{◌≡◌, ◌<◌, ◌↔◌, length, slice_index, IfOk, IsTrue};
-ghost use Rattle.ua_part.specs.Partitions.{SameBlock, identity_on, merged};
+ghost use Rattle.ua_part.specs.Partitions.{IsPart, SameBlock, IsJoin, identity_on, merged};
 ghost use Rattle.ua_part.specs.Forests.{IsForest, roots};
 
 use crate::part::Part;
@@ -71,6 +71,14 @@ impl DisjointSets {
         }
     }
 
+    /// How many members there are.
+    pub fn size(&self) -> u32
+        ensures size { result ≡ length self.now }
+        ensures part { IsPart self.now }
+    {
+        self.parents.len() as u32
+    }
+
     /// The least member of a's set.
     pub fn find(&mut self, a: u32) -> u32
         requires { a < length self.old }
@@ -94,6 +102,19 @@ impl DisjointSets {
         }
         self.parents[first.max(second) as usize] = first.min(second);
         true
+    }
+
+    /// Unites the sets that a block of the partition meets.
+    pub fn unite_blocks(&mut self, part: &Part)
+        requires { length self.old ≡ length part.now }
+        ensures { IsJoin self.old part.now self.new }
+    {
+        for a in 0..self.size() {
+            let leader = part.rep(a);
+            if leader != a {
+                self.unite(leader, a);
+            }
+        }
     }
 
     /// The partition whose blocks are the sets. It takes no memory.
