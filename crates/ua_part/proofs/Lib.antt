@@ -4,3 +4,5 @@ pub mod MergeLaws
 pub mod ForestLaws
 pub mod LabelLaws
 pub mod JoinLaws
+pub mod MarkLaws
+pub mod FindLaws

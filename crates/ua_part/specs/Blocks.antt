@@ -1,5 +1,6 @@
 -- The blocks of a partition, and lists of blocks.
-use Rattle.std.specs.Prelude.{◌≡◌, ℕ, ◌<◌, ◌==◌, ◌↔◌, List, [], ◌∷◌, ◌++◌, length, map, find, nat_le, Option, slice_index, slice_index_or, Contains, codes}
+use Rattle.std.specs.Prelude.{◌≡◌, ℕ, ◌<◌, ◌==◌, ◌↔◌, List, [], ◌∷◌, ◌++◌, length, map, find, nat_le, Option, slice_index, slice_index_or, Contains, codes, Vec}
+use Rattle.std.specs.declared.alloc.Global.{Global}
 use Rattle.std.specs.List.{AllByRecursion, concat, filter, flat_map, range_with_len}
 use Rattle.std.specs.Fmt.{decimal}
 use Rattle.ua_table.specs.Counting.{EachOnceBelow}
@@ -20,6 +21,10 @@ block_of p leader = filter (λ a. slice_index p a == leader) (range_with_len 0 (
 -- the blocks by their least members, the members of each ascending
 abbrev pub blocks_of : Partition → List (List ℕ)
 blocks_of p = map (block_of p) (leaders p)
+
+-- the members of each block
+abbrev pub members_of : List (Vec ℕ Global) → List (List ℕ)
+members_of blocks = map (λ (v : Vec ℕ Global). v.items) blocks
 
 -- a block holds both
 pub record HoldsBoth (blocks : List (List ℕ)) (a b : ℕ) : Type 0 where

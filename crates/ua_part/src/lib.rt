@@ -1,9 +1,11 @@
 //! Partitions of the numbers below a size, in normal form.
 #![tactic(auto)]
 
+mod blocks;
 mod labels;
 mod part;
 mod sets;
 
+pub use blocks::PartError;
 pub use part::Part;
 pub use sets::DisjointSets;
