@@ -1,12 +1,10 @@
 -- The places where labels stand first make a partition.
-use Rattle.std.proofs.Common.{◌≡◌, ◌≢◌, ◌↔◌, ℕ, ◌+◌, ◌<◌, ◌≤◌, Bool, true, false, cond, Option, Some, None, List, [], ◌∷◌, ◌++◌, length, get_or, refl, sym, ap, ◌∙◌, subst, arith, ⊎_elim}
-use Rattle.std.specs.Prelude.{slice_index, ◌⊎◌, ◌==◌, ◌&&◌, if◌then◌else◌, unwrap_or}
+use Rattle.std.proofs.Common.{◌≡◌, ℕ, ◌+◌, ◌<◌, Bool, true, false, cond, Option, Some, None, List, [], ◌∷◌, ◌++◌, refl, sym, ap, ◌∙◌, arith, ⊎_elim}
+use Rattle.std.specs.Prelude.{slice_index, ◌==◌, if◌then◌else◌, unwrap_or}
 use Rattle.std.specs.Bool.{Decides}
-use Rattle.std.proofs.lemmas.Bool.{cases_lt, cases_eq}
+use Rattle.std.proofs.lemmas.Bool.{cases_lt}
 use Rattle.std.proofs.lemmas.Bool.Decides.{Decides-and, Decides-eqb, Decides-like}
 use Rattle.std.proofs.lemmas.List.{length_push, get_or_push, get_or_append_left}
-use mathlib.Core.Bool.{true≢false}
-use Rattle.ua_part.specs.Partitions.{Partition, IsPartition, SameBlock, IsMeet, IsByLabels}
 use Rattle.ua_part.specs.Labels.{same_labels, labels_at, AreFirstPlaces}
 
 same_labels-Decides : (x y : ℕ × ℕ) → Decides (same_labels x y) (x ≡ y)
@@ -52,10 +50,13 @@ module _ (firsts seconds : List ℕ) (n : ℕ) (before after : ℕ × ℕ → Op
     where
       mine : (v < n + 1) × (labels_at firsts seconds v ≡ labels_at firsts seconds n)
       mine = value_is (before (labels_at firsts seconds n)) refl put.value
+
       old : (k : ℕ) → k < n → slice_index (leaders ++ v ∷ []) k ≡ slice_index leaders k
       old k less = get_or_append_left leaders (v ∷ []) 0 k (omega (arith, less, first.size))
+
       new : (k : ℕ) → k ≡ n → slice_index (leaders ++ v ∷ []) k ≡ v
       new k is = get_or_push leaders v 0 k (first.size ∙ sym is)
+
       found_by : (q : ℕ × ℕ) (w : ℕ) → after q ≡ Some w → (b : Bool) → b ≡ same_labels (labels_at firsts seconds n) q → (w < n + 1) × (labels_at firsts seconds w ≡ q)
       found_by q w e true is =
           let same = (same_labels-Decides (labels_at firsts seconds n) q).0 (sym is) in
@@ -63,6 +64,7 @@ module _ (firsts seconds : List ℕ) (n : ℕ) (before after : ℕ × ℕ → Op
           let value : v ≡ w = cc in
           (omega (arith, mine.0, value), ap (labels_at firsts seconds) (sym value) ∙ mine.1 ∙ same)
       found_by q w e false is = let f = first.found q w (sym (elsewhere q (sym is)) ∙ e) in (omega (arith, f.0), f.1)
+
       kept_by : (k : ℕ) → k < n → (b : Bool) → b ≡ same_labels (labels_at firsts seconds n) (labels_at firsts seconds k) → after (labels_at firsts seconds k) ≡ Some (slice_index leaders k)
       kept_by k less true is =
           let same = (same_labels-Decides (labels_at firsts seconds n) (labels_at firsts seconds k)).0 (sym is) in

@@ -6,3 +6,4 @@ pub mod LabelLaws
 pub mod JoinLaws
 pub mod MarkLaws
 pub mod FindLaws
+pub mod TextLaws
