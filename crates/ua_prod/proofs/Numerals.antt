@@ -1,5 +1,5 @@
 -- Numbers by their digits: one place changed, the digits of a number, and their order.
-use Rattle.std.proofs.Common.{◌≡◌, ◌≢◌, ℕ, zero, suc, ◌+◌, ◌-◌, ◌*◌, ◌/◌, ◌%◌, ◌^◌, ◌<◌, ◌≤◌, List, [], ◌∷◌, ◌++◌, length, take, drop, set, get_or, refl, sym, ap, ◌∙◌, subst, arith, ⊎_elim}
+use Rattle.std.proofs.Common.{◌≡◌, ◌≢◌, ℕ, zero, suc, ◌+◌, ◌-◌, ◌*◌, ◌/◌, ◌%◌, ◌^◌, ◌<◌, ◌≤◌, List, [], ◌∷◌, ◌++◌, length, take, drop, set, get_or, refl, sym, ap, ◌∙◌, subst, arith, ⊎_elim, length-set}
 use Rattle.std.specs.Prelude.{slice_index, fold, ◌⊎◌}
 use Rattle.std.specs.List.{AllByRecursion}
 use Rattle.std.specs.Cmp.Lexicographic.{slice_cmp}
@@ -8,7 +8,7 @@ use Rattle.std.specs.Ordering.{nat_cmp, ordering_then}
 use Rattle.std.specs.declared.cmp.Ordering.{Ordering}
 use Rattle.std.specs.declared.cmp.Ordering.TheVariants.{Less, Equal, Greater}
 use Rattle.std.proofs.lemmas.Bool.{cases_lt, cases_eq}
-use Rattle.std.proofs.lemmas.List.{take-append-drop, drop_more, set_split, length-take-le, length-drop, length_push}
+use Rattle.std.proofs.lemmas.List.{take-append-drop, drop_more, drop_all, drop-set, set_split, length-take-le, length-drop, length_push}
 use Rattle.std.proofs.lemmas.List.Sums.{fold-append}
 use Rattle.std.proofs.lemmas.List.Elements.{All-from_recursion, recursion_from_All, All-take, All-drop}
 use Rattle.std.proofs.lemmas.Nat.{div-mul-add, mod-mul-add, div-add-mod', pow-add}
@@ -150,3 +150,48 @@ cmp-append (x ∷ xs) (y ∷ ys) us vs e = ap (λ o. ordering_then (nat_cmp x y)
 pub cmp_same : (xs : List ℕ) → slice_cmp nat_cmp xs xs ≡ Equal
 cmp_same [] = refl
 cmp_same (x ∷ xs) = ap (λ o. ordering_then o (slice_cmp nat_cmp xs xs)) (cmp_equal x) ∙ cmp_same xs
+
+-- ---- digits written from the last to the first
+
+-- the digits from a place on are those of the number, and the rest is what stands before them
+pub record AreLastDigits (n number place rest : ℕ) (digits : List ℕ) : Type 0 where
+  pub within : place ≤ length digits
+  pub number_is : number ≡ rest * n ^ (length digits - place) + numeral n (drop place digits)
+  pub below : AllByRecursion (λ x. x < n) (drop place digits)
+
+pub digits_none : (n number : ℕ) (digits : List ℕ) → AreLastDigits n number (length digits) number digits
+digits_none n number digits =
+    let none : drop (length digits) digits ≡ [] = drop_all (length digits) digits (omega arith) in
+    let zero' : length digits - length digits ≡ 0 = omega arith in
+    let power : number * n ^ (length digits - length digits) ≡ number * 1 = ap (λ k. number * k) (ap (λ k. n ^ k) zero' ∙ pow-zero n) in
+    let empty : numeral n (drop (length digits) digits) ≡ 0 = ap (numeral n) none in
+    record { within = omega arith; number_is = omega (arith, power, empty); below = subst (AllByRecursion (λ x. x < n)) (sym none) tt }
+
+pub digits_next : (n number place rest : ℕ) (digits : List ℕ) → 0 < n → AreLastDigits n number (place + 1) rest digits → AreLastDigits n number place (rest / n) (set digits place (rest % n))
+digits_next n number place rest digits some h =
+    let w : place < length digits = (let k = h.within in omega (arith, k)) in
+    let size = length-set digits place (rest % n) in
+    let front : drop place (set digits place (rest % n)) ≡ rest % n ∷ drop (place + 1) digits = drop-set digits place (rest % n) w in
+    let m = length digits - (place + 1) in
+    let behind' : length (drop (place + 1) digits) ≡ length digits - (place + 1) = length-drop (place + 1) digits in
+    let more : length (set digits place (rest % n)) - place ≡ suc (length digits - (place + 1)) = omega (arith, size, w) in
+    let whole : rest / n * n + rest % n ≡ rest = div-add-mod' rest n in
+    let head : numeral n (rest % n ∷ drop (place + 1) digits) ≡ rest % n * n ^ (length digits - (place + 1)) + numeral n (drop (place + 1) digits) = numeral-cons n (rest % n) (drop (place + 1) digits) ∙ ap (λ k. rest % n * n ^ k + numeral n (drop (place + 1) digits)) behind' in
+    let power : rest / n * n ^ (length (set digits place (rest % n)) - place) ≡ rest / n * (n ^ (length digits - (place + 1)) * n) = ap (λ k. rest / n * k) (ap (λ k. n ^ k) more ∙ pow-suc n (length digits - (place + 1))) in
+    let both : rest * n ^ (length digits - (place + 1)) ≡ (rest / n * n + rest % n) * n ^ (length digits - (place + 1)) = ap (λ r. r * n ^ (length digits - (place + 1))) (sym whole) in
+    let spread : (rest / n * n + rest % n) * n ^ (length digits - (place + 1)) ≡ rest / n * (n ^ (length digits - (place + 1)) * n) + rest % n * n ^ (length digits - (place + 1)) = omega arith in
+    let now : numeral n (drop place (set digits place (rest % n))) ≡ numeral n (rest % n ∷ drop (place + 1) digits) = ap (numeral n) front in
+    record {
+      within = omega (arith, size, w);
+      number_is = omega (arith, h.number_is, both, spread, power, now, head);
+      below = subst (AllByRecursion (λ x. x < n)) (sym front) (mod-lt rest some, h.below);
+    }
+
+-- at the first place they are all
+pub digits_all : (n number rest : ℕ) (digits : List ℕ) → number < n ^ length digits → AreLastDigits n number 0 rest digits → (numeral n digits ≡ number) × AllByRecursion (λ x. x < n) digits
+digits_all n number rest digits small h =
+    let z : length digits - 0 ≡ length digits = omega arith in
+    let e : rest * n ^ (length digits - 0) ≡ rest * n ^ length digits = ap (λ k. rest * n ^ k) z in
+    let none : rest ≡ 0 = ⊎_elim (λ some. absurd (let up : 1 * n ^ length digits ≤ rest * n ^ length digits = mul-le-mul_right (n ^ length digits) some in omega (arith, up, e, small, h.number_is))) (λ none. omega (arith, none)) (cases_lt 0 rest) in
+    let gone : rest * n ^ length digits ≡ 0 * n ^ length digits = ap (λ r. r * n ^ length digits) none in
+    (omega (arith, h.number_is, e, gone), h.below)

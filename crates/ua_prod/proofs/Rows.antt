@@ -3,6 +3,7 @@ use Rattle.std.proofs.Common.{◌≡◌, ℕ, suc, ◌+◌, ◌-◌, ◌*◌, �
 use Rattle.std.specs.Prelude.{slice_index}
 use Rattle.std.specs.List.{AllByRecursion}
 use Rattle.std.proofs.lemmas.List.{get_or-take, get_or-drop, length-take-le, length-drop}
+use Rattle.std.proofs.lemmas.List.Elements.{All-from_recursion, recursion_from_All, All-take, All-drop}
 use Rattle.std.proofs.Math.Nat.{mul-le-mul_right, mul-le-mul_left, pow-le-pow_right, pow-zero}
 use Rattle.ua_table.specs.Algebras.{Operation, numeral}
 use Rattle.ua_table.specs.Tables.{IsTable}
@@ -50,3 +51,7 @@ module _ (o : Operation) (t : IsTable o) (place : ℕ) (h : place < o.arity) whe
     where
       pow_positive : 1 ≤ o.size ^ (o.arity - 1 - place)
       pow_positive = let p : o.size ^ 0 ≤ o.size ^ (o.arity - 1 - place) = pow-le-pow_right t.inhabited (omega arith) in let z = pow-zero o.size in omega (arith, p, z)
+
+-- what holds of each entry holds of those of a part
+pub all_part : (P : ℕ → Type 0) (m n : ℕ) (xs : List ℕ) → AllByRecursion P xs → AllByRecursion P (take m (drop n xs))
+all_part P m n xs all = recursion_from_All P (take m (drop n xs)) (All-take P m (drop n xs) (All-drop P n xs (All-from_recursion P xs all)))

@@ -4,5 +4,5 @@
 mod clashes;
 mod translations;
 
-pub use clashes::Clash;
+pub use clashes::{Clash, is_congruence};
 pub use translations::Translations;

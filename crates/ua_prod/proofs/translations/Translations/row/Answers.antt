@@ -1,6 +1,7 @@
-use Rattle.std.proofs.Common.{◌≡◌, ℕ, ◌+◌, ◌*◌, length, ap, arith}
+use Rattle.std.proofs.Common.{◌≡◌, ℕ, ◌+◌, ◌*◌, ◌<◌, length, ap, sym, subst, arith}
+use Rattle.std.specs.List.{AllByRecursion}
 use Rattle.ua_prod.specs.Translations.{weight_of}
-use Rattle.ua_prod.proofs.Rows.{row_fits, number_small}
+use Rattle.ua_prod.proofs.Rows.{row_fits, number_small, all_part}
 use Rattle.ua_prod.proofs.translations.Translations.row.Goals as goal
 
 pub overflow_mul-start : goal.overflow_mul-start
@@ -38,3 +39,8 @@ slice_bounds-row-end c =
     let same : (c.args.front * c.size.result + c.args.x) * c.args.self.now.weight ≡ (c.args.front * o.size + c.args.x) * weight_of o c.args.self.now.place = λ i. (c.args.front * c.size.ensures.size i + c.args.x) * c.args.self.now.weighed i in
     let values = ap length c.values.ensures.values in
     omega (arith, fits, same, c.args.self.now.weighed, values)
+
+pub returns-clause-elements : goal.returns-clause-elements
+returns-clause-elements c =
+    let o = c.args.self.now.table.now in
+    all_part (λ v. v < o.size) _ _ c.values.result.now (subst (AllByRecursion (λ v. v < o.size)) (sym c.values.ensures.values) c.values.ensures.table.operation.below)
