@@ -1,6 +1,6 @@
 -- Numbers by their digits: one place changed, the digits of a number, and their order.
-use Rattle.std.proofs.Common.{◌≡◌, ◌≢◌, ℕ, zero, suc, ◌+◌, ◌-◌, ◌*◌, ◌/◌, ◌%◌, ◌^◌, ◌<◌, ◌≤◌, List, [], ◌∷◌, ◌++◌, length, take, drop, set, get_or, refl, sym, ap, ◌∙◌, subst, arith, ⊎_elim, length-set}
-use Rattle.std.specs.Prelude.{slice_index, fold, ◌⊎◌}
+use Rattle.std.proofs.Common.{◌≡◌, ℕ, zero, suc, ◌+◌, ◌-◌, ◌*◌, ◌/◌, ◌%◌, ◌^◌, ◌<◌, ◌≤◌, List, [], ◌∷◌, ◌++◌, length, take, drop, set, refl, sym, ap, ◌∙◌, subst, arith, ⊎_elim, length-set}
+use Rattle.std.specs.Prelude.{slice_index, fold}
 use Rattle.std.specs.List.{AllByRecursion}
 use Rattle.std.specs.Cmp.Lexicographic.{slice_cmp}
 use Rattle.std.specs.Cmp.{nat_cmp_is}
@@ -12,8 +12,7 @@ use Rattle.std.proofs.lemmas.List.{take-append-drop, drop_more, drop_all, drop-s
 use Rattle.std.proofs.lemmas.List.Sums.{fold-append}
 use Rattle.std.proofs.lemmas.List.Elements.{All-from_recursion, recursion_from_All, All-take, All-drop}
 use Rattle.std.proofs.lemmas.Nat.{div-mul-add, mod-mul-add, div-add-mod', pow-add}
-use Rattle.std.proofs.Math.Nat.{pow-suc, pow-zero, mul-le-mul_right, mod-lt, mul_right_comm}
-use Rattle.std.proofs.Math.Numerals.{add-one}
+use Rattle.std.proofs.Math.Nat.{pow-suc, pow-zero, mul-le-mul_right, mod-lt}
 use Rattle.ua_table.specs.Algebras.{numeral}
 use Rattle.ua_table.proofs.ApplyLemmas.{numeral-below}
 use Rattle.ua_table.proofs.Lists.{all_append}
@@ -90,11 +89,11 @@ tuple_of n (suc k) number some h =
     let whole : number / n * n + number % n ≡ number = div-add-mod' number n in
     let digit = mod-lt number some in
     let less : number / n < n ^ k = ⊎_elim
-      (λ low. low)
-      (λ high.
-      let up : n ^ k * n ≤ number / n * n = mul-le-mul_right n high in
-      absurd (omega (arith, up, whole, h, pow-suc n k)))
-      (cases_lt (number / n) (n ^ k)) in
+    (λ low. low)
+    (λ high.
+    let up : n ^ k * n ≤ number / n * n = mul-le-mul_right n high in
+    absurd (omega (arith, up, whole, h, pow-suc n k)))
+    (cases_lt (number / n) (n ^ k)) in
     let front = tuple_of n k (number / n) some less in
     record {
       digits = front.digits ++ number % n ∷ [];
