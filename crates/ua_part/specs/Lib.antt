@@ -1,0 +1,5 @@
+pub mod Partitions
+pub mod Blocks
+pub mod Forests
+pub mod Labels
+pub mod Marks

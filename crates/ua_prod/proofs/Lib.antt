@@ -1,0 +1,4 @@
+pub mod Numerals
+pub mod Rows
+pub mod Compatible
+pub mod ClashLaws
