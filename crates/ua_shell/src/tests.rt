@@ -1,11 +1,13 @@
 //! Whole runs over memory.
 
+use crate::close::answer_close;
 use crate::{Status, run};
 use std::alloc::{AllocError, Global};
 use std::test::Fail;
 use std::thread::Threads;
 use ua_io::{MemSink, MemSource};
-use ua_table::FreeGate;
+use ua_script::{Mode, Number, Place, Word};
+use ua_table::{Algebra, FreeGate, Name, OpTable, Run};
 use ua_text::{FaultKind, TextFault};
 
 const MEET: &str = "algebra M size 2\nop meet 2 = 0 0 0 1\nend\n";
@@ -101,6 +103,64 @@ fn errors(rt: HostRuntime) -> Result<(), Fail> {
         let ended = answer(&rt, alloc, command)?;
         assert_eq!(rt; ended.status, Status::Done, "{command}");
         assert_eq!(rt; ended.out.as_slice(), reply.as_bytes(), "{command}");
+    }
+    Ok(())
+}
+
+/// The reply to a closure of no vectors, with this budget.
+fn empty_closure<R: Threads + Sync>(
+    rt: &R,
+    alloc: Global,
+    algebra: Algebra,
+    width: u32,
+    budget: u32,
+) -> Result<Vec<u8>, Fail> {
+    let Some(limits) = Run::new(budget, 1, &FreeGate) else {
+        return Err(Fail::from("no such budget"));
+    };
+    let place = Place { line: 4, column: 7 };
+    let word = Word {
+        name: Name::new(alloc, b"A")?,
+        place,
+    };
+    let width = Number {
+        value: width,
+        place,
+    };
+    let session = [algebra];
+    Ok(answer_close(rt, alloc, &session, &limits, &word, width, &[], Mode::Plain)?)
+}
+
+/// An algebra with one operation.
+fn algebra(
+    alloc: Global,
+    size: u32,
+    name: &[u8],
+    arity: u8,
+    values: &[u8],
+) -> Result<Algebra, Fail> {
+    let op = OpTable::new(Name::new(alloc, name)?, size, arity, values.to_vec(alloc)?)?;
+    let mut ops = Vec::new(alloc);
+    ops.push(op)?;
+    Ok(Algebra::new(Name::new(alloc, b"A")?, size, ops)?)
+}
+
+#[test]
+fn wide_closures(rt: HostRuntime) -> Result<(), Fail> {
+    let alloc = rt.alloc();
+    let quaternary = algebra(alloc, 1, b"f", 4, &[0])?;
+    let reply = empty_closure(&rt, alloc, quaternary, 1, 1_000_000)?;
+    assert_eq!(rt;
+        reply.as_slice(),
+        b"error wide 1000000000000000000000001 1000000\n".as_slice()
+    );
+    for (width, reply) in [
+        (67_108_864, b"closed 0\n".as_slice()),
+        (67_108_865, b"error wide 2 67108865\n"),
+    ] {
+        let meet = algebra(alloc, 2, b"meet", 2, &[0, 0, 0, 1])?;
+        let answer = empty_closure(&rt, alloc, meet, width, 1)?;
+        assert_eq!(rt; answer.as_slice(), reply);
     }
     Ok(())
 }

@@ -10,3 +10,6 @@ mod written;
 pub use faults::TermFault;
 pub use terms::{Term, eval};
 pub use written::Written;
+
+#[cfg(test)]
+mod tests;
