@@ -12,6 +12,9 @@ use std::alloc::{AllocError, Global};
 /// How many buckets the first index has.
 const BUCKETS: usize = 16;
 
+/// How many rows there are at most for each bucket.
+const LOAD: usize = 2;
+
 /// A row, and the high half of its hash.
 #[derive(Clone, Copy, Default, Debug)]
 pub(crate) struct Entry {
@@ -137,7 +140,7 @@ impl Index {
         ensures some { OnOk result (0 < length self.new.buckets.items) }
         ensures others { HaveRoomBut self.new.last self.new.buckets.items }
     {
-        if rows.len() >= self.buckets.len() {
+        if rows.len() / LOAD >= self.buckets.len() {
             let count = (self.buckets.len() * 2).max(BUCKETS);
             self.buckets = rebuilt(self.alloc, rows, width, count)?;
             self.last = 0;
