@@ -254,3 +254,13 @@ no_hand hs n past =
 pub not_true : (b : Bool) → not b ≡ true → b ≡ false
 not_true true e = cc
 not_true false e = refl
+
+-- what a look-up finds is among the rows
+pub found_there : (rows : List Vector) (v : Vector) (o : Option ℕ) → IfSome o (λ i. slice_get rows i ≡ Some v) → is_some o ≡ true → Contains rows v
+found_there rows v None some e = cc
+found_there rows v (Some i) some e = Contains-slice_get rows i v some
+
+-- the hands are the workers
+pub all_workers : (P : Worker → Type 0) (hs : List Hand) → AllByRecursion P (map worker_of hs) → AllByRecursion (λ (h : Hand). P (worker_of h)) hs
+all_workers P [] a = tt
+all_workers P (h ∷ hs) a = (a.0, all_workers P hs a.1)
