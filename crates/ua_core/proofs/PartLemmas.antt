@@ -5,23 +5,24 @@ use Rattle.std.proofs.Math.Seq.{take-append_seam}
 use Rattle.std.specs.Prelude.{Contains, IsTrue, IfSome, IfNone, OnErr, not, MatchOption, nat_lt, nat_eq, slice_get, is_some, vec_len, Result, Ok, Err, IsErr, IsErrAnd}
 use Rattle.std.specs.List.{AllByRecursion, IsDistinct}
 use Rattle.std.specs.Cmp.Lexicographic.{pointwise, bytes_decides}
-use Rattle.std.proofs.lemmas.Bool.{lt-ltb, ltb-true}
+use Rattle.std.proofs.lemmas.Bool.{lt-ltb, ltb-true, cases_lt}
+use Rattle.std.proofs.lemmas.Option.{slice_get-get_or, slice_get_past}
 use Rattle.ua_table.specs.Algebras.{Vector, Product, IsVector, arities}
 use Rattle.ua_table.specs.Numbering.{Fits}
 use Rattle.ua_table.specs.Slices.{bound}
-use Rattle.ua_table.proofs.Lists.{all_at, All-slice_get, mapped_from, get_or-slice_get, Contains-slice_get, Contains-head, found}
+use Rattle.ua_table.proofs.Lists.{all_at, All-slice_get, mapped_at, mapped_from, get_or-slice_get, Contains-slice_get, Contains-head, found}
 use Rattle.ua_table.proofs.SliceLaws.{fits_less}
 use Rattle.ua_core.specs.declared.events.Event.{Event}
 use Rattle.ua_core.specs.declared.events.EventKind.{EventKind}
 use Rattle.ua_core.specs.declared.events.EventKind.TheVariants.{Join}
 use Rattle.ua_core.specs.declared.errors.StepError.{StepError}
-use Rattle.ua_core.specs.declared.errors.StepError.TheVariants.{OutOfMemory}
+use Rattle.ua_core.specs.declared.errors.StepError.TheVariants.{NotAllowed, OutOfMemory}
 use Rattle.ua_core.specs.declared.hands.Hand.{Hand}
 use Rattle.ua_core.specs.declared.parts.Parts.{Parts}
 use Rattle.ua_core.specs.Machines.{Task, Worker, Machine, Asks, Guard, joined_by, effect, effect_of, after}
 use Rattle.ua_core.specs.Rules.{IsWorker, IsRuled}
-use Rattle.ua_core.specs.States.{worker_of, machine_of, state_of, IsTask, IsStateOf, IsReady, IsOfTask, IsLive, event}
-use Rattle.ua_core.proofs.KeptRules.{low_slices}
+use Rattle.ua_core.specs.States.{worker_of, machine_of, state_of, IsTask, IsStateOf, IsReady, IsOfTask, IsLive, SameFrame, Tells, event}
+use Rattle.ua_core.proofs.KeptRules.{low_slices, keeps}
 use Rattle.ua_core.proofs.RowLemmas.{place_of, place_below, set_other, made_vectors}
 
 -- ---- lists
@@ -210,3 +211,56 @@ pub set_twice : {X : Type 0} (xs : List X) (i : ℕ) (x y : X) → set (set xs i
 set_twice [] i x y = refl
 set_twice (z ∷ zs) zero x y = refl
 set_twice (z ∷ zs) (suc i) x y = ap (λ l. z ∷ l) (set_twice zs i x y)
+
+-- ---- one event
+
+-- no event of a worker that was not made, or was taken in
+pub not_made : (a : Parts) (n : ℕ) (t : Task) (k : EventKind) → slice_get (map worker_of a.hands.items) n ≡ None → ¬ Guard t (machine_of a) (event n k)
+not_made a n t k e guard = subst (λ (o : Option Worker). MatchOption o ⊥ (λ w. (w.joined ≡ false) × Asks t (machine_of a) n w k)) e guard
+
+pub not_live : (a : Parts) (n : ℕ) (w : Worker) (t : Task) (k : EventKind) → slice_get (map worker_of a.hands.items) n ≡ Some w → w.joined ≡ true → ¬ Guard t (machine_of a) (event n k)
+not_live a n w t k e gone guard =
+    let g = subst (λ (o : Option Worker). MatchOption o ⊥ (λ w. (w.joined ≡ false) × Asks t (machine_of a) n w k)) e guard in
+    let live = g.0 in cc
+
+-- what is told of an event of this kind is told of the event
+pub told_of : (t : Task) (m new : Machine) (e : Event) (k : EventKind) (r : Result (Unit {0}) StepError) → e.kind ≡ k → Tells t m (event e.worker k) r new → Tells t m e r new
+told_of t m new e k r is told = subst (λ (x : Event). Tells t m x r new) (λ i. event e.worker (sym is i)) told
+
+-- the state after an event is one of the same task
+pub state_after : (t : Task) (a new : Parts) (e : Event) (r : Result (Unit {0}) StepError) → IsStateOf t (state_of a) → SameFrame a new → Tells t (machine_of a) e r (machine_of new) → IsStateOf t (state_of new)
+state_after t a new e r s same told = record {
+    task = s.task;
+    width = same.width ∙ s.width;
+    shape = same.shape ∙ s.shape;
+    budget = same.budget ∙ s.budget;
+    rule = rule r told;
+  }
+  where
+    rule : (r : Result (Unit {0}) StepError) → Tells t (machine_of a) e r (machine_of new) → IsRuled t (machine_of new)
+    rule (Ok u) h = subst (IsRuled t) (sym h.1) (keeps t s.task.shape (machine_of a) e h.0 s.rule)
+    rule (Err NotAllowed) h = subst (IsRuled t) (sym h.1) s.rule
+    rule (Err OutOfMemory) h = subst (IsRuled t) (sym h.2) s.rule
+
+-- a worker that was looked up
+pub hand_at : (hs : List Hand) (n : ℕ) (h : Hand) → true ≡ nat_lt n (length hs) → h ≡ get_or hs n h → slice_get (map worker_of hs) n ≡ Some (worker_of h)
+hand_at hs n h low e = mapped_at worker_of hs n h (slice_get-get_or hs n h (ltb-true n (length hs) (sym low)) ∙ ap Some (sym e))
+
+pub no_hand : (hs : List Hand) (n : ℕ) → false ≡ nat_lt n (length hs) → slice_get (map worker_of hs) n ≡ None
+no_hand hs n past =
+    let m = length-map hs worker_of in
+    slice_get_past (map worker_of hs) n (⊎_elim (λ lt. absurd (let e = lt-ltb n (length hs) lt in cc)) (λ ge. omega (arith, m, ge)) (cases_lt n (length hs)))
+
+pub not_true : (b : Bool) → not b ≡ true → b ≡ false
+not_true true e = cc
+not_true false e = refl
+
+-- what a look-up finds is among the rows
+pub found_there : (rows : List Vector) (v : Vector) (o : Option ℕ) → IfSome o (λ i. slice_get rows i ≡ Some v) → is_some o ≡ true → Contains rows v
+found_there rows v None some e = cc
+found_there rows v (Some i) some e = Contains-slice_get rows i v some
+
+-- the hands are the workers
+pub all_workers : (P : Worker → Type 0) (hs : List Hand) → AllByRecursion P (map worker_of hs) → AllByRecursion (λ (h : Hand). P (worker_of h)) hs
+all_workers P [] a = tt
+all_workers P (h ∷ hs) a = (a.0, all_workers P hs a.1)

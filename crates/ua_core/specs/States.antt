@@ -1,8 +1,8 @@
 -- What contracts see of a state, and what it is made of.
-use Rattle.std.specs.Prelude.{◌≡◌, ℕ, ◌+◌, ◌<◌, ◌≤◌, false, List, map, length, Vec, vec_capacity, vec_len, Option, Some, Result, Ok, Err, slice_get}
+use Rattle.std.specs.Prelude.{◌≡◌, ℕ, ◌+◌, ◌<◌, ◌≤◌, false, List, [], Contains, slice_index, map, length, Vec, vec_capacity, vec_len, Option, Some, Result, Ok, Err, slice_get}
 use Rattle.std.specs.List.{AllByRecursion}
 use Rattle.ua_table.specs.declared.limits.TheConstants.{BUDGET}
-use Rattle.ua_table.specs.Algebras.{Vector, Product, IsProduct, IsVector, arities}
+use Rattle.ua_table.specs.Algebras.{Vector, Product, IsProduct, IsVector, arities, apply}
 use Rattle.ua_table.specs.Numbering.{Fits, IsShape}
 use Rattle.ua_core.specs.declared.errors.StepError.{StepError}
 use Rattle.ua_core.specs.declared.errors.StepError.TheVariants.{NotAllowed, OutOfMemory}
@@ -108,3 +108,7 @@ pub record SameFrame (a new : Parts) : Type 0 where
   pub shape : new.shape ≡ a.shape
   pub budget : new.budget ≡ a.budget
   pub scratch : HasScratch a → HasScratch new
+
+-- the vectors of the constants among the first n operations are rows
+abbrev pub HasConstants : Product → List Vector → ℕ → Type 0
+HasConstants p rows n = (f : ℕ) → f < n → slice_index (arities p) f ≡ 0 → Contains rows (apply p f [])

@@ -10,8 +10,14 @@ mod events;
 mod hands;
 pub mod laws;
 mod parts;
+mod replays;
 mod states;
+mod steps;
+mod stills;
 
 pub use errors::{ReplayError, StepError};
 pub use events::{Event, EventKind};
+pub use replays::replay;
 pub use states::State;
+pub use steps::step;
+pub use stills::is_still;
