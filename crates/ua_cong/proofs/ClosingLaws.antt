@@ -3,7 +3,7 @@ use Rattle.std.proofs.Common.{◌≡◌, ◌≢◌, ℕ, zero, suc, ◌+◌, ◌
 use Rattle.std.specs.Prelude.{slice_index, slice_get, ◌⊎◌}
 use Rattle.std.specs.List.{AllByRecursion, AllZip, range_with_len}
 use Rattle.std.proofs.lemmas.Bool.{cases_lt, cases_eq}
-use Rattle.std.proofs.lemmas.List.{append-nil, append_assoc, length-map}
+use Rattle.std.proofs.lemmas.List.{append-nil, append_assoc, take_more, take-append-le}
 use Rattle.std.proofs.lemmas.List.FromFn.{length-range_with_len}
 use Rattle.std.proofs.lemmas.List.Elements.{All-from_recursion}
 use Rattle.ua_table.specs.Algebras.{FiniteAlgebra, Operation, IsAlgebra, arities_of, value_at, numeral}
@@ -60,7 +60,7 @@ around_pair p n size (u ∷ us) ss x y front back s = (same_itself p u (let w = 
 -- ---- larger partitions
 
 -- what is related stays so
-related_more : (p q : Partition) (pairs : List (ℕ × ℕ)) → LiesBelow p q → RelatesAll p pairs → RelatesAll q pairs
+pub related_more : (p q : Partition) (pairs : List (ℕ × ℕ)) → LiesBelow p q → RelatesAll p pairs → RelatesAll q pairs
 related_more p q pairs below h = all_weaker (λ (pair : ℕ × ℕ). SameBlock p pair.0 pair.1) (λ (pair : ℕ × ℕ). SameBlock q pair.0 pair.1) (λ pair s. below pair.0 pair.1 s) pairs h
 
 -- what is carried stays so
@@ -373,3 +373,24 @@ row_entries_stay o t place placed p q front back x y below size f xw yw b e =
     let one = elements x xw in
     let two = elements y yw in
     row_stays p q (slice_index (row_at o place front x) back) (slice_index (row_at o place front y) back) below (omega (arith, one, size)) (omega (arith, two, size)) e
+
+-- ---- the work, pair by pair
+
+-- one pair more is carried
+pub work_carried : (a : FiniteAlgebra) (p q : Partition) (work later : List (ℕ × ℕ)) (n : ℕ) (e : ℕ × ℕ) → IsAlgebra a → length p ≡ a.size → IsGrown p q work later → n < length work → e ≡ get_or work n e → AllByRecursion (IsCarried a p) (take n work) → IsCarried a q e → AllByRecursion (IsCarried a q) (take (n + 1) later)
+work_carried a p q work later n e alg size grown w is before here =
+    let front : take (n + 1) later ≡ take (n + 1) work = ap (take (n + 1)) grown.later_is ∙ take-append-le (n + 1) work grown.more (omega (arith, w)) in
+    let more : take (n + 1) work ≡ take n work ++ e ∷ [] = take_more work n e w ∙ ap (λ (x : ℕ × ℕ). take n work ++ x ∷ []) (sym is) in
+    subst (AllByRecursion (IsCarried a q)) (sym (front ∙ more)) (all_append (IsCarried a q) (take n work) (e ∷ []) (all_carried a alg p q size grown.above (take n work) before) (here, tt))
+
+pub grown_longer : (p q : Partition) (work later : List (ℕ × ℕ)) → IsGrown p q work later → length work ≤ length later
+grown_longer p q work later g = let e = ap length g.later_is ∙ length-append work g.more in omega (arith, e)
+
+-- one pair more is related
+pub pairs_related : (p q : Partition) (pairs : List (ℕ × ℕ)) (n : ℕ) (d : ℕ × ℕ) → LiesBelow p q → n < length pairs → RelatesAll p (take n pairs) → SameBlock q (get_or pairs n d).0 (get_or pairs n d).1 → RelatesAll q (take (n + 1) pairs)
+pairs_related p q pairs n d below w before here =
+    subst (RelatesAll q) (sym (take_more pairs n d w)) (all_append (λ (pair : ℕ × ℕ). SameBlock q pair.0 pair.1) (take n pairs) (get_or pairs n d ∷ []) (related_more p q (take n pairs) below before) (here, tt))
+
+-- a pair of the list is forced
+pub pair_forced : (a : FiniteAlgebra) (pairs : List (ℕ × ℕ)) (n : ℕ) (d : ℕ × ℕ) → n < length pairs → IsForced a pairs (get_or pairs n d).0 (get_or pairs n d).1
+pair_forced a pairs n d w q cq rel = All-from_recursion (λ (pair : ℕ × ℕ). SameBlock q pair.0 pair.1) pairs rel n d w

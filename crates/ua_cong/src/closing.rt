@@ -206,6 +206,7 @@ fn carry(problem: &Problem, closing: &mut Closing, x: Elem, y: Elem) -> Result<(
 
 /// Carries each pair of the work, and the pairs that this adds.
 fn carry_all(problem: &Problem, closing: &mut Closing) -> Result<(), AllocError>
+    requires algebra { IsAlgebra problem.now.algebra.now }
     requires known { AllByRecursion (IsPrincipal problem.now.algebra.now) problem.now.known.now }
     requires closing { IsState problem.now closing.old }
     ensures closing { OnOk result (IsState problem.now closing.new) }
@@ -223,15 +224,16 @@ fn carry_all(problem: &Problem, closing: &mut Closing) -> Result<(), AllocError>
 
 /// Relates the pairs.
 fn relate_pairs(problem: &Problem, closing: &mut Closing) -> Result<(), AllocError>
+    requires algebra { IsAlgebra problem.now.algebra.now }
     requires known { AllByRecursion (IsPrincipal problem.now.algebra.now) problem.now.known.now }
     requires pairs { AllByRecursion (AreElements problem.now.algebra.now) problem.now.pairs.now }
     requires closing { IsState problem.now closing.old }
     ensures closing { OnOk result (IsState problem.now closing.new) }
     ensures related { OnOk result (RelatesAll closing.new.sets problem.now.pairs.now) }
 {
-    let _size = problem.algebra.size();
-    for (x, y) in problem.pairs {
-        relate(problem, closing, *x, *y)?;
+    for i in 0..problem.pairs.len() {
+        let (x, y) = problem.pairs[i];
+        relate(problem, closing, x, y)?;
     }
     Ok(())
 }

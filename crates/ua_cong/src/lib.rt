@@ -3,5 +3,8 @@
 
 mod closing;
 
-
+pub use closing::cg;
 pub use ua_prod::{Clash, is_congruence};
+
+#[cfg(test)]
+mod tests;
