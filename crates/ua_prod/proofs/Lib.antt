@@ -2,3 +2,4 @@ pub mod Numerals
 pub mod Rows
 pub mod Compatible
 pub mod ClashLaws
+pub mod RowValues

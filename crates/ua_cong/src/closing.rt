@@ -1,0 +1,273 @@
+//! The congruence that pairs generate: elements are united until every unary translation takes united
+//! elements to united elements.
+
+ghost use Rattle.std.specs.Prelude.{◌≡◌, ◌≢◌, ℕ, ◌<◌, ◌^◌, [], ◌∷◌, length, slice_index, IfOk, OnOk, IfSome};
+ghost use Rattle.std.specs.List.{AllByRecursion};
+ghost use Rattle.ua_table.specs.Algebras.{IsAlgebra, arities_of};
+ghost use Rattle.ua_part.specs.Partitions.{Partition, SameBlock, LiesBelow};
+ghost use Rattle.ua_prod.specs.Congruences.{IsCg, RelatesAll};
+ghost use Rattle.ua_cong.specs.Closings.{AreElements, IsPrincipal, IsForced, IsCarried, IsCarriedAlong};
+ghost use Rattle.ua_cong.specs.States.{IsState, HasGrown};
+
+use std::alloc::{AllocError, Global};
+use ua_part::{DisjointSets, Part};
+use ua_prod::Translations;
+use ua_table::{Algebra, Elem};
+
+/// An algebra, pairs that are to be related, and principal congruences that are known.
+#[derive(Drop)]
+struct Problem<'a> {
+    algebra: &'a Algebra,
+    pairs: &'a [(Elem, Elem)],
+    known: &'a [(Elem, Elem, Part)],
+}
+
+/// The sets that are united so far, and pairs that were united and whose translations are still to be.
+#[derive(Drop)]
+struct Closing {
+    sets: DisjointSets,
+    work: Vec<(Elem, Elem)>,
+}
+
+/// The place of a pair of elements, the first the lower, among all such pairs in lexicographic order.
+fn rank(size: usize, x: usize, y: usize) -> usize
+    requires size { size < 2 ^ 16 }
+    requires order { x < y }
+    requires within { y < size }
+{
+    x * (2 * size - x - 1) / 2 + y - x - 1
+}
+
+/// The principal congruence of this pair, the first the lower, if it is known, by one look-up.
+fn known_at<'a>(problem: &Problem<'a>, low: Elem, high: Elem) -> Option<&'a Part>
+    requires known { AllByRecursion (IsPrincipal problem.now.algebra.now) problem.now.known.now }
+    requires order { low < high }
+    requires within { high < problem.now.algebra.now.size }
+    ensures { IfSome result (λ p. IsCg problem.now.algebra.now ((low, high) ∷ []) p.now) }
+{
+    let size = problem.algebra.size() as usize;
+    let place = rank(size, low as usize, high as usize);
+    let (first, second, part) = problem.known.get(place)?;
+    if *first != low || *second != high {
+        return None;
+    }
+    Some(part)
+}
+
+/// The principal congruence of two elements, if it is known.
+fn known_principal<'a>(problem: &Problem<'a>, x: Elem, y: Elem) -> Option<&'a Part>
+    requires known { AllByRecursion (IsPrincipal problem.now.algebra.now) problem.now.known.now }
+    requires apart { x ≢ y }
+    requires first { x < problem.now.algebra.now.size }
+    requires second { y < problem.now.algebra.now.size }
+    ensures { IfSome result (λ p. IsCg problem.now.algebra.now ((x, y) ∷ []) p.now) }
+{
+    if x < y {
+        known_at(problem, x, y)
+    } else {
+        known_at(problem, y, x)
+    }
+}
+
+/// Relates two elements. Unless they were, their pair is noted as work, or their principal congruence
+/// is brought in, if it is known: it has no work left.
+fn unite(problem: &Problem, closing: &mut Closing, x: Elem, y: Elem) -> Result<(), AllocError>
+    requires algebra { IsAlgebra problem.now.algebra.now }
+    requires known { AllByRecursion (IsPrincipal problem.now.algebra.now) problem.now.known.now }
+    requires first { x < problem.now.algebra.now.size }
+    requires second { y < problem.now.algebra.now.size }
+    requires forced { IsForced problem.now.algebra.now problem.now.pairs.now x y }
+    requires closing { IsState problem.now closing.old }
+    ensures closing { OnOk result (IsState problem.now closing.new) }
+    ensures grown { OnOk result (HasGrown closing.old closing.new) }
+    ensures related { OnOk result (SameBlock closing.new.sets x y) }
+{
+    if !closing.sets.unite(u32::from(x), u32::from(y)) {
+        return Ok(());
+    }
+    match known_principal(problem, x, y) {
+        Some(part) => closing.sets.unite_blocks(part),
+        None => closing.work.push((x, y))?,
+    }
+    Ok(())
+}
+
+/// Relates two elements, where this costs nothing if they are equal.
+fn relate(problem: &Problem, closing: &mut Closing, x: Elem, y: Elem) -> Result<(), AllocError>
+    requires algebra { IsAlgebra problem.now.algebra.now }
+    requires known { AllByRecursion (IsPrincipal problem.now.algebra.now) problem.now.known.now }
+    requires first { x < problem.now.algebra.now.size }
+    requires second { y < problem.now.algebra.now.size }
+    requires forced { IsForced problem.now.algebra.now problem.now.pairs.now x y }
+    requires closing { IsState problem.now closing.old }
+    ensures closing { OnOk result (IsState problem.now closing.new) }
+    ensures grown { OnOk result (HasGrown closing.old closing.new) }
+    ensures related { OnOk result (SameBlock closing.new.sets x y) }
+{
+    if x == y {
+        return Ok(());
+    }
+    unite(problem, closing, x, y)
+}
+
+/// Relates the elements at each place of two rows.
+fn relate_rows(
+    problem: &Problem,
+    closing: &mut Closing,
+    first: &[Elem],
+    second: &[Elem],
+) -> Result<(), AllocError>
+    requires algebra { IsAlgebra problem.now.algebra.now }
+    requires known { AllByRecursion (IsPrincipal problem.now.algebra.now) problem.now.known.now }
+    requires first { AllByRecursion (λ v. v < problem.now.algebra.now.size) first.now }
+    requires second { AllByRecursion (λ v. v < problem.now.algebra.now.size) second.now }
+    requires lengths { length first.now ≡ length second.now }
+    requires forced { (k : ℕ) → k < length first.now → IsForced problem.now.algebra.now problem.now.pairs.now (slice_index first.now k) (slice_index second.now k) }
+    requires closing { IsState problem.now closing.old }
+    ensures closing { OnOk result (IsState problem.now closing.new) }
+    ensures grown { OnOk result (HasGrown closing.old closing.new) }
+    ensures related { OnOk result ((k : ℕ) → k < length first.now → slice_index closing.new.sets (slice_index first.now k) ≡ slice_index closing.new.sets (slice_index second.now k)) }
+{
+    for k in 0..first.len() {
+        relate(problem, closing, first[k], second[k])?;
+    }
+    Ok(())
+}
+
+/// Relates the results of an operation at two elements at one place, for all other arguments.
+fn relate_along(
+    problem: &Problem,
+    closing: &mut Closing,
+    op: u32,
+    place: u8,
+    x: Elem,
+    y: Elem,
+) -> Result<(), AllocError>
+    requires known { AllByRecursion (IsPrincipal problem.now.algebra.now) problem.now.known.now }
+    requires operation { op < length (arities_of problem.now.algebra.now) }
+    requires place { place < slice_index (arities_of problem.now.algebra.now) op }
+    requires first { x < problem.now.algebra.now.size }
+    requires second { y < problem.now.algebra.now.size }
+    requires forced { IsForced problem.now.algebra.now problem.now.pairs.now x y }
+    requires closing { IsState problem.now closing.old }
+    ensures closing { OnOk result (IsState problem.now closing.new) }
+    ensures grown { OnOk result (HasGrown closing.old closing.new) }
+    ensures carried { OnOk result (IsCarriedAlong problem.now.algebra.now closing.new.sets op place x y) }
+{
+    let translations = Translations::new(problem.algebra.op(op), place);
+    for front in 0..translations.fronts() {
+        let first = translations.row(front, x);
+        let second = translations.row(front, y);
+        relate_rows(problem, closing, first, second)?;
+    }
+    Ok(())
+}
+
+/// Relates the results of an operation at two elements, at each of its places.
+fn relate_results(
+    problem: &Problem,
+    closing: &mut Closing,
+    op: u32,
+    x: Elem,
+    y: Elem,
+) -> Result<(), AllocError>
+    requires known { AllByRecursion (IsPrincipal problem.now.algebra.now) problem.now.known.now }
+    requires operation { op < length (arities_of problem.now.algebra.now) }
+    requires first { x < problem.now.algebra.now.size }
+    requires second { y < problem.now.algebra.now.size }
+    requires forced { IsForced problem.now.algebra.now problem.now.pairs.now x y }
+    requires closing { IsState problem.now closing.old }
+    ensures closing { OnOk result (IsState problem.now closing.new) }
+    ensures grown { OnOk result (HasGrown closing.old closing.new) }
+    ensures carried { OnOk result ((place : ℕ) → place < slice_index (arities_of problem.now.algebra.now) op → IsCarriedAlong problem.now.algebra.now closing.new.sets op place x y) }
+{
+    for place in 0..problem.algebra.op(op).arity() {
+        relate_along(problem, closing, op, place, x, y)?;
+    }
+    Ok(())
+}
+
+/// Relates the results of all operations at two elements.
+fn carry(problem: &Problem, closing: &mut Closing, x: Elem, y: Elem) -> Result<(), AllocError>
+    requires known { AllByRecursion (IsPrincipal problem.now.algebra.now) problem.now.known.now }
+    requires first { x < problem.now.algebra.now.size }
+    requires second { y < problem.now.algebra.now.size }
+    requires forced { IsForced problem.now.algebra.now problem.now.pairs.now x y }
+    requires closing { IsState problem.now closing.old }
+    ensures closing { OnOk result (IsState problem.now closing.new) }
+    ensures grown { OnOk result (HasGrown closing.old closing.new) }
+    ensures carried { OnOk result (IsCarried problem.now.algebra.now closing.new.sets (x, y)) }
+{
+    for op in 0..problem.algebra.ops().len() as u32 {
+        relate_results(problem, closing, op, x, y)?;
+    }
+    Ok(())
+}
+
+/// Carries each pair of the work, and the pairs that this adds.
+fn carry_all(problem: &Problem, closing: &mut Closing) -> Result<(), AllocError>
+    requires algebra { IsAlgebra problem.now.algebra.now }
+    requires known { AllByRecursion (IsPrincipal problem.now.algebra.now) problem.now.known.now }
+    requires closing { IsState problem.now closing.old }
+    ensures closing { OnOk result (IsState problem.now closing.new) }
+    ensures grown { OnOk result (HasGrown closing.old closing.new) }
+    ensures carried { OnOk result (AllByRecursion (IsCarried problem.now.algebra.now closing.new.sets) closing.new.work.items) }
+{
+    let mut next = 0;
+    while next < closing.work.len() {
+        let (x, y) = closing.work[next];
+        carry(problem, closing, x, y)?;
+        next += 1;
+    }
+    Ok(())
+}
+
+/// Relates the pairs.
+fn relate_pairs(problem: &Problem, closing: &mut Closing) -> Result<(), AllocError>
+    requires algebra { IsAlgebra problem.now.algebra.now }
+    requires known { AllByRecursion (IsPrincipal problem.now.algebra.now) problem.now.known.now }
+    requires pairs { AllByRecursion (AreElements problem.now.algebra.now) problem.now.pairs.now }
+    requires closing { IsState problem.now closing.old }
+    ensures closing { OnOk result (IsState problem.now closing.new) }
+    ensures related { OnOk result (RelatesAll closing.new.sets problem.now.pairs.now) }
+{
+    for i in 0..problem.pairs.len() {
+        let (x, y) = problem.pairs[i];
+        relate(problem, closing, x, y)?;
+    }
+    Ok(())
+}
+
+/// The least congruence that relates the pairs, where these principal congruences are known.
+pub fn cg_knowing(
+    alloc: Global,
+    algebra: &Algebra,
+    pairs: &[(Elem, Elem)],
+    known: &[(Elem, Elem, Part)],
+) -> Result<Part, AllocError>
+    requires pairs { AllByRecursion (AreElements algebra.now) pairs.now }
+    requires known { AllByRecursion (IsPrincipal algebra.now) known.now }
+    ensures { IfOk result (IsCg algebra.now pairs.now) }
+{
+    let problem = Problem {
+        algebra,
+        pairs,
+        known,
+    };
+    let mut closing = Closing {
+        sets: DisjointSets::new(alloc, algebra.size())?,
+        work: Vec::new(alloc),
+    };
+    relate_pairs(&problem, &mut closing)?;
+    carry_all(&problem, &mut closing)?;
+    Ok(closing.sets.into_part())
+}
+
+/// The least congruence that relates the pairs, in a time that is at most that of reading each table
+/// once for each of its places and each block fewer.
+pub fn cg(alloc: Global, a: &Algebra, pairs: &[(Elem, Elem)]) -> Result<Part, AllocError>
+    requires { AllByRecursion (AreElements a.now) pairs.now }
+    ensures { IfOk result (IsCg a.now pairs.now) }
+{
+    cg_knowing(alloc, a, pairs, &[])
+}

@@ -1,0 +1,10 @@
+//! Congruences: the congruence that pairs generate, and all principal congruences.
+#![tactic(auto)]
+
+mod closing;
+
+pub use closing::cg;
+pub use ua_prod::{Clash, is_congruence};
+
+#[cfg(test)]
+mod tests;
