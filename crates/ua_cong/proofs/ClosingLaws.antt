@@ -1,6 +1,6 @@
 -- Partitions on the way to a generated congruence: one merge, one principal brought in, one pair carried.
-use Rattle.std.proofs.Common.{◌≡◌, ◌≢◌, ℕ, zero, suc, ◌+◌, ◌-◌, ◌*◌, ◌^◌, ◌<◌, ◌≤◌, List, [], ◌∷◌, ◌++◌, length, map, take, get_or, refl, sym, ap, ◌∙◌, subst, arith, Some, ⊎_elim, length-append}
-use Rattle.std.specs.Prelude.{slice_index, slice_get, ◌⊎◌}
+use Rattle.std.proofs.Common.{◌≡◌, ℕ, zero, suc, ◌+◌, ◌*◌, ◌^◌, ◌<◌, ◌≤◌, List, [], ◌∷◌, ◌++◌, length, map, take, get_or, refl, sym, ap, ◌∙◌, subst, arith, Some, ⊎_elim, length-append}
+use Rattle.std.specs.Prelude.{slice_index, slice_get}
 use Rattle.std.specs.List.{AllByRecursion, AllZip, range_with_len}
 use Rattle.std.proofs.lemmas.Bool.{cases_lt, cases_eq}
 use Rattle.std.proofs.lemmas.List.{append-nil, append_assoc, take_more, take-append-le}
@@ -14,7 +14,7 @@ use Rattle.ua_table.proofs.Lists.{all_append, all_weaker}
 use Rattle.ua_part.specs.Partitions.{Partition, IsPartition, SameBlock, LiesBelow, IsJoin, merged, identity_on}
 use Rattle.ua_part.proofs.PartitionLaws.{IsConstant, same_itself, same_back, below_through, leader_within, leaders_from_below, identity-IsPartition, identity-same}
 use Rattle.ua_part.proofs.MergeLaws.{length-merged, merged-IsPartition, merged-above, merged-relates, merged-constant, merged-least, merged_same}
-use Rattle.ua_prod.specs.Congruences.{IsCongruence, RelatesAll, IsCg}
+use Rattle.ua_prod.specs.Congruences.{RelatesAll, IsCg}
 use Rattle.ua_prod.specs.Translations.{weight_of, row_at}
 use Rattle.ua_prod.proofs.Rows.{all_part, length-row}
 use Rattle.ua_prod.proofs.ClashLaws.{arity_is, table_at}
@@ -105,6 +105,7 @@ module _ (a : FiniteAlgebra) (alg : IsAlgebra a) (pairs : List (ℕ × ℕ)) (p 
     where
       fst : (g : ℕ → ℕ) → AllByRecursion (IsOne g) (work ++ (x, y) ∷ []) → AllByRecursion (IsOne g) work
       fst g all = front_of (IsOne g) work ((x, y) ∷ []) all
+
       last : (g : ℕ → ℕ) → AllByRecursion (IsOne g) (work ++ (x, y) ∷ []) → g x ≡ g y
       last g all = (back_of (IsOne g) work ((x, y) ∷ []) all).0
 
@@ -133,8 +134,10 @@ module _ (a : FiniteAlgebra) (alg : IsAlgebra a) (pairs : List (ℕ × ℕ)) (p 
       where
         bk : b < length k
         bk = let n = known.congruence.size in omega (arith, w, n)
+
         low : slice_index k b ≤ b
         low = known.congruence.partition.low b bk
+
         here : SameBlock k b (slice_index k b)
         here = record { left = bk; right = omega (arith, low, bk); same = sym (known.congruence.partition.least b bk) }
 
@@ -308,10 +311,10 @@ closing_none a pairs =
       partition = identity-IsPartition a.size;
       size = n;
       within = λ q cq rel x y s. (
-        let e = identity-same a.size x y s in
-        let l = s.left in
-        let size = cq.size in
-        subst (SameBlock q x) e (same_itself q x (omega (arith, l, n, size))));
+          let e = identity-same a.size x y s in
+          let l = s.left in
+          let size = cq.size in
+          subst (SameBlock q x) e (same_itself q x (omega (arith, l, n, size))));
       done = [];
       done_carried = tt;
       work_related = tt;

@@ -1,2 +1,3 @@
 pub mod Normal
 pub mod ClosingLaws
+pub mod PairLaws

@@ -2,8 +2,10 @@
 #![tactic(auto)]
 
 mod closing;
+mod pairs;
 
 pub use closing::cg;
+pub use pairs::principals;
 pub use ua_prod::{Clash, is_congruence};
 
 #[cfg(test)]
