@@ -55,7 +55,13 @@ fn enter(rows: &mut Rows, frame: &Frame, v: &[Elem]) -> Result<(), AllocError>
 
 /// Enters the sum of two rows where it is new.
 #[inline(always)]
-fn enter_sum(operations: &Operations, rows: &mut Rows, x: u32, y: u32, out: &mut Scratch) -> Result<(), AllocError>
+fn enter_sum(
+    operations: &Operations,
+    rows: &mut Rows,
+    x: u32,
+    y: u32,
+    out: &mut Scratch,
+) -> Result<(), AllocError>
     requires binary { slice_index (arities operations.now) 0 ≡ 2 }
     requires some { 0 < length (arities operations.now) }
     requires first { x < length rows.old.items }
@@ -77,7 +83,12 @@ fn enter_sum(operations: &Operations, rows: &mut Rows, x: u32, y: u32, out: &mut
 }
 
 /// Enters the sums of a row and those up to it, both ways.
-fn enter_sums(operations: &Operations, rows: &mut Rows, last: u32, out: &mut Scratch) -> Result<(), AllocError>
+fn enter_sums(
+    operations: &Operations,
+    rows: &mut Rows,
+    last: u32,
+    out: &mut Scratch,
+) -> Result<(), AllocError>
     requires binary { slice_index (arities operations.now) 0 ≡ 2 }
     requires some { 0 < length (arities operations.now) }
     requires last { last < length rows.old.items }
@@ -97,7 +108,12 @@ fn enter_sums(operations: &Operations, rows: &mut Rows, last: u32, out: &mut Scr
 
 /// How many vectors so many generators make in this width, of which generator j has 1 at every so-manyth
 /// coordinate from j on.
-pub fn close_sums(alloc: Global, size: u32, generators: u32, width: u32) -> Result<u32, AllocError> {
+pub fn close_sums(
+    alloc: Global,
+    size: u32,
+    generators: u32,
+    width: u32,
+) -> Result<u32, AllocError> {
     let Some(algebra) = group(alloc, size)? else {
         return Ok(0);
     };

@@ -77,9 +77,9 @@ fine p f kernel items args rows n product h low arity admitted named e width =
       lengths = subst (AllByRecursion (λ (v : Vector). length v ≡ 8 * words_for n)) (sym e) (subst (λ m. AllByRecursion (λ (v : Vector). length v ≡ 8 * words_for m) (map padded vs)) (sym width) (padded_lengths p vs vectors));
       below = subst (AllByRecursion (AllByRecursion (λ x. x < base_of kernel))) (sym e) (padded_below (base_of kernel) p vs some h.sizes vectors);
       value = ap (λ (rs : List Vector). looked_from (cells_of kernel) (base_of kernel) rs 0 n) e
-        ∙ same_below (looked (cells_of kernel) (base_of kernel) (map padded vs)) (looked (cells_of kernel) (base_of kernel) vs) 0 n (λ k inside. ap (λ xs. slice_index (cells_of kernel) (numeral (base_of kernel) xs)) (padded_column p vs k (omega (arith, inside, width)) vectors))
-        ∙ ap (looked_from (cells_of kernel) (base_of kernel) vs 0) width
-        ∙ sym (h.value vs count vectors);
+          ∙ same_below (looked (cells_of kernel) (base_of kernel) (map padded vs)) (looked (cells_of kernel) (base_of kernel) vs) 0 n (λ k inside. ap (λ xs. slice_index (cells_of kernel) (numeral (base_of kernel) xs)) (padded_column p vs k (omega (arith, inside, width)) vectors))
+          ∙ ap (looked_from (cells_of kernel) (base_of kernel) vs 0) width
+          ∙ sym (h.value vs count vectors);
       vector = IsVector-apply p f vs product low count vectors;
     }
 

@@ -21,7 +21,7 @@ fn sums(rt: &impl Abort, alloc: Global, size: u32) -> Result<Algebra, Fail> {
             let mut sum = u32::from(arity);
             let mut rest = number;
             for _ in 0..arity {
-                sum = (sum + rest % size) % size;
+                sum = sum.wrapping_add(rest % size) % size;
                 rest /= size;
             }
             values.push((sum % size) as Elem)?;
@@ -83,10 +83,42 @@ fn few_values(rt: HostRuntime) -> Result<(), Fail> {
     let y: &[Elem] = &[0, 0, 0, 1, 1, 1, 2, 2, 2];
     let rows = &[x, y];
     expect_applied(&rt, alloc, &frame, rows, 0, &[], &[0; 9])?;
-    expect_applied(&rt, alloc, &frame, rows, 1, &[1], &[1, 1, 1, 2, 2, 2, 0, 0, 0])?;
-    expect_applied(&rt, alloc, &frame, rows, 2, &[0, 1], &[2, 0, 1, 0, 1, 2, 1, 2, 0])?;
-    expect_applied(&rt, alloc, &frame, rows, 3, &[0, 0, 1], &[0, 2, 1, 1, 0, 2, 2, 1, 0])?;
-    expect_applied(&rt, alloc, &frame, rows, 4, &[1, 1, 1, 0], &[1, 2, 0, 1, 2, 0, 1, 2, 0])
+    expect_applied(
+        &rt,
+        alloc,
+        &frame,
+        rows,
+        1,
+        &[1],
+        &[1, 1, 1, 2, 2, 2, 0, 0, 0],
+    )?;
+    expect_applied(
+        &rt,
+        alloc,
+        &frame,
+        rows,
+        2,
+        &[0, 1],
+        &[2, 0, 1, 0, 1, 2, 1, 2, 0],
+    )?;
+    expect_applied(
+        &rt,
+        alloc,
+        &frame,
+        rows,
+        3,
+        &[0, 0, 1],
+        &[0, 2, 1, 1, 0, 2, 2, 1, 0],
+    )?;
+    expect_applied(
+        &rt,
+        alloc,
+        &frame,
+        rows,
+        4,
+        &[1, 1, 1, 0],
+        &[1, 2, 0, 1, 2, 0, 1, 2, 0],
+    )
 }
 
 #[test]
@@ -95,8 +127,24 @@ fn many_values(rt: HostRuntime) -> Result<(), Fail> {
     let algebra = sums(&rt, alloc, 20)?;
     let frame = Frame::power(&algebra, 8)?;
     let x: &[Elem] = &[0, 1, 2, 3, 4, 5, 18, 19];
-    expect_applied(&rt, alloc, &frame, &[x], 2, &[0, 0], &[2, 4, 6, 8, 10, 12, 18, 0])?;
-    expect_applied(&rt, alloc, &frame, &[x], 3, &[0, 0, 0], &[3, 6, 9, 12, 15, 18, 17, 0])
+    expect_applied(
+        &rt,
+        alloc,
+        &frame,
+        &[x],
+        2,
+        &[0, 0],
+        &[2, 4, 6, 8, 10, 12, 18, 0],
+    )?;
+    expect_applied(
+        &rt,
+        alloc,
+        &frame,
+        &[x],
+        3,
+        &[0, 0, 0],
+        &[3, 6, 9, 12, 15, 18, 17, 0],
+    )
 }
 
 #[test]

@@ -8,10 +8,10 @@ use Rattle.ua_rows.proofs.prepared.Operations.new.Goals.{in-Some+in_ok-kernels-i
 
 pub invariant_of-result : goal.invariant_of-result
 invariant_of-result c = (
-    c.width-width.ensures.product,
-    elim c.match-base.branch [
-      in-Some+in_ok-kernels-in-Some w ↦ subst (λ (ks : Vec Kernel Global). AreKernels c.args.frame.now ks.items) (sym w.kernels-is)
+  c.width-width.ensures.product,
+  elim c.match-base.branch [
+    | in-Some+in_ok-kernels-in-Some w ↦ subst (λ (ks : Vec Kernel Global). AreKernels c.args.frame.now ks.items) (sym w.kernels-is)
         (kernels_of_power c.args.frame.now w.in-Some.algebra.now w.in_ok-kernels-in-Some.kernels.items c.width-width.ensures.product w.in-Some.ensures w.in_ok-kernels-in-Some.ensures)
-      | in-None w ↦ subst (λ (ks : Vec Kernel Global). AreKernels c.args.frame.now ks.items) (sym w.kernels-is) (subst (AreKernels c.args.frame.now) (sym w.new-kernels.ensures.items) (no_kernels c.args.frame.now))
-    ],
-  )
+    | in-None w ↦ subst (λ (ks : Vec Kernel Global). AreKernels c.args.frame.now ks.items) (sym w.kernels-is) (subst (AreKernels c.args.frame.now) (sym w.new-kernels.ensures.items) (no_kernels c.args.frame.now))
+  ],
+)
