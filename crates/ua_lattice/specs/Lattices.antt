@@ -1,0 +1,54 @@
+-- The lattice of an algebra's congruences.
+use Rattle.std.specs.Prelude.{◌≡◌, ◌≢◌, ℕ, ◌+◌, ◌<◌, ◌≤◌, ◌==◌, ◌↔◌, List, [], ◌∷◌, ◌++◌, length, slice_index_or, Contains, count_by}
+use Rattle.std.specs.List.{AllByRecursion}
+use Rattle.std.specs.List.Sorted.{IsStrictlySortedBy, IsStrictlyIncreasing}
+use Rattle.std.specs.Cmp.Lexicographic.{slice_cmp}
+use Rattle.std.specs.Ordering.{nat_cmp, ordering_then}
+use Rattle.std.specs.declared.cmp.Ordering.{Ordering}
+use Rattle.ua_table.specs.Algebras.{FiniteAlgebra}
+use Rattle.ua_part.specs.Partitions.{Partition, IsPartition, LiesBelow, IsJoin}
+use Rattle.ua_part.specs.Blocks.{block_count}
+use Rattle.ua_prod.specs.Congruences.{IsCongruence, IsCg}
+
+-- by number of blocks downwards, then by entries
+abbrev pub by_blocks : Partition → Partition → Ordering
+by_blocks p q = ordering_then (nat_cmp (block_count q) (block_count p)) (slice_cmp nat_cmp p q)
+
+-- congruences, each once, in order
+pub record AreCongruences (a : FiniteAlgebra) (list : List Partition) : Type 0 where
+  pub in_order : IsStrictlySortedBy by_blocks list
+  pub congruences : AllByRecursion (IsCongruence a) list
+
+-- all congruences, each once, in order
+pub record IsCongruenceList (a : FiniteAlgebra) (list : List Partition) : Type 0 where
+  pub in_order : IsStrictlySortedBy by_blocks list
+  pub all : (p : Partition) → Contains list p ↔ IsCongruence a p
+
+-- q covers p among these: p lies below q, they differ, and no third lies between
+pub record Covers (list : List Partition) (p q : Partition) : Type 0 where
+  pub below : LiesBelow p q
+  pub differ : p ≢ q
+  pub next : (r : Partition) → Contains list r → LiesBelow p r → LiesBelow r q → r ≢ p → r ≡ q
+
+-- the pairs of places (i, j) where the j-th covers the i-th, ascending
+pub record AreCovers (list : List Partition) (pairs : List (ℕ × ℕ)) : Type 0 where
+  pub in_order : IsStrictlySortedBy (λ (x y : ℕ × ℕ). ordering_then (nat_cmp x.0 y.0) (nat_cmp x.1 y.1)) pairs
+  pub all : (i j : ℕ) → Contains pairs (i, j) ↔ ((i < length list) × (j < length list) × Covers list (slice_index_or list i []) (slice_index_or list j []))
+
+-- the places that have exactly one lower cover, ascending
+pub record AreIrreducible (pairs : List (ℕ × ℕ)) (places : List ℕ) : Type 0 where
+  pub in_order : IsStrictlyIncreasing places
+  pub all : (j : ℕ) → Contains places j ↔ (count_by (λ (pair : ℕ × ℕ). pair.1 == j) pairs ≡ 1)
+
+-- each pair of elements has its principal congruence in the list
+abbrev pub HasPrincipals : FiniteAlgebra → List Partition → Type 0
+HasPrincipals a list = (x y : ℕ) → x < y → y < a.size → (k : Partition) × Contains list k × IsCg a ((x, y) ∷ []) k
+
+-- each two of the list have their join in it
+abbrev pub IsJoinClosed : List Partition → Type 0
+IsJoinClosed list = (p q : Partition) → Contains list p → Contains list q → (r : Partition) × Contains list r × IsJoin p q r
+
+-- the list goes on with joins of its members with p, and each of these is there
+pub record IsJoinedWith (list : List Partition) (p : Partition) (more : List Partition) : Type 0 where
+  pub joins : (r : Partition) → Contains more r → (q : Partition) × Contains list q × IsJoin q p r
+  pub all : (q : Partition) → Contains list q → (r : Partition) × Contains (list ++ more) r × IsJoin q p r

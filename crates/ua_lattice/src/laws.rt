@@ -1,0 +1,21 @@
+//! Laws of congruences and their joins: each function does nothing, and its contract states the laws.
+
+ghost use Rattle.std.specs.Prelude.{List, ◌++◌, Contains};
+ghost use Rattle.ua_table.specs.Algebras.{FiniteAlgebra, IsAlgebra};
+ghost use Rattle.ua_part.specs.Partitions.{Partition, IsPartition, IsJoin, identity_on};
+ghost use Rattle.ua_prod.specs.Congruences.{IsCongruence};
+ghost use Rattle.ua_lattice.specs.Lattices.{HasPrincipals, IsJoinClosed, IsJoinedWith};
+
+/// The join of congruences, as partitions, is a congruence; and a list of congruences that holds the
+/// identity and all principal congruences, and is closed under joins, holds every congruence (S. Burris
+/// and H. P. Sankappanavar, A Course in Universal Algebra, chapter II, on congruences).
+pub fn joins()
+    ensures congruence { (a : FiniteAlgebra) (p q r : Partition) → IsAlgebra a → IsCongruence a p → IsCongruence a q → IsJoin p q r → IsCongruence a r }
+    ensures complete { (a : FiniteAlgebra) (list : List Partition) → Contains list (identity_on a.size) → HasPrincipals a list → IsJoinClosed list → (q : Partition) → IsCongruence a q → Contains list q }
+{}
+
+/// A list that is closed under joins stays so when it goes on with the joins of its members with one
+/// partition more.
+pub fn joined_with()
+    ensures { (list more : List Partition) (p : Partition) → IsPartition p → IsJoinClosed list → IsJoinedWith list p more → IsJoinClosed (list ++ more) }
+{}
