@@ -1,4 +1,3 @@
-//! Lists whose rows are known, and operations at them.
+//! Lists whose rows are known.
 
 mod listing;
-mod operating;
