@@ -291,7 +291,7 @@ all_introduced [] = refl
 all_introduced (x ∷ xs) = ap (λ z. z ++ flat_map introduced (map bare_item xs)) (introduced_bare x) ∙ ap (λ z. introduced x ++ z) (all_introduced xs)
 
 built_names : AllByRecursion (λ w. is_name w ≡ true) forms_built
-built_names = (refl, (refl, (refl, tt)))
+built_names = (refl, (refl, (refl, (refl, (refl, (refl, tt))))))
 
 -- The law: the printed text of a script is the script, but for places.
 pub reads_back_printed : (s : Script) → IsWellFormed forms_built s → ReadsBack forms_built (printed (written s)) s

@@ -178,4 +178,4 @@ scripts built = record { IsText = IsScriptText built; may_follow = nothing_follo
 
 -- the forms that are built: the words of blocks, commands and modes
 abbrev pub forms_built : List (List ℕ)
-forms_built = codes "algebra" ∷ codes "close" ∷ codes "count" ∷ []
+forms_built = codes "algebra" ∷ codes "close" ∷ codes "count" ∷ codes "eval" ∷ codes "cg" ∷ codes "con" ∷ []

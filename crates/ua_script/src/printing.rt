@@ -5,14 +5,14 @@ ghost use Rattle.std.specs.List.{flat_map};
 ghost use Rattle.ua_text.specs.declared.symbols.Role.{Role};
 ghost use Rattle.ua_text.specs.Signs.{AreSpelled, printed};
 ghost use Rattle.ua_text.specs.Printing.{Shows};
-ghost use Rattle.ua_script.specs.declared.script.Item.{Item};
 ghost use Rattle.ua_script.specs.declared.script.Command.{Command};
 ghost use Rattle.ua_script.specs.declared.script.Provable.{Provable};
-ghost use Rattle.ua_script.specs.Grammar.{word, number, vector, mode, item, written, forms_built, IsWellFormed};
+ghost use Rattle.ua_script.specs.Grammar.{word, number, vector, mode, command, item, written, forms_built, IsWellFormed};
 ghost use Rattle.ua_script.specs.Places.{ReadsBack};
 
 use crate::script::{Command, Item, Items, Mode, Number, Provable, Script, Word};
 use std::alloc::{AllocError, Global};
+use ua_term::Written;
 use ua_text::{Printer, Role, put_block};
 
 /// Prints a name.
@@ -70,13 +70,71 @@ fn put_close(
     gens: &[Items],
     asked: Mode,
 ) -> Result<(), AllocError>
-    ensures { OnOk result (Shows printer.old printer.new (item (Item.Command (Command.Ask (Provable.Close algebra.now width.now gens.now) asked false)))) }
+    ensures { OnOk result (Shows printer.old printer.new (command (Command.Ask (Provable.Close algebra.now width.now gens.now) asked false))) }
 {
     printer.put(Role::Begins, b"close")?;
     put_word(printer, algebra)?;
     put_number(printer, Role::Amount, width)?;
     put_vectors(printer, gens)?;
     put_mode(printer, asked)
+}
+
+/// Prints an `eval`.
+fn put_eval(
+    printer: &mut Printer,
+    algebra: &Word,
+    written: &Written,
+    args: &Items,
+) -> Result<(), AllocError>
+    ensures { OnOk result (Shows printer.old printer.new (command (Command.Eval algebra.now written.now args.now))) }
+{
+    printer.put(Role::Begins, b"eval")?;
+    put_word(printer, algebra)?;
+    written.put(printer)?;
+    put_vector(printer, args)
+}
+
+/// Prints a `cg`.
+fn put_cg(printer: &mut Printer, algebra: &Word, pairs: &[Items]) -> Result<(), AllocError>
+    ensures { OnOk result (Shows printer.old printer.new (command (Command.Cg algebra.now pairs.now))) }
+{
+    printer.put(Role::Begins, b"cg")?;
+    put_word(printer, algebra)?;
+    put_vectors(printer, pairs)
+}
+
+/// Prints a `con`.
+fn put_con(printer: &mut Printer, algebra: &Word) -> Result<(), AllocError>
+    ensures { OnOk result (Shows printer.old printer.new (command (Command.Con algebra.now))) }
+{
+    printer.put(Role::Begins, b"con")?;
+    put_word(printer, algebra)
+}
+
+/// Prints a command in a form that is built.
+fn put_command(printer: &mut Printer, asked: &Command) -> Result<(), AllocError>
+    requires spelled { AreSpelled forms_built (command asked.now) }
+    ensures { OnOk result (Shows printer.old printer.new (command asked.now)) }
+{
+    match asked {
+        Command::Ask {
+            what: Provable::Close {
+                algebra,
+                width,
+                gens,
+            },
+            mode,
+            cert: false,
+        } => put_close(printer, algebra, width, gens.as_slice(), *mode),
+        Command::Eval {
+            algebra,
+            term,
+            args,
+        } => put_eval(printer, algebra, term, args),
+        Command::Cg { algebra, pairs } => put_cg(printer, algebra, pairs.as_slice()),
+        Command::Con { algebra } => put_con(printer, algebra),
+        _ => unreachable!(),
+    }
 }
 
 /// Prints an item in a form that is built.
@@ -86,18 +144,7 @@ fn put_item(printer: &mut Printer, entry: &Item) -> Result<(), AllocError>
 {
     match entry {
         Item::Block(a) => put_block(printer, a),
-        Item::Command(
-            Command::Ask {
-                what: Provable::Close {
-                    algebra,
-                    width,
-                    gens,
-                },
-                mode,
-                cert: false,
-            },
-        ) => put_close(printer, algebra, width, gens.as_slice(), *mode),
-        Item::Command(_) => unreachable!(),
+        Item::Command(asked) => put_command(printer, asked),
     }
 }
 

@@ -4,8 +4,9 @@
 ghost use Rattle.std.specs.Prelude.{◌≡◌, ◌<◌, ◌≤◌, ◌∷◌, ◌++◌, ℕ, List, [], length, map, true, false, None, IfOk, IfSome, codes};
 ghost use Rattle.std.specs.List.{flat_map, AllByRecursion};
 ghost use Rattle.ua_table.specs.Names.{is_name};
+ghost use Rattle.ua_text.specs.Words.{same};
 ghost use Rattle.ua_text.specs.declared.symbols.Role.{Role};
-ghost use Rattle.ua_text.specs.Signs.{Wanted, Front};
+ghost use Rattle.ua_text.specs.Signs.{Wanted, AreSpelled, Front};
 ghost use Rattle.ua_text.specs.Blocks.{starts_no_number};
 ghost use Rattle.ua_text.specs.Tokens.{tokens_left, source_of};
 ghost use Rattle.ua_text.specs.Reading.{Gives, begins_with};
@@ -16,12 +17,15 @@ ghost use Rattle.ua_script.specs.declared.script.Mode.{Mode};
 ghost use Rattle.ua_script.specs.declared.script.Provable.{Provable};
 ghost use Rattle.ua_script.specs.declared.script.Command.{Command};
 ghost use Rattle.ua_script.specs.declared.script.Item.{Item};
-ghost use Rattle.ua_script.specs.Grammar.{word, number, vector, mode, item, IsItem};
+ghost use Rattle.ua_term.specs.Phrases.{Phrase, IsNested};
+ghost use Rattle.ua_term.specs.Terms.{term};
+ghost use Rattle.ua_script.specs.Grammar.{word, number, vector, mode, command, item, IsItem};
 ghost use Rattle.ua_script.specs.Reading.{IsNumber, IsShort, IsShortVector, begins_item, IsReadableItem};
 
 use crate::script::{Command, Item, Items, Mode, Number, Provable, Word};
 use std::alloc::Global;
 use ua_table::Listed;
+use ua_term::term;
 use ua_text::{
     Miss, Place, Token, Tokens, exact, is_next, is_over, name_of, next, number_of, number_value,
     read_body,
@@ -164,6 +168,72 @@ fn close(alloc: Global, tokens: &mut Tokens<'_>) -> Result<Command, Miss>
     })
 }
 
+/// An `eval` behind its first word.
+fn eval(alloc: Global, tokens: &mut Tokens<'_>) -> Result<Command, Miss>
+    ensures only { (a : Word) (p : Phrase) (v : Items) (ws : List Wanted) → is_name a.name ≡ true → IsNested 64 p → AreSpelled [] (term p) → IsShortVector v → Front (tokens_left tokens.old) (word a ∷ (term p ++ (vector v ++ ws))) [] → Gives result (λ x. (x ≡ Command.Eval a p v) × Front (tokens_left tokens.new) ws []) }
+    ensures progress { IfOk result (λ x. length (tokens_left tokens.new) < length (tokens_left tokens.old)) }
+    ensures source { source_of tokens.new ≡ source_of tokens.old }
+{
+    let algebra = word(alloc, tokens)?;
+    let term = term(alloc, tokens, 64)?;
+    let args = vector(alloc, tokens)?;
+    Ok(Command::Eval {
+        algebra,
+        term,
+        args,
+    })
+}
+
+/// A `cg` behind its first word.
+fn cg(alloc: Global, tokens: &mut Tokens<'_>) -> Result<Command, Miss>
+    ensures only { (a : Word) (vs : List Items) (ws : List Wanted) → is_name a.name ≡ true → AllByRecursion IsShortVector vs → begins_item ws → Front (tokens_left tokens.old) (word a ∷ (flat_map vector vs ++ ws)) [] → Gives result (λ x. (x ≡ Command.Cg a vs) × Front (tokens_left tokens.new) ws []) }
+    ensures progress { IfOk result (λ x. length (tokens_left tokens.new) < length (tokens_left tokens.old)) }
+    ensures source { source_of tokens.new ≡ source_of tokens.old }
+{
+    let algebra = word(alloc, tokens)?;
+    let pairs = vectors(alloc, tokens)?;
+    Ok(Command::Cg { algebra, pairs })
+}
+
+/// A `con` behind its first word.
+fn con(alloc: Global, tokens: &mut Tokens<'_>) -> Result<Command, Miss>
+    ensures only { (a : Word) (ws : List Wanted) → is_name a.name ≡ true → Front (tokens_left tokens.old) (word a ∷ ws) [] → Gives result (λ x. (x ≡ Command.Con a) × Front (tokens_left tokens.new) ws []) }
+    ensures progress { IfOk result (λ x. length (tokens_left tokens.new) < length (tokens_left tokens.old)) }
+    ensures source { source_of tokens.new ≡ source_of tokens.old }
+{
+    let algebra = word(alloc, tokens)?;
+    Ok(Command::Con { algebra })
+}
+
+/// Whether the token is this word.
+fn is_word(token: &Token<'_>, word: &[u8]) -> bool
+    ensures { result ≡ same token.now.text.now word.now }
+{
+    token.text == word
+}
+
+/// A command.
+fn command(alloc: Global, tokens: &mut Tokens<'_>) -> Result<Command, Miss>
+    ensures only { (c : Command) (ws : List Wanted) → IsReadableItem (Item.Command c) → begins_item ws → Front (tokens_left tokens.old) (command c ++ ws) [] → Gives result (λ x. (x ≡ c) × Front (tokens_left tokens.new) ws []) }
+    ensures progress { IfOk result (λ x. length (tokens_left tokens.new) < length (tokens_left tokens.old)) }
+    ensures source { source_of tokens.new ≡ source_of tokens.old }
+{
+    let first = next(tokens)?;
+    if is_word(&first, b"close") {
+        return close(alloc, tokens);
+    }
+    if is_word(&first, b"eval") {
+        return eval(alloc, tokens);
+    }
+    if is_word(&first, b"cg") {
+        return cg(alloc, tokens);
+    }
+    if is_word(&first, b"con") {
+        return con(alloc, tokens);
+    }
+    Err(Miss::Other)
+}
+
 /// A block or a command.
 fn item(alloc: Global, tokens: &mut Tokens<'_>) -> Result<Item, Miss>
     ensures only { (i : Item) (ws : List Wanted) → IsReadableItem i → begins_item ws → Front (tokens_left tokens.old) (item i ++ ws) [] → Gives result (λ x. (x ≡ i) × Front (tokens_left tokens.new) ws []) }
@@ -174,8 +244,7 @@ fn item(alloc: Global, tokens: &mut Tokens<'_>) -> Result<Item, Miss>
         exact(tokens, b"algebra")?;
         return Ok(Item::Block(read_body(alloc, tokens)?));
     }
-    exact(tokens, b"close")?;
-    Ok(Item::Command(close(alloc, tokens)?))
+    Ok(Item::Command(command(alloc, tokens)?))
 }
 
 /// All items up to the end.

@@ -18,7 +18,7 @@ use std::alloc::Global;
 use ua_text::{Form, Grammar, Part, ReadFault, Table, TextKind, Tokens, find_fault, out_of_memory};
 
 /// The words of the forms that are built.
-const BUILT: &[&[u8]] = &[b"algebra", b"close", b"count"];
+const BUILT: &[&[u8]] = &[b"algebra", b"close", b"count", b"eval", b"cg", b"con"];
 
 /// Blocks and commands: a row for each, with the parts behind its word.
 const COMMANDS: &[Form] = &[

@@ -3,6 +3,8 @@ pub mod Sessions
 pub mod Refusals
 pub mod Operands
 pub mod CloseCommand
+pub mod EvalCommand
+pub mod CgCommand
 pub mod Replies
 pub mod Outputs
 pub mod Served

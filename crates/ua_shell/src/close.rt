@@ -11,7 +11,7 @@ ghost use Rattle.ua_shell.specs.Operands.{values_of, vectors_of, Fits};
 ghost use Rattle.ua_shell.specs.CloseCommand.{close_errors, closure_text, IsPermitted, CloseReply};
 ghost use Rattle.ua_shell.specs.Refusals.{first_refusal};
 
-use crate::operands::{find_algebra, first_above, first_other_length, first_vector_above};
+use crate::operands::{elements, find_algebra, first_other_length, first_vector_above};
 use crate::refusals::{Refusal, refusal_reply};
 use crate::texts::{push_number, push_rows};
 use std::alloc::{AllocError, Global};
@@ -19,7 +19,7 @@ use std::thread::Threads;
 use ua_close::{CloseError, Closure, close_set};
 use ua_script::{Items, Mode, Number, Word};
 use ua_table::limits::{BUDGET, SIZE};
-use ua_table::{Algebra, Elem, Frame, Gate, Run, Vectors};
+use ua_table::{Algebra, Frame, Gate, Run, Vectors};
 
 /// The algebra of a `close`, or the first of its errors.
 fn checked<'a>(
@@ -45,19 +45,6 @@ fn checked<'a>(
         return Err(Refusal::Shape(place));
     }
     Ok(known)
-}
-
-/// The elements that are written.
-fn elements(alloc: Global, values: &[Number], size: u32) -> Result<Vec<Elem>, AllocError>
-    requires below { AllByRecursion (λ (n : Number). n.value < size) values.now }
-    requires small { size ≤ SIZE }
-    ensures { IfOk result (λ v. v.items ≡ values_of values.now) }
-{
-    let mut items = Vec::with_capacity(alloc, values.len())?;
-    for n in values {
-        items.push(n.value as Elem)?;
-    }
-    Ok(items)
 }
 
 /// The vectors that are written.

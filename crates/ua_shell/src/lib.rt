@@ -1,7 +1,9 @@
 //! The session, the replies and the top call.
 #![tactic(auto)]
 
+mod cg;
 mod close;
+mod eval;
 mod operands;
 mod refusals;
 mod run_call;

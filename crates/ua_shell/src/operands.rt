@@ -1,11 +1,16 @@
-//! The checks that commands share: the first place where each fails.
+//! The checks that commands share, each the first place where it fails, and the values that are written.
 
-ghost use Rattle.std.specs.Prelude.{◌≡◌, option_copied};
+ghost use Rattle.std.specs.Prelude.{◌≡◌, ◌<◌, ◌≤◌, option_copied, IfOk};
+ghost use Rattle.std.specs.List.{AllByRecursion};
+ghost use Rattle.ua_table.specs.declared.limits.TheConstants.{SIZE};
+ghost use Rattle.ua_script.specs.declared.script.Number.{Number};
 ghost use Rattle.ua_shell.specs.Sessions.{lookup};
-ghost use Rattle.ua_shell.specs.Operands.{above, vectors_above, other_length, first_of};
+ghost use Rattle.ua_shell.specs.Operands.{values_of, above, vectors_above, other_length, first_of};
 
+use std::alloc::{AllocError, Global};
 use ua_script::{Items, Number};
-use ua_table::Algebra;
+use ua_table::limits::SIZE;
+use ua_table::{Algebra, Elem};
 use ua_text::Place;
 
 /// The algebra of this name.
@@ -49,4 +54,17 @@ pub fn first_other_length(width: u32, vectors: &[Items]) -> Option<Place>
         }
     }
     None
+}
+
+/// The elements that are written.
+pub fn elements(alloc: Global, values: &[Number], size: u32) -> Result<Vec<Elem>, AllocError>
+    requires below { AllByRecursion (λ (n : Number). n.value < size) values.now }
+    requires small { size ≤ SIZE }
+    ensures { IfOk result (λ v. v.items ≡ values_of values.now) }
+{
+    let mut items = Vec::with_capacity(alloc, values.len())?;
+    for n in values {
+        items.push(n.value as Elem)?;
+    }
+    Ok(items)
 }

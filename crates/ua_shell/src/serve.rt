@@ -7,7 +7,9 @@ ghost use Rattle.ua_shell.specs.Sessions.{bounds_of};
 ghost use Rattle.ua_shell.specs.Outputs.{IsServed};
 ghost use Rattle.ua_shell.specs.Served.{Serves};
 
+use crate::cg::answer_cg;
 use crate::close::answer_close;
+use crate::eval::answer_eval;
 use std::alloc::{AllocError, Global};
 use std::thread::Threads;
 use ua_io::{Sink, write_all};
@@ -33,28 +35,33 @@ fn answer<R: Threads + Sync, G: Gate>(
     requires { IsBuilt command.now }
     ensures { IfOk result (λ v. Reply session.now (bounds_of run.now.budget run.now.workers) command.now v.items) }
 {
-    let Command::Ask {
-        what: Provable::Close {
+    match command {
+        Command::Ask {
+            what: Provable::Close {
+                algebra,
+                width,
+                gens,
+            },
+            mode,
+            cert: false,
+        } => answer_close(
+            rt,
+            alloc,
+            session,
+            run,
             algebra,
-            width,
-            gens,
-        },
-        mode,
-        cert: false,
-    } = command
-    else {
-        unreachable!()
-    };
-    answer_close(
-        rt,
-        alloc,
-        session,
-        run,
-        algebra,
-        *width,
-        gens.as_slice(),
-        *mode,
-    )
+            *width,
+            gens.as_slice(),
+            *mode,
+        ),
+        Command::Eval {
+            algebra,
+            term,
+            args,
+        } => answer_eval(alloc, session, algebra, term, args),
+        Command::Cg { algebra, pairs } => answer_cg(alloc, session, algebra, pairs.as_slice()),
+        _ => unreachable!(),
+    }
 }
 
 /// A block's algebra joins the session.

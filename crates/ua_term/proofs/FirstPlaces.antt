@@ -1,12 +1,12 @@
 -- The first fault of a term, word by word.
-use Rattle.std.proofs.Common.{◌≡◌, ℕ, zero, suc, ◌+◌, ◌<◌, ◌≤◌, ◌==◌, Bool, true, false, ◌||◌, not, List, [], ◌∷◌, ◌++◌, length, map, take, get_or, slice_index, Some, None, refl, sym, ap, ◌∙◌, arith}
+use Rattle.std.proofs.Common.{◌≡◌, ℕ, zero, suc, ◌+◌, ◌<◌, ◌≤◌, ◌==◌, Bool, true, false, ◌||◌, ◌&&◌, nat_lt, not, List, [], ◌∷◌, ◌++◌, length, map, take, get_or, slice_index, Some, None, refl, sym, ap, ◌∙◌, arith}
 use Rattle.std.proofs.Math.Seq.{take-suc}
 use Rattle.std.proofs.lemmas.List.{map-append}
 use Rattle.ua_table.specs.Names.{is_variable}
 use Rattle.ua_table.specs.Algebras.{FiniteAlgebra, arities_of}
 use Rattle.ua_text.specs.declared.tokens.Place.{Place}
 use Rattle.ua_term.specs.Phrases.{Phrase, phrase, phrases, word_of, place_of, arguments_of, words_in, all_words}
-use Rattle.ua_term.specs.Meanings.{place_if, first_place, how_many, has_operation, operation_number, unknown_operations, all_unknown_operations, misshapen, all_misshapen, variable_of, variable_number, tree_in, trees_in}
+use Rattle.ua_term.specs.Meanings.{place_if, first_place, how_many, has_operation, operation_number, unknown_operations, all_unknown_operations, variables_above, all_variables_above, misshapen, all_misshapen, variable_of, variable_number, tree_in, trees_in}
 use Rattle.ua_table.specs.Terms.{Application, more as more_trees}
 use Rattle.ua_term.specs.Trees.{trees}
 
@@ -61,6 +61,10 @@ pub misshapen_in_list : (a : FiniteAlgebra) (ps : List Phrase) → all_misshapen
 misshapen_in_list a [] = refl
 misshapen_in_list a (p ∷ ps) = ap (λ z. misshapen a p ++ z) (misshapen_in_list a ps)
 
+pub above_in_list : (n : ℕ) (ps : List Phrase) → all_variables_above n (phrases ps) ≡ all_places (variables_above n) ps
+above_in_list n [] = refl
+above_in_list n (p ∷ ps) = ap (λ z. variables_above n p ++ z) (above_in_list n ps)
+
 pub counted_in_list : (ps : List Phrase) → how_many (phrases ps) ≡ length ps
 counted_in_list [] = refl
 counted_in_list (p ∷ ps) = ap suc (counted_in_list ps)
@@ -80,6 +84,30 @@ unknown_here a (phrase word at arguments) place e f = ap Some f ∙ own_first (n
 
 pub unknown_behind : (a : FiniteAlgebra) (p : Phrase) (ps : List Phrase) → arguments_of p ≡ phrases ps → false ≡ not (is_variable (word_of p) || has_operation a (word_of p)) → unknown_operations a p ≡ all_places (unknown_operations a) ps
 unknown_behind a (phrase word at arguments) ps e f = own_none (not (is_variable word || has_operation a word)) at (all_unknown_operations a arguments) (sym f) ∙ ap (all_unknown_operations a) e ∙ unknown_in_list a ps
+
+pub above_here : (n : ℕ) (p : Phrase) (place : Place) → true ≡ is_variable (word_of p) && not (nat_lt (variable_number (word_of p)) n) → place ≡ place_of p → Some place ≡ first_place (variables_above n p)
+above_here n (phrase word at arguments) place e f = ap Some f ∙ own_first (is_variable word && not (nat_lt (variable_number word) n)) at (all_variables_above n arguments) (sym e)
+
+pub above_behind : (n : ℕ) (p : Phrase) (ps : List Phrase) → arguments_of p ≡ phrases ps → false ≡ is_variable (word_of p) && not (nat_lt (variable_number (word_of p)) n) → variables_above n p ≡ all_places (variables_above n) ps
+above_behind n (phrase word at arguments) ps e f = own_none (is_variable word && not (nat_lt (variable_number word) n)) at (all_variables_above n arguments) (sym f) ∙ ap (all_variables_above n) e ∙ above_in_list n ps
+
+pub no_variable : (word : List ℕ) → None ≡ variable_of word → is_variable word ≡ false
+no_variable word e = at (is_variable word) refl
+  where
+    at : (b : Bool) → is_variable word ≡ b → b ≡ false
+    at false f = refl
+    at true f = let g : None ≡ Some (variable_number word) = rw f at e in cc
+
+-- the test on a word, by the variable that it is
+pub is_above : (word : List ℕ) (i n : ℕ) (b : Bool) → Some i ≡ variable_of word → b ≡ not (nat_lt i n) → b ≡ is_variable word && not (nat_lt (variable_number word) n)
+is_above word i n b e f = at (is_variable word) refl
+  where
+    at : (v : Bool) → is_variable word ≡ v → b ≡ v && not (nat_lt (variable_number word) n)
+    at true g = let h : Some i ≡ Some (variable_number word) = rw g at e in let k : i ≡ variable_number word = cc in f ∙ ap (λ z. not (nat_lt z n)) k
+    at false g = let h : Some i ≡ None = rw g at e in cc
+
+pub none_above : (word : List ℕ) (n : ℕ) → None ≡ variable_of word → false ≡ is_variable word && not (nat_lt (variable_number word) n)
+none_above word n e = ap (λ v. v && not (nat_lt (variable_number word) n)) (sym (no_variable word e))
 
 pub misshapen_here : (a : FiniteAlgebra) (p : Phrase) (place : Place) → true ≡ not (is_variable (word_of p) || (how_many (arguments_of p) == slice_index (arities_of a) (operation_number a (word_of p)))) → place ≡ place_of p → Some place ≡ first_place (misshapen a p)
 misshapen_here a (phrase word at arguments) place e f = ap Some f ∙ own_first (not (is_variable word || (how_many arguments == slice_index (arities_of a) (operation_number a word)))) at (all_misshapen a arguments) (sym e)
@@ -121,13 +149,6 @@ known_arguments a (phrase word at arguments) ps e h = at_test (not (is_variable 
     at_test : (b : Bool) → place_if b at ++ all_unknown_operations a arguments ≡ [] → all_places (unknown_operations a) ps ≡ []
     at_test true h = cc
     at_test false h = sym (ap (all_unknown_operations a) e ∙ unknown_in_list a ps) ∙ h
-
-pub no_variable : (word : List ℕ) → None ≡ variable_of word → is_variable word ≡ false
-no_variable word e = at (is_variable word) refl
-  where
-    at : (b : Bool) → is_variable word ≡ b → b ≡ false
-    at false f = refl
-    at true f = let g : None ≡ Some (variable_number word) = rw f at e in cc
 
 pub unknown_word : {E : Type 0} (a : FiniteAlgebra) (p : Phrase) → unknown_operations a p ≡ [] → is_variable (word_of p) ≡ false → has_operation a (word_of p) ≡ false → E
 unknown_word a p h e f = let s = unknown_here a p (place_of p) (neither (is_variable (word_of p)) (has_operation a (word_of p)) e f) refl in let g = ap first_place h in absurd (some_none (s ∙ g))

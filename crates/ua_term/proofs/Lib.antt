@@ -7,3 +7,4 @@ pub mod Naming
 pub mod FirstPlaces
 pub mod TermReading
 pub mod TermParsing
+pub mod PrintedPhrases

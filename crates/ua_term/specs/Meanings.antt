@@ -1,5 +1,5 @@
 -- What a term as it is written stands for in an algebra, and how a term is written in it.
-use Rattle.std.specs.Prelude.{ℕ, suc, ◌==◌, ◌||◌, nat_lt, Bool, true, false, not, if◌then◌else◌, List, [], ◌∷◌, ◌++◌, drop, min, length, nat_eq, slice_index, slice_index_or, Option, Some, None}
+use Rattle.std.specs.Prelude.{ℕ, suc, ◌==◌, ◌||◌, ◌&&◌, nat_lt, Bool, true, false, not, if◌then◌else◌, List, [], ◌∷◌, ◌++◌, drop, min, length, nat_eq, slice_index, slice_index_or, Option, Some, None}
 use Rattle.std.specs.Cmp.Lexicographic.{pointwise}
 use Rattle.std.specs.Fmt.{decimal}
 use Rattle.std.specs.List.{position_or_len}
@@ -52,6 +52,15 @@ abbrev mutual
   pub all_unknown_operations : FiniteAlgebra → Phrases → List Place
   all_unknown_operations a nothing = []
   all_unknown_operations a (also p ps) = unknown_operations a p ++ all_unknown_operations a ps
+
+-- the places of variables whose number is not below n, in the order of the text
+abbrev mutual
+  pub variables_above : ℕ → Phrase → List Place
+  variables_above n (phrase word place arguments) = place_if (is_variable word && not (nat_lt (variable_number word) n)) place ++ all_variables_above n arguments
+
+  pub all_variables_above : ℕ → Phrases → List Place
+  all_variables_above n nothing = []
+  all_variables_above n (also p ps) = variables_above n p ++ all_variables_above n ps
 
 -- the places of operations with another number of arguments than their arity
 abbrev mutual

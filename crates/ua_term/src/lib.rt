@@ -5,9 +5,11 @@ mod faults;
 mod reading;
 mod resolving;
 mod terms;
+mod writing;
 mod written;
 
 pub use faults::TermFault;
+pub use reading::term;
 pub use terms::{Term, eval};
 pub use written::Written;
 

@@ -38,11 +38,11 @@ fn arity_of(algebra: &Algebra, name: &[u8]) -> usize
 }
 
 impl Written {
-    ghost use Rattle.std.specs.Prelude.{◌≡◌, ◌||◌, ◌==◌, not, [], slice_index, IfOk};
+    ghost use Rattle.std.specs.Prelude.{◌≡◌, ◌||◌, ◌&&◌, ◌==◌, nat_lt, not, [], slice_index, IfOk};
     ghost use Rattle.ua_table.specs.Names.{is_variable};
     ghost use Rattle.ua_table.specs.Algebras.{arities_of};
     ghost use Rattle.ua_term.specs.Phrases.{word_of, place_of, arguments_of};
-    ghost use Rattle.ua_term.specs.Meanings.{variable_of, how_many, has_operation, operation_number, first_place, unknown_operations, misshapen, tree_in};
+    ghost use Rattle.ua_term.specs.Meanings.{variable_of, variable_number, how_many, has_operation, operation_number, first_place, unknown_operations, variables_above, misshapen, tree_in};
     ghost use Rattle.ua_term.specs.Resolved.{IsResolved};
     ghost use Rattle.ua_term.specs.Trees.{tree_of};
 
@@ -98,6 +98,32 @@ impl Written {
         let args = self.args.as_slice();
         for i in 0..args.len() {
             if let Some(place) = args[i].first_unknown(algebra) {
+                return Some(place);
+            }
+        }
+        None
+    }
+
+    /// Whether the word is a variable whose number is not below the count.
+    fn is_variable_above(&self, count: usize) -> bool
+        ensures { result ≡ is_variable (word_of self.now) && not (nat_lt (variable_number (word_of self.now)) count) }
+    {
+        match self.variable() {
+            Some(i) => i as usize >= count,
+            None => false,
+        }
+    }
+
+    /// The place of the first variable whose number is not below the count.
+    pub fn first_variable_above(&self, count: usize) -> Option<Place>
+        ensures { result ≡ first_place (variables_above count self.now) }
+    {
+        if self.is_variable_above(count) {
+            return Some(self.place());
+        }
+        let args = self.args.as_slice();
+        for i in 0..args.len() {
+            if let Some(place) = args[i].first_variable_above(count) {
                 return Some(place);
             }
         }
