@@ -7,3 +7,5 @@ pub mod Naming
 pub mod FirstPlaces
 pub mod TermReading
 pub mod TermParsing
+pub mod PrintedTerms
+pub mod PrintedBack

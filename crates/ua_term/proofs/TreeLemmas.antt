@@ -14,7 +14,7 @@ use Rattle.ua_term.specs.declared.terms.Term.TheOpen as layers
 use Rattle.ua_term.specs.declared.terms.Term.TheViews.{Op, rolls-Op}
 use Rattle.ua_term.specs.declared.terms.Term.TheVariants.{Var, rolls-Var}
 use Rattle.ua_term.specs.declared.terms.Term.TheFolds.{fold-roll-Term}
-use Rattle.ua_term.specs.Trees.{tree_of, trees, tree_step}
+use Rattle.ua_term.specs.Trees.{tree_of, trees, tree_step, node_count, nodes_of}
 
 pub op_tree : (f : ℕ) (v : _) → tree_of (Op f v) ≡ Application f (trees (map tree_of v.items))
 unfolding Rattle.ua_term.specs.declared.terms.Term.TheViews.roll-Term denote.Hole.Carrier.roll
@@ -94,3 +94,16 @@ applied_value a xs t f o v values e h g same =
     let facts = operation_facts a f o h g in
     ap (λ n. slice_index o.values (numeral n values)) facts.size ∙ ap (λ (table : List ℕ). slice_index table (numeral a.size values)) (sym facts.values)
     ∙ ap (λ zs. value_at a f zs) (same ∙ sym (values_of_trees a xs v.items)) ∙ ap (λ z. eval a xs z) (sym (ap tree_of e ∙ op_tree f v))
+
+-- an argument has fewer nodes
+pub fewer_nodes : (t : Term) (f : ℕ) (v : _) (i : ℕ) (x : Term) → t ≡ Op f v → i < length v.items → x ≡ get_or v.items i x → node_count (tree_of x) < node_count (tree_of t)
+fewer_nodes t f v i x e l g =
+    let n : node_count (tree_of t) ≡ suc (nodes_of (trees (map tree_of v.items))) = ap node_count (ap tree_of e ∙ op_tree f v) in
+    let m = among v.items i x l in
+    let same : node_count (tree_of x) ≡ node_count (tree_of (get_or v.items i x)) = ap (λ (y : Term). node_count (tree_of y)) g in
+    omega arith
+  where
+    among : (ts : List Term) (i : ℕ) (d : Term) → i < length ts → node_count (tree_of (get_or ts i d)) ≤ nodes_of (trees (map tree_of ts))
+    among [] i d l = absurd (omega arith)
+    among (t ∷ ts) zero d l = omega arith
+    among (t ∷ ts) (suc i) d l = let r = among ts i d (omega arith) in omega arith

@@ -5,3 +5,4 @@ pub mod Trees
 pub mod Meanings
 pub mod Resolved
 pub mod Reading
+pub mod Printing

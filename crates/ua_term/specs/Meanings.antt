@@ -1,14 +1,13 @@
--- What a term as it is written stands for in an algebra, and how a term is written in it.
-use Rattle.std.specs.Prelude.{ℕ, suc, ◌==◌, ◌||◌, nat_lt, Bool, true, false, not, if◌then◌else◌, List, [], ◌∷◌, ◌++◌, drop, min, length, nat_eq, slice_index, slice_index_or, Option, Some, None}
+-- What a term as it is written stands for in an algebra.
+use Rattle.std.specs.Prelude.{ℕ, suc, ◌==◌, ◌||◌, nat_lt, Bool, true, false, not, if◌then◌else◌, List, [], ◌∷◌, ◌++◌, drop, min, length, nat_eq, slice_index, Option, Some, None}
 use Rattle.std.specs.Cmp.Lexicographic.{pointwise}
-use Rattle.std.specs.Fmt.{decimal}
 use Rattle.std.specs.List.{position_or_len}
 use Rattle.std.specs.Str.Parse.{digits_value}
 use Rattle.ua_table.specs.Names.{is_variable}
 use Rattle.ua_table.specs.Algebras.{FiniteAlgebra, arities_of, names_of}
 use Rattle.ua_table.specs.Terms.{Tree, Generator, Application, Trees, none, more}
 use Rattle.ua_text.specs.declared.tokens.Place.{Place}
-use Rattle.ua_term.specs.Phrases.{Phrase, Phrases, phrase, nowhere, none as nothing, more as also}
+use Rattle.ua_term.specs.Phrases.{Phrase, Phrases, phrase, none as nothing, more as also}
 
 -- the number, or the greatest of 32 bits where it is more
 abbrev pub saturated : ℕ → ℕ
@@ -70,17 +69,3 @@ abbrev mutual
   pub trees_in : FiniteAlgebra → Phrases → Trees
   trees_in a nothing = none
   trees_in a (also p ps) = more (tree_in a p) (trees_in a ps)
-
--- the name of operation f
-abbrev pub name_at : FiniteAlgebra → ℕ → List ℕ
-name_at a f = slice_index_or (names_of a.operations) f []
-
--- how a term is written: variables as x and a number
-abbrev mutual
-  pub phrase_of : FiniteAlgebra → Tree → Phrase
-  phrase_of a (Generator i) = phrase (120 ∷ decimal i) nowhere nothing
-  phrase_of a (Application f ts) = phrase (name_at a f) nowhere (phrases_of a ts)
-
-  pub phrases_of : FiniteAlgebra → Trees → Phrases
-  phrases_of a none = nothing
-  phrases_of a (more t ts) = also (phrase_of a t) (phrases_of a ts)

@@ -2,6 +2,8 @@
 #![tactic(auto)]
 
 mod faults;
+mod parsing;
+mod printing;
 mod reading;
 mod resolving;
 mod terms;
