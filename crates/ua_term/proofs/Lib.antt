@@ -9,3 +9,5 @@ pub mod TermReading
 pub mod TermParsing
 pub mod PrintedTerms
 pub mod PrintedBack
+pub mod StepLaws
+pub mod ValueLaws

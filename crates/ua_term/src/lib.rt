@@ -6,10 +6,13 @@ mod parsing;
 mod printing;
 mod reading;
 mod resolving;
+mod steps;
 mod terms;
+mod values;
 mod written;
 
 pub use faults::TermFault;
+pub use steps::{Steps, StepsFault};
 pub use terms::{Term, eval};
 pub use written::Written;
 
