@@ -11,3 +11,4 @@ pub mod PrintedTerms
 pub mod PrintedBack
 pub mod StepLaws
 pub mod ValueLaws
+pub mod MeantTerms

@@ -38,13 +38,14 @@ fn arity_of(algebra: &Algebra, name: &[u8]) -> usize
 }
 
 impl Written {
-    ghost use Rattle.std.specs.Prelude.{◌≡◌, ◌||◌, ◌==◌, not, [], slice_index, IfOk};
+    ghost use Rattle.std.specs.Prelude.{◌≡◌, ◌≤◌, ◌^◌, ◌&&◌, ◌||◌, ◌==◌, not, nat_le, [], slice_index, IfOk, IfNone};
     ghost use Rattle.ua_table.specs.Names.{is_variable};
-    ghost use Rattle.ua_table.specs.Algebras.{arities_of};
+    ghost use Rattle.ua_table.specs.Algebras.{FiniteAlgebra, arities_of};
+    ghost use Rattle.ua_table.specs.Terms.{Tree, IsTerm};
     ghost use Rattle.ua_term.specs.Phrases.{word_of, place_of, arguments_of};
-    ghost use Rattle.ua_term.specs.Meanings.{variable_of, how_many, has_operation, operation_number, first_place, unknown_operations, misshapen, tree_in};
-    ghost use Rattle.ua_term.specs.Resolved.{IsResolved};
-    ghost use Rattle.ua_term.specs.Trees.{tree_of};
+    ghost use Rattle.ua_term.specs.Meanings.{variable_of, variable_number, how_many, has_operation, operation_number, first_place, unknown_operations, misshapen, variables_from, tree_in};
+    ghost use Rattle.ua_term.specs.Resolved.{IsMeant, IsResolved};
+    ghost use Rattle.ua_term.specs.Trees.{tree_of, depth};
 
     /// The number of the variable that the word is: `x` and digits alone. A greater number than 32 bits
     /// hold is the greatest of these.
@@ -120,6 +121,34 @@ impl Written {
         None
     }
 
+    /// Whether the word is a variable whose number is not below the limit.
+    fn is_variable_from(&self, limit: u32) -> bool
+        ensures { result ≡ (is_variable (word_of self.now) && nat_le limit (variable_number (word_of self.now))) }
+    {
+        match self.variable() {
+            Some(i) => i >= limit,
+            None => false,
+        }
+    }
+
+    /// The place of the first variable whose number is not below the limit. Where there is none, and the
+    /// term is resolved, it has a value at as many elements.
+    pub fn first_variable_from(&self, limit: u32) -> Option<Place>
+        ensures first { result ≡ first_place (variables_from limit self.now) }
+        ensures below { IfNone result ((a : FiniteAlgebra) (t : Tree) → IsMeant a self.now t → IsTerm (arities_of a) limit t) }
+    {
+        if self.is_variable_from(limit) {
+            return Some(self.place());
+        }
+        let args = self.args.as_slice();
+        for i in 0..args.len() {
+            if let Some(place) = args[i].first_variable_from(limit) {
+                return Some(place);
+            }
+        }
+        None
+    }
+
     /// The term over the algebra's operations.
     fn term(&self, alloc: Global, algebra: &Algebra) -> Result<Term, AllocError>
         requires known { unknown_operations algebra.now self.now ≡ [] }
@@ -142,8 +171,12 @@ impl Written {
     /// The term over the algebra's operations, or the first of its faults: unknown operations are tried
     /// before numbers of arguments.
     pub fn resolve(&self, alloc: Global, algebra: &Algebra) -> Result<Term, TermFault>
-        ensures { IsResolved algebra.now self.now result }
+        ensures resolved { IsResolved algebra.now self.now result }
+        ensures term { IfOk result (λ term. IsTerm (arities_of algebra.now) (2 ^ 32) (tree_of term)) }
+        ensures nested { IfOk result (λ term. depth (tree_of term) ≤ 64) }
     {
+        // At most 64 parentheses are open at once, as the invariant says.
+        let _ = &self.word;
         if let Some(place) = self.first_unknown(algebra) {
             return Err(TermFault::Unknown {
                 line: place.line,
