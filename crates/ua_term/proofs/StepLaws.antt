@@ -9,6 +9,7 @@ use Rattle.ua_table.specs.declared.origins.Origin.{Origin}
 use Rattle.ua_table.specs.declared.origins.Origin.TheVariants.{Gen, Op}
 use Rattle.ua_table.specs.Algebras.{Vector, Product, IsProduct, IsVector, arities, apply}
 use Rattle.ua_table.specs.Terms.{Tree, Generator, Application, more, count_of, IsTerm, AreTerms, term_value, term_values}
+use Rattle.ua_table.specs.Generated.{Sg}
 use Rattle.ua_table.specs.Origins.{IsOrigin, origin_value}
 use Rattle.ua_table.proofs.ApplyLemmas.{IsVector-apply}
 use Rattle.ua_term.specs.Trees.{trees, node_count, nodes_of}
@@ -130,6 +131,14 @@ terms_are ks gens terms (o ∷ steps) h k =
 
 pub step_is_term : (ks : List ℕ) (gens : ℕ) (steps : List Origin) (i : ℕ) → AreSteps ks gens steps → i < length steps → IsTerm ks gens (step_term ks steps i)
 step_is_term ks gens steps i h l = let n = length_from ks [] steps in All-from_recursion (IsTerm ks gens) (unfolded ks steps) (terms_are ks gens [] steps tt h) i (Generator 0) (omega arith)
+
+-- the values of terms are in the subuniverse
+pub members : (p : Product) (gens : List Vector) (s : StepList) → s.arities ≡ arities p → length gens ≡ s.gens → AreSteps s.arities s.gens s.items → AllByRecursion (Sg p gens) (step_values p gens s.items)
+members p gens s ks n h = each (unfolded (arities p) s.items) (terms_are (arities p) (length gens) [] s.items tt (subst (λ z. AreSteps (arities p) z s.items) (sym n) (subst (λ z. AreSteps z s.gens s.items) ks h)))
+  where
+    each : (ts : List Tree) → AllByRecursion (IsTerm (arities p) (length gens)) ts → AllByRecursion (Sg p gens) (map (term_value p gens) ts)
+    each [] h = tt
+    each (t ∷ ts) h = (record { term = t; is_term = h.0; value = refl }, each ts h.1)
 
 -- How many nodes they have.
 
