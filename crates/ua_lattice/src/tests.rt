@@ -8,21 +8,22 @@ use std::thread::Threads;
 use ua_part::Part;
 use ua_table::{Algebra, FreeGate, Name, OpTable, Run};
 
-/// An algebra with one or two operations of this size and arity.
-fn algebra(alloc: Global, size: u32, arity: u8, tables: &[&[u8]]) -> Result<Algebra, Fail> {
+/// An algebra with up to three operations, each of this arity with these values.
+fn algebra(alloc: Global, size: u32, tables: &[(u8, &[u8])]) -> Result<Algebra, Fail> {
     let mut ops = Vec::new(alloc);
-    for (values, name) in tables.iter().zip([b"f", b"g"]) {
+    for ((arity, values), name) in tables.iter().zip([b"f", b"g", b"h"]) {
         let name = Name::new(alloc, name.as_slice())?;
-        ops.push(OpTable::new(name, size, arity, values.to_vec(alloc)?)?)?;
+        ops.push(OpTable::new(name, size, *arity, values.to_vec(alloc)?)?)?;
     }
     Ok(Algebra::new(Name::new(alloc, b"A")?, size, ops)?)
 }
 
-/// The square of the lattice of two elements.
-fn square(alloc: Global) -> Result<Algebra, Fail> {
+/// The Boolean algebra of four elements.
+fn boolean(alloc: Global) -> Result<Algebra, Fail> {
     let meet = [0, 0, 0, 0, 0, 1, 0, 1, 0, 0, 2, 2, 0, 1, 2, 3];
     let join = [0, 1, 2, 3, 1, 1, 3, 3, 2, 3, 2, 3, 3, 3, 3, 3];
-    algebra(alloc, 4, 2, &[&meet, &join])
+    let complement = [3, 2, 1, 0];
+    algebra(alloc, 4, &[(2, &meet), (2, &join), (1, &complement)])
 }
 
 /// Whether these are the texts of the partitions, one behind another.
@@ -67,8 +68,8 @@ fn expect<R: Threads + Abort + Sync>(
 }
 
 #[test]
-fn square_of_a_lattice(rt: HostRuntime) -> Result<(), Fail> {
-    let algebra = square(rt.alloc())?;
+fn boolean_algebra(rt: HostRuntime) -> Result<(), Fail> {
+    let algebra = boolean(rt.alloc())?;
     for workers in [1, 2, 16] {
         let expected = Expected {
             texts: b"|0|1|2|3||0 1|2 3||0 2|1 3||0 1 2 3|",
@@ -82,7 +83,7 @@ fn square_of_a_lattice(rt: HostRuntime) -> Result<(), Fail> {
 
 #[test]
 fn one_element(rt: HostRuntime) -> Result<(), Fail> {
-    let algebra = algebra(rt.alloc(), 1, 0, &[])?;
+    let algebra = algebra(rt.alloc(), 1, &[])?;
     let expected = Expected {
         texts: b"|0|",
         covers: &[],
@@ -95,7 +96,7 @@ fn one_element(rt: HostRuntime) -> Result<(), Fail> {
 /// chain.
 #[test]
 fn chain(rt: HostRuntime) -> Result<(), Fail> {
-    let algebra = algebra(rt.alloc(), 4, 1, &[&[0, 0, 1, 2]])?;
+    let algebra = algebra(rt.alloc(), 4, &[(1, &[0, 0, 1, 2])])?;
     let expected = Expected {
         texts: b"|0|1|2|3||0 1|2|3||0 1 2|3||0 1 2 3|",
         covers: &[(0, 1), (1, 2), (2, 3)],
@@ -108,7 +109,7 @@ fn chain(rt: HostRuntime) -> Result<(), Fail> {
 fn more_than_the_budget(rt: HostRuntime) -> Result<(), Fail> {
     let alloc = rt.alloc();
     let run = Run::new(3, 1, &FreeGate).ok_or("a budget out of its limits")?;
-    let lattice = congruences(&rt, alloc, &square(alloc)?, &run)?;
+    let lattice = congruences(&rt, alloc, &boolean(alloc)?, &run)?;
     let Lattice::Exceeds(list) = lattice else {
         return Err("not more than the budget".into());
     };
