@@ -1,16 +1,16 @@
 -- Joins of congruences.
-use Rattle.std.proofs.Common.{◌≡◌, ◌≢◌, ℕ, zero, suc, ◌+◌, ◌<◌, ◌≤◌, List, [], ◌∷◌, ◌++◌, length, get_or, refl, sym, ap, ◌∙◌, subst, arith, ⊎_elim, length-append}
-use Rattle.std.specs.Prelude.{slice_index, Contains, ◌⊎◌}
+use Rattle.std.proofs.Common.{◌≡◌, ℕ, zero, suc, ◌<◌, ◌≤◌, List, [], ◌∷◌, ◌++◌, length, sym, ◌∙◌, subst, arith, ⊎_elim, length-append}
+use Rattle.std.specs.Prelude.{slice_index, Contains}
 use Rattle.std.specs.List.{AllByRecursion, AllZip}
-use Rattle.std.proofs.lemmas.Bool.{cases_lt, cases_eq}
+use Rattle.std.proofs.lemmas.Bool.{cases_lt}
 use Rattle.std.proofs.lemmas.List.FromFn.{length-range_with_len}
 use Rattle.std.proofs.lemmas.List.Elements.{Contains-append_left, Contains-append_cases}
-use Rattle.ua_table.specs.Algebras.{FiniteAlgebra, IsAlgebra, arities_of, value_at}
+use Rattle.ua_table.specs.Algebras.{FiniteAlgebra, IsAlgebra, value_at}
 use Rattle.ua_table.proofs.ApplyLemmas.{value-below}
-use Rattle.ua_table.proofs.Lists.{all_at, all_append}
+use Rattle.ua_table.proofs.Lists.{all_append}
 use Rattle.ua_part.specs.Partitions.{Partition, IsPartition, SameBlock, LiesBelow, IsJoin, identity_on}
-use Rattle.ua_part.proofs.PartitionLaws.{IsConstant, same_itself, same_back, leader_within, leader_same, below_through, below_from_leaders, below_both, identity-IsPartition, identity-same}
-use Rattle.ua_prod.specs.Congruences.{IsCongruence, IsCg}
+use Rattle.ua_part.proofs.PartitionLaws.{same_itself, same_back, leader_same, below_through, below_from_leaders, below_both, identity-IsPartition, identity-same}
+use Rattle.ua_prod.specs.Congruences.{IsCongruence}
 use Rattle.ua_prod.proofs.Compatible.{congruence_from_translations}
 use Rattle.ua_cong.proofs.Normal.{join-size, join-constant}
 use Rattle.ua_lattice.specs.Lattices.{HasPrincipals, IsJoinClosed, IsJoinedWith}

@@ -1,1 +1,9 @@
 pub mod JoinedLaws
+pub mod OrderLaws
+pub mod FoundLaws
+pub mod LeastLaws
+pub mod CountLaws
+pub mod CoverLaws
+pub mod PairLaws
+pub mod PrincipalLaws
+pub mod WholeLaws

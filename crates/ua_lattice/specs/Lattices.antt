@@ -6,7 +6,7 @@ use Rattle.std.specs.Cmp.Lexicographic.{slice_cmp}
 use Rattle.std.specs.Ordering.{nat_cmp, ordering_then}
 use Rattle.std.specs.declared.cmp.Ordering.{Ordering}
 use Rattle.ua_table.specs.Algebras.{FiniteAlgebra}
-use Rattle.ua_part.specs.Partitions.{Partition, IsPartition, LiesBelow, IsJoin}
+use Rattle.ua_part.specs.Partitions.{Partition, LiesBelow, IsJoin}
 use Rattle.ua_part.specs.Blocks.{block_count}
 use Rattle.ua_prod.specs.Congruences.{IsCongruence, IsCg}
 
@@ -30,9 +30,13 @@ pub record Covers (list : List Partition) (p q : Partition) : Type 0 where
   pub differ : p ≢ q
   pub next : (r : Partition) → Contains list r → LiesBelow p r → LiesBelow r q → r ≢ p → r ≡ q
 
+-- by the first place, then by the second
+abbrev pub by_places : ℕ × ℕ → ℕ × ℕ → Ordering
+by_places x y = ordering_then (nat_cmp x.0 y.0) (nat_cmp x.1 y.1)
+
 -- the pairs of places (i, j) where the j-th covers the i-th, ascending
 pub record AreCovers (list : List Partition) (pairs : List (ℕ × ℕ)) : Type 0 where
-  pub in_order : IsStrictlySortedBy (λ (x y : ℕ × ℕ). ordering_then (nat_cmp x.0 y.0) (nat_cmp x.1 y.1)) pairs
+  pub in_order : IsStrictlySortedBy by_places pairs
   pub all : (i j : ℕ) → Contains pairs (i, j) ↔ ((i < length list) × (j < length list) × Covers list (slice_index_or list i []) (slice_index_or list j []))
 
 -- the places that have exactly one lower cover, ascending
@@ -52,3 +56,15 @@ IsJoinClosed list = (p q : Partition) → Contains list p → Contains list q �
 pub record IsJoinedWith (list : List Partition) (p : Partition) (more : List Partition) : Type 0 where
   pub joins : (r : Partition) → Contains more r → (q : Partition) × Contains list q × IsJoin q p r
   pub all : (q : Partition) → Contains list q → (r : Partition) × Contains (list ++ more) r × IsJoin q p r
+
+-- all congruences of an algebra, at most so many, and their order
+pub record IsWholeLattice (a : FiniteAlgebra) (budget : ℕ) (list : List Partition) (covers : List (ℕ × ℕ)) (irreducibles : List ℕ) : Type 0 where
+  pub all_of_them : IsCongruenceList a list
+  pub within : length list ≤ budget
+  pub covering : AreCovers list covers
+  pub irreducible : AreIrreducible covers irreducibles
+
+-- one congruence more than the budget
+pub record IsExceedingList (a : FiniteAlgebra) (budget : ℕ) (list : List Partition) : Type 0 where
+  pub congruences : AreCongruences a list
+  pub beyond : length list ≡ budget + 1
