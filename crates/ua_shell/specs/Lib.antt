@@ -5,6 +5,7 @@ pub mod Operands
 pub mod CloseCommand
 pub mod EvalCommand
 pub mod CgCommand
+pub mod ConCommand
 pub mod Replies
 pub mod Outputs
 pub mod Served

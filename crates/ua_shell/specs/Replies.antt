@@ -9,6 +9,7 @@ use Rattle.ua_shell.specs.Sessions.{Session, Bounds}
 use Rattle.ua_shell.specs.CloseCommand.{CloseReply}
 use Rattle.ua_shell.specs.EvalCommand.{EvalReply}
 use Rattle.ua_shell.specs.CgCommand.{CgReply}
+use Rattle.ua_shell.specs.ConCommand.{ConReply}
 
 -- the answers of `close` that are built
 abbrev pub IsBuiltMode : Mode → Type 0
@@ -21,6 +22,7 @@ abbrev pub IsBuilt : Command → Type 0
 IsBuilt (commands.Ask (Close w width gens) m false) = IsBuiltMode m × (length gens ≤ 16777216)
 IsBuilt (commands.Eval w term args) = Unit {0}
 IsBuilt (commands.Cg w pairs) = Unit {0}
+IsBuilt (commands.Con w) = Unit {0}
 IsBuilt _ = ⊥
 
 -- the bytes are a reply to the command in the session
@@ -28,6 +30,7 @@ abbrev pub Reply : Session → Bounds → Command → List ℕ → Type 0
 Reply s b (commands.Ask (Close w width gens) m false) bytes = CloseReply s b (record { algebra = w; width = width; gens = gens }) m bytes
 Reply s b (commands.Eval w term args) bytes = EvalReply s (record { algebra = w; term = term; args = args }) bytes
 Reply s b (commands.Cg w pairs) bytes = CgReply s (record { algebra = w; pairs = pairs }) bytes
+Reply s b (commands.Con w) bytes = ConReply s b w bytes
 Reply s b _ bytes = ⊥
 
 -- the session behind a command

@@ -3,7 +3,7 @@
 ghost use Rattle.std.specs.Prelude.{◌≡◌, ◌<◌, [], length, Some, IfOk, IfErr};
 ghost use Rattle.std.specs.List.{AllByRecursion};
 ghost use Rattle.ua_table.specs.Terms.{eval};
-ghost use Rattle.ua_term.specs.Meanings.{unknown_operations, variables_above, misshapen, tree_in};
+ghost use Rattle.ua_term.specs.Meanings.{unknown_operations, variables_from, misshapen, tree_in};
 ghost use Rattle.ua_script.specs.declared.script.Number.{Number};
 ghost use Rattle.ua_shell.specs.Sessions.{lookup};
 ghost use Rattle.ua_shell.specs.Operands.{values_of};
@@ -36,7 +36,7 @@ fn checked<'a>(
         return Err(Refusal::Unknown(place));
     }
     let values = args.values.as_slice();
-    if let Some(place) = term.first_variable_above(values.len()) {
+    if let Some(place) = term.first_variable_from(values.len()) {
         return Err(Refusal::Range(place));
     }
     if let Some(place) = first_above(known.size(), values) {
@@ -56,7 +56,7 @@ fn value(
     args: &[Number],
 ) -> Result<Elem, AllocError>
     requires known { unknown_operations algebra.now term.now ≡ [] }
-    requires bound { variables_above (length args.now) term.now ≡ [] }
+    requires bound { variables_from (length args.now) term.now ≡ [] }
     requires below { AllByRecursion (λ (n : Number). n.value < algebra.now.size) args.now }
     requires shaped { misshapen algebra.now term.now ≡ [] }
     ensures { IfOk result (λ v. v ≡ eval algebra.now (values_of args.now) (tree_in algebra.now term.now)) }

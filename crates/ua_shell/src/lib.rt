@@ -3,6 +3,7 @@
 
 mod cg;
 mod close;
+mod con;
 mod eval;
 mod operands;
 mod refusals;

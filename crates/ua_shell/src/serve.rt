@@ -9,6 +9,7 @@ ghost use Rattle.ua_shell.specs.Served.{Serves};
 
 use crate::cg::answer_cg;
 use crate::close::answer_close;
+use crate::con::answer_con;
 use crate::eval::answer_eval;
 use std::alloc::{AllocError, Global};
 use std::thread::Threads;
@@ -60,6 +61,7 @@ fn answer<R: Threads + Sync, G: Gate>(
             args,
         } => answer_eval(alloc, session, algebra, term, args),
         Command::Cg { algebra, pairs } => answer_cg(alloc, session, algebra, pairs.as_slice()),
+        Command::Con { algebra } => answer_con(rt, alloc, session, run, algebra),
         _ => unreachable!(),
     }
 }

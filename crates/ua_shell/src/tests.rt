@@ -1,6 +1,7 @@
 //! Whole runs over memory.
 
 use crate::close::answer_close;
+use crate::con::answer_con;
 use crate::{Status, run};
 use std::alloc::{AllocError, Global};
 use std::test::Fail;
@@ -107,6 +108,115 @@ fn errors(rt: HostRuntime) -> Result<(), Fail> {
     Ok(())
 }
 
+/// The symmetric group on three letters; the Boolean algebra of four elements; one element and no operation;
+/// a constant and an operation of two arguments.
+const ALGEBRAS: &str = "algebra S size 6
+op mul 2 = 0 1 2 3 4 5 1 2 0 5 3 4 2 0 1 4 5 3 3 4 5 0 1 2 4 5 3 2 0 1 5 3 4 1 2 0
+end
+algebra Q size 4
+op and 2 = 0 0 0 0 0 1 0 1 0 0 2 2 0 1 2 3
+op or 2 = 0 1 2 3 1 1 3 3 2 3 2 3 3 3 3 3
+op not 1 = 3 2 1 0
+end
+algebra One size 1
+end
+algebra K size 3
+op c 0 = 2
+op minus 2 = 0 2 1 1 0 2 2 1 0
+end
+";
+
+#[test]
+fn values_of_terms(rt: HostRuntime) -> Result<(), Fail> {
+    let alloc = rt.alloc();
+    for (command, reply) in [
+        ("eval M meet(x0, x1) [1 0]", "value 0\n"),
+        ("eval M meet(x1,meet(x1,x1)) [0 1]", "value 1\n"),
+        ("eval M x0007 [0 0 0 0 0 0 0 1]", "value 1\n"),
+        ("eval K minus(x0,x1) [1 0]", "value 1\n"),
+        ("eval K minus(x1,x0) [1 0]", "value 2\n"),
+        ("eval K minus(x0,c) [1]", "value 2\n"),
+        ("eval K c []", "value 2\n"),
+        ("eval X x0 [0]", "error unknown 18:6\n"),
+        ("eval M join(x0,x9) [7]", "error unknown 18:8\n"),
+        ("eval M meet(x0,x1) [0]", "error range 18:16\n"),
+        ("eval M meet(x0,x99999999999) [0]", "error range 18:16\n"),
+        ("eval M meet(x0,meet(x0)) [2]", "error range 18:27\n"),
+        ("eval M meet(x0,meet(x0)) [1]", "error shape 18:16\n"),
+        ("eval M meet [0]", "error shape 18:8\n"),
+    ] {
+        let ended = answer(&rt, alloc, &format!(in alloc; "{ALGEBRAS}{command}")?)?;
+        assert_eq!(rt; ended.status, Status::Done, "{command}");
+        assert_eq!(rt; ended.out.as_slice(), reply.as_bytes(), "{command}");
+    }
+    Ok(())
+}
+
+#[test]
+fn generated_congruences(rt: HostRuntime) -> Result<(), Fail> {
+    let alloc = rt.alloc();
+    for (command, reply) in [
+        ("cg S [0 1]", "|0 1 2|3 4 5|\n"),
+        ("cg S [0 3]", "|0 1 2 3 4 5|\n"),
+        ("cg S", "|0|1|2|3|4|5|\n"),
+        ("cg Q [0 1]", "|0 1|2 3|\n"),
+        ("cg Q [0 1] [1 3]", "|0 1 2 3|\n"),
+        ("cg X [0 1]", "error unknown 18:4\n"),
+        ("cg S [0 1] [0 6]", "error range 18:15\n"),
+        ("cg S [0] [0 6]", "error range 18:13\n"),
+        ("cg S [0 1] [0 1 2]", "error shape 18:12\n"),
+    ] {
+        let ended = answer(&rt, alloc, &format!(in alloc; "{ALGEBRAS}{command}")?)?;
+        assert_eq!(rt; ended.status, Status::Done, "{command}");
+        assert_eq!(rt; ended.out.as_slice(), reply.as_bytes(), "{command}");
+    }
+    Ok(())
+}
+
+#[test]
+fn lattices_of_congruences(rt: HostRuntime) -> Result<(), Fail> {
+    let alloc = rt.alloc();
+    for (command, reply) in [
+        (
+            "con One",
+            "congruences 1\n0 |0|\ncovers 0\njoin irreducibles\n",
+        ),
+        (
+            "con Q",
+            "congruences 4\n0 |0|1|2|3|\n1 |0 1|2 3|\n2 |0 2|1 3|\n3 |0 1 2 3|\ncovers 4\n0 1\n0 2\n1 3\n2 3\njoin irreducibles 1 2\n",
+        ),
+        (
+            "con S",
+            "congruences 3\n0 |0|1|2|3|4|5|\n1 |0 1 2|3 4 5|\n2 |0 1 2 3 4 5|\ncovers 2\n0 1\n1 2\njoin irreducibles 1 2\n",
+        ),
+        ("con X", "error unknown 18:5\n"),
+    ] {
+        let ended = answer(&rt, alloc, &format!(in alloc; "{ALGEBRAS}{command}")?)?;
+        assert_eq!(rt; ended.status, Status::Done, "{command}");
+        assert_eq!(rt; ended.out.as_slice(), reply.as_bytes(), "{command}");
+    }
+    Ok(())
+}
+
+#[test]
+fn more_congruences_than_the_budget(rt: HostRuntime) -> Result<(), Fail> {
+    let alloc = rt.alloc();
+    let Some(limits) = Run::new(2, 1, &FreeGate) else {
+        return Err(Fail::from("no such budget"));
+    };
+    let none = Algebra::new(Name::new(alloc, b"E")?, 3, Vec::new(alloc))?;
+    let word = Word {
+        name: Name::new(alloc, b"E")?,
+        place: Place { line: 1, column: 1 },
+    };
+    let reply = answer_con(&rt, alloc, &[none], &limits, &word)?;
+    let Some(parts) = reply.as_slice().strip_prefix(b"exceeds 2\n") else {
+        return Err(Fail::from("another reply"));
+    };
+    assert_eq!(rt; parts.iter().filter(|b| **b == b'\n').count(), 3);
+    Ok(())
+}
+
 /// The reply to a closure of no vectors, with this budget.
 fn empty_closure<R: Threads + Sync>(
     rt: &R,
@@ -197,7 +307,7 @@ fn faults_of_the_text(rt: HostRuntime) -> Result<(), Fail> {
             FaultKind::Value,
         ),
         ("algebra M size 256", 1, 16, FaultKind::Number),
-        ("algebra M size 2 end con M", 1, 22, FaultKind::Unbuilt),
+        ("algebra M size 2 end types M", 1, 22, FaultKind::Unbuilt),
         (
             "algebra M size 2 end close M 2 least",
             1,

@@ -1,7 +1,7 @@
 //! Worked faults of scripts.
 
 use crate::{FaultKind, ReadFault, parse};
-use std::alloc::Global;
+use std::alloc::{AllocError, Global};
 use std::test::Fail;
 
 const M: &[u8] = b"algebra M size 2\nop meet 2 = 0 0 0 1\nend\n";
@@ -68,7 +68,7 @@ fn tables(rt: HostRuntime) -> Result<(), Fail> {
 #[test]
 fn commands_in_line_four(rt: HostRuntime) -> Result<(), Fail> {
     for (text, at) in [
-        (b"con M\n".as_slice(), Some((4, 1, FaultKind::Unbuilt))),
+        (b"types M\n".as_slice(), Some((4, 1, FaultKind::Unbuilt))),
         (b"clone M\n", Some((4, 1, FaultKind::Unbuilt))),
         (b"close M 2\n", None),
         (b"close M 2 [0 1] [1 0] count\n", None),
@@ -103,6 +103,18 @@ fn commands_in_line_four(rt: HostRuntime) -> Result<(), Fail> {
             Some((4, 7, FaultKind::Byte)),
         ),
         (b"close a_name_of_thirty_two_bytes______ 2", None),
+        (b"con M", None),
+        (b"con M [0]", Some((4, 7, FaultKind::Word))),
+        (b"cg M", None),
+        (b"cg M [0 1] [1] con M", None),
+        (b"cg M [0", Some((4, 8, FaultKind::End))),
+        (b"eval M x0 [0]", None),
+        (b"eval M meet(x0, meet ( x1 , x0 ) ) []", None),
+        (b"eval M meet() []", Some((4, 13, FaultKind::Term))),
+        (b"eval M x0(x1) []", Some((4, 10, FaultKind::Term))),
+        (b"eval M meet(x0 []", Some((4, 16, FaultKind::Word))),
+        (b"eval M 5 []", Some((4, 8, FaultKind::Term))),
+        (b"eval M x0", Some((4, 10, FaultKind::End))),
     ] {
         assert_eq!(rt; behind_block(rt.alloc(), text)?, at, "{text:?}");
     }
@@ -122,5 +134,29 @@ fn at_most_64_operations(rt: HostRuntime) -> Result<(), Fail> {
         fault(rt.alloc(), text.as_slice()),
         Some((66, 1, FaultKind::Word))
     );
+    Ok(())
+}
+
+/// An `eval` of a term with so many parentheses open at once.
+fn nested(alloc: Global, depth: usize) -> Result<Vec<u8>, AllocError> {
+    let mut text = b"eval M ".to_vec(alloc)?;
+    for _ in 0..depth {
+        text.extend_from_slice(b"f(")?;
+    }
+    text.push(b'c')?;
+    for _ in 0..depth {
+        text.push(b')')?;
+    }
+    text.extend_from_slice(b" []")?;
+    Ok(text)
+}
+
+#[test]
+fn at_most_64_parentheses(rt: HostRuntime) -> Result<(), Fail> {
+    let text = nested(rt.alloc(), 64)?;
+    assert_eq!(rt; fault(rt.alloc(), text.as_slice()), None);
+    let text = nested(rt.alloc(), 65)?;
+    let at = fault(rt.alloc(), text.as_slice());
+    assert_eq!(rt; at, Some((1, 137, FaultKind::Term)));
     Ok(())
 }

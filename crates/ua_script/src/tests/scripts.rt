@@ -63,9 +63,9 @@ fn a_block_and_a_command(rt: HostRuntime) -> Result<(), Fail> {
 #[test]
 fn canonical_print(rt: HostRuntime) -> Result<(), Fail> {
     let canonical =
-        b"algebra M size 2\nop meet 2 = 0 0 0 1\nend\nclose M 2 [0 1] [1 0]\nclose M 1 [] count\n";
+        b"algebra M size 2\nop meet 2 = 0 0 0 1\nend\nclose M 2 [0 1] [1 0]\nclose M 1 [] count\neval M meet(x0, meet(x1, c)) [0 1]\ncg M [0 1] [1 1]\ncg M\ncon M\n";
     let loose =
-        b"algebra M # two elements\n size 2 op meet 2=0 0\n0 1 end close M 2[0 1][1 0]close M 1[ ]count";
+        b"algebra M # two elements\n size 2 op meet 2=0 0\n0 1 end close M 2[0 1][1 0]close M 1[ ]count eval M meet ( x0,meet(x1 , c))[ 0 1]cg M [0 1][1 1] cg M con M";
     for text in [canonical.as_slice(), loose] {
         let Ok(script) = parse(rt.alloc(), text) else {
             return Err(Fail::from("refused"));
