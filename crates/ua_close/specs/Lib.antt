@@ -5,3 +5,7 @@ pub mod Arrangements
 pub mod Progress
 pub mod Problems
 pub mod Answers
+pub mod Values
+pub mod Goals
+pub mod Harvests
+pub mod Gatherings

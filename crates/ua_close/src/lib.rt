@@ -3,6 +3,9 @@
 
 mod apply;
 mod close;
+mod gatherings;
+mod goals;
+mod harvests;
 mod listing;
 mod log;
 mod problem;
@@ -11,6 +14,9 @@ mod sorting;
 mod widths;
 
 pub use close::{CloseError, Closure, close_set};
+pub use gatherings::Gathered;
+pub use goals::Goal;
+pub use harvests::{End, Harvest};
 pub use listing::Listing;
 pub use ua_table::{FreeGate, Gate, Run};
 
