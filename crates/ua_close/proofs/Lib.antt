@@ -8,3 +8,10 @@ pub mod RecordLaws
 pub mod Reaching
 pub mod Walks
 pub mod Closing
+pub mod ValueLaws
+pub mod ReplicaLaws
+pub mod GoalLaws
+pub mod WorkLaws
+pub mod FinishLaws
+pub mod RunLaws
+pub mod HarvestLaws

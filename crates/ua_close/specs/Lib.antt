@@ -8,4 +8,7 @@ pub mod Answers
 pub mod Values
 pub mod Goals
 pub mod Harvests
+pub mod Replicas
+pub mod Workings
+pub mod Walks
 pub mod Gatherings

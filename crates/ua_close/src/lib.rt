@@ -9,9 +9,11 @@ mod harvests;
 mod listing;
 mod log;
 mod problem;
+mod replicas;
 mod serial;
 mod sorting;
 mod widths;
+mod workers;
 
 pub use close::{CloseError, Closure, close_set};
 pub use gatherings::Gathered;
@@ -19,6 +21,7 @@ pub use goals::Goal;
 pub use harvests::{End, Harvest};
 pub use listing::Listing;
 pub use ua_table::{FreeGate, Gate, Run};
+pub use workers::work;
 
 #[cfg(test)]
 mod tests;
