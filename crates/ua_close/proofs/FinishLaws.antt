@@ -22,7 +22,7 @@ use Rattle.ua_close.specs.declared.replicas.Replica.{Replica}
 use Rattle.ua_close.specs.Values.{values}
 use Rattle.ua_close.specs.Harvests.{IsDone}
 use Rattle.ua_close.specs.Replicas.{values_in, value_in, IsOriginIn, SameClosure}
-use Rattle.ua_close.specs.declared.workers.Job.{Job}
+use Rattle.ua_close.specs.declared.puts.Job.{Job}
 use Rattle.ua_close.specs.Workings.{values_of, IsWorking, IsSettled, IsJobOf}
 use Rattle.ua_close.specs.Walks.{tuples_in, IsLeftOf}
 use Rattle.ua_close.proofs.ValueLaws.{values_first, length-values, in_left}

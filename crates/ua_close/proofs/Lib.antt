@@ -15,3 +15,6 @@ pub mod WorkLaws
 pub mod FinishLaws
 pub mod RunLaws
 pub mod HarvestLaws
+pub mod SerialLaws
+pub mod LoneLaws
+pub mod LoneSlices

@@ -18,7 +18,7 @@ use Rattle.ua_log.specs.Moves.{knows, claims_slice, noted}
 use Rattle.ua_log.specs.Seats.{SeatView, with_worker}
 use Rattle.ua_close.specs.declared.goals.Goal.{Goal}
 use Rattle.ua_close.specs.declared.replicas.Replica.{Replica}
-use Rattle.ua_close.specs.declared.workers.Job.{Job}
+use Rattle.ua_close.specs.declared.puts.Job.{Job}
 use Rattle.ua_close.specs.Values.{values}
 use Rattle.ua_close.specs.Harvests.{IsLater, IsDone}
 use Rattle.ua_close.specs.Replicas.{values_in, value_in, IsOriginIn, SameClosure, SameRecords}

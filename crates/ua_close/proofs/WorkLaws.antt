@@ -17,7 +17,7 @@ use Rattle.ua_log.specs.Seats.{SeatView, IsOwn, with_worker}
 use Rattle.ua_close.specs.declared.goals.Goal.{Goal}
 use Rattle.ua_close.specs.declared.goals.Goal.TheVariants.{Whole, Target, Clash}
 use Rattle.ua_close.specs.declared.replicas.Replica.{Replica}
-use Rattle.ua_close.specs.declared.workers.Job.{Job}
+use Rattle.ua_close.specs.declared.puts.Job.{Job}
 use Rattle.ua_close.specs.Values.{values, different}
 use Rattle.ua_close.specs.Goals.{Meets, IsGoal, IsFitting}
 use Rattle.ua_close.specs.Harvests.{IsPlanOf, PutsNew, IsOneMore}

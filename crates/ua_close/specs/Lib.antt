@@ -7,6 +7,7 @@ pub mod Problems
 pub mod Answers
 pub mod Values
 pub mod Goals
+pub mod Serials
 pub mod Harvests
 pub mod Replicas
 pub mod Workings

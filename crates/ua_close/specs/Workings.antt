@@ -1,8 +1,9 @@
 -- What holds of a worker while it works.
-use Rattle.std.specs.Prelude.{◌≡◌, ◌⊎◌, ◌-◌, true, false, List, length, take, Contains}
+use Rattle.std.specs.Prelude.{◌≡◌, ◌⊎◌, ℕ, ◌-◌, true, false, List, length, take, Contains}
 use Rattle.std.specs.List.{AllByRecursion}
 use Rattle.ua_table.specs.declared.origins.Origin.{Origin}
-use Rattle.ua_table.specs.Algebras.{Vector}
+use Rattle.ua_table.specs.Algebras.{Vector, arities}
+use Rattle.ua_table.specs.Orders.{turn}
 use Rattle.ua_log.specs.declared.views.Plan.{Plan}
 use Rattle.ua_log.specs.declared.views.Worker.{Worker}
 use Rattle.ua_log.specs.Rule.{IsPlan, IsPrefix}
@@ -12,9 +13,10 @@ use Rattle.ua_close.specs.declared.goals.Goal.{Goal}
 use Rattle.ua_close.specs.declared.harvests.End.{End}
 use Rattle.ua_close.specs.declared.harvests.End.TheVariants.{Left, Beyond, Halted, OutOfMemory, Reached}
 use Rattle.ua_close.specs.declared.replicas.Replica.{Replica}
-use Rattle.ua_close.specs.declared.workers.Job.{Job}
+use Rattle.ua_close.specs.declared.puts.Job.{Job}
 use Rattle.ua_close.specs.Values.{values}
 use Rattle.ua_close.specs.Goals.{Meets, IsGoal}
+use Rattle.ua_close.specs.Serials.{HasCome, EndsSerial}
 use Rattle.ua_close.specs.Harvests.{IsPlanOf, PutsNew, IsDone, HasLeft, IsOneMore}
 use Rattle.ua_close.specs.Replicas.{values_in, value_in, IsOriginIn, IsReplica}
 
@@ -60,6 +62,18 @@ HasRecord s o t x = ((x ≡ o) × (t ≡ with_worker s (adds s.own o))) ⊎ (t �
 pub record IsSettled (r : Replica) (o : Origin) : Type 0 where
   pub origin : IsOriginIn r o
   pub stands : Contains (values_in r) (value_in r o)
+
+-- the records of a lone worker have come to this turn
+abbrev pub Comes : Replica → Worker → List ℕ → Type 0
+Comes r w t = HasCome r.operations r.gens.now.items w.seen t
+
+-- the turn of an origin in the closure of a replica
+abbrev pub turn_of : Replica → Origin → List ℕ
+turn_of r o = turn (arities r.operations) o
+
+-- they are serial at this end
+abbrev pub StopsSerial : Replica → Worker → End → Type 0
+StopsSerial r w end = EndsSerial r.operations r.gens.now.items w.seen end
 
 -- why the worker stops
 abbrev pub Stops : Goal → Plan → Replica → Worker → End → Type 0

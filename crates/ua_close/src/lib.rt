@@ -9,6 +9,7 @@ mod harvests;
 mod listing;
 mod log;
 mod problem;
+mod puts;
 mod replicas;
 mod serial;
 mod sorting;

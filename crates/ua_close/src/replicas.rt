@@ -124,6 +124,20 @@ impl<'a> Replica<'a> {
         self.rows.find_scratch(&self.scratch).is_some()
     }
 
+    /// Whether the value of an origin is the value of a record. It takes no memory.
+    pub(crate) fn holds(&mut self, o: &Origin) -> bool
+        requires replica { IsReplica self.old }
+        requires origin { IsOriginIn self.old o.now }
+        ensures replica { IsReplica self.new }
+        ensures same { self.new ≡ record self.old { scratch = self.new.scratch } }
+        ensures has { IsTrue result ↔ Contains (values_in self.old) (value_in self.old o.now) }
+    {
+        match o {
+            Origin::Gen { index } => self.rows.find(self.gens.get(*index)).is_some(),
+            Origin::Op { op, args } => self.has(*op, args),
+        }
+    }
+
     /// Enters a record, and answers whether its value is a new row. It takes no memory.
     pub(crate) fn enter(&mut self, o: &Origin) -> bool
         requires replica { IsReplica self.old }

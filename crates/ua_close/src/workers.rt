@@ -1,115 +1,42 @@
 //! One worker's run on a board.
 
-ghost use Rattle.std.specs.Prelude.{◌≡◌, ◌-◌, ◌<◌, ◌≤◌, ◌++◌, ◌∷◌, [], ℕ, length, take, true, false, Contains, IsTrue, IsFalse, OnOk, MatchOption};
+ghost use Rattle.std.specs.Prelude.{◌≡◌, ◌<◌, ◌≤◌, [], ℕ, List, suc, length, take, false, None, OnOk, MatchOption};
 ghost use Rattle.std.specs.List.{AllByRecursion};
 ghost use Rattle.ua_table.specs.declared.origins.Origin.{Origin};
 ghost use Rattle.ua_table.specs.declared.origins.Origin.TheVariants.{Op};
 ghost use Rattle.ua_table.specs.Algebras.{IsVector, arities};
 ghost use Rattle.ua_table.specs.Slices.{bound, first_slice};
 ghost use Rattle.ua_log.specs.Rule.{MayStand};
-ghost use Rattle.ua_log.specs.Moves.{sees, noted};
-ghost use Rattle.ua_log.specs.Seats.{with_worker};
-ghost use Rattle.ua_close.specs.Goals.{Meets, IsGoal};
+ghost use Rattle.ua_log.specs.Moves.{sees, IsAlone};
+ghost use Rattle.ua_log.specs.Seats.{IsOwn, with_worker};
+ghost use Rattle.ua_close.specs.Goals.{IsGoal};
+ghost use Rattle.ua_close.specs.Serials.{turn_from};
 ghost use Rattle.ua_close.specs.Harvests.{IsPlanOf, IsLater, PutsNew, IsDone, IsHarvestFrom};
-ghost use Rattle.ua_close.specs.Replicas.{values_in, value_in, IsOriginIn, IsReplica, HasRoom, SameClosure};
-ghost use Rattle.ua_close.specs.Workings.{values_of, IsWorking, GoesOn, IsFurther, HasRecord, IsSettled, Stops, AreDone, IsHalted, IsJobOf};
+ghost use Rattle.ua_close.specs.Replicas.{values_in, IsOriginIn, IsReplica, SameClosure};
+ghost use Rattle.ua_close.specs.Workings.{values_of, GoesOn, IsFurther, IsSettled, Stops, AreDone, IsHalted, IsJobOf, Comes, StopsSerial, turn_of};
 
 use crate::goals::Goal;
 use crate::harvests::{End, Harvest};
+use crate::puts::{Job, put_value, take_in};
 use crate::replicas::Replica;
 use std::alloc::{AllocError, Global};
-use ua_log::{Board, Claim, Put, Seat};
+use ua_log::{Board, Claim, Seat};
 use ua_rows::Rows;
 use ua_table::{Claimed, Frame, Gate, Mark, Origin, Vectors};
 
 /// How often an idle worker looks for a new record before it leaves.
 const LOOKS: u32 = 1024;
 
-/// What a worker works on and for.
-#[derive(Drop)]
-pub(crate) struct Job<'a> {
-    pub(crate) board: &'a Board,
-    pub(crate) goal: &'a Goal,
-    pub(crate) budget: u32,
-}
-
-/// Puts a record at the next place, or sees the one that stands there, and answers which it is.
-fn put_or_see(board: &Board, seat: &mut Seat, o: Origin) -> Origin
-    requires home { seat.old.home ≡ board.now }
-    requires room { length seat.old.own.seen < board.now.plan.budget }
-    requires stands { MayStand board.now.plan (length seat.old.own.seen) o }
-    ensures record { HasRecord seat.old o seat.new result }
-    ensures stands { MayStand board.now.plan (length seat.old.own.seen) result }
-{
-    match board.put(seat, o) {
-        Put::Here(_) => o,
-        Put::Taken(other) => other,
-    }
-}
-
 /// Looks for the next record, again and again.
 fn look_often(board: &Board, seat: &mut Seat) -> Option<Origin>
     requires home { seat.old.home ≡ board.now }
     requires room { length seat.old.own.seen < board.now.plan.budget }
-    ensures { MatchOption result (seat.new ≡ seat.old) (λ o. MayStand board.now.plan (length seat.old.own.seen) o × (seat.new ≡ with_worker seat.old (sees seat.old.own o))) }
+    ensures found { MatchOption result (seat.new ≡ seat.old) (λ o. MayStand board.now.plan (length seat.old.own.seen) o × (seat.new ≡ with_worker seat.old (sees seat.old.own o))) }
+    ensures alone { IsAlone seat.old.made seat.old.own → result ≡ None }
 {
     for _ in 0..LOOKS {
         if let Some(o) = board.look(seat) {
             return Some(o);
-        }
-    }
-    None
-}
-
-/// Enters a record, and answers whether the rows now meet the goal, which they did not before.
-fn take_in(goal: &Goal, replica: &mut Replica, o: &Origin) -> bool
-    requires replica { IsReplica replica.old }
-    requires room { HasRoom replica.old }
-    requires origin { IsOriginIn replica.old o.now }
-    requires few { length replica.old.rows.items < u32.MAX }
-    requires goal { IsGoal replica.old.operations goal.now }
-    requires unmet { ¬ Meets goal.now replica.old.rows.items }
-    ensures replica { IsReplica replica.new }
-    ensures closure { SameClosure replica.old replica.new }
-    ensures values { values_in replica.new ≡ values_in replica.old ++ value_in replica.old o.now ∷ [] }
-    ensures met { IsTrue result → Meets goal.now replica.new.rows.items × ¬ Meets goal.now (take (length replica.new.rows.items - 1) replica.new.rows.items) }
-    ensures unmet { IsFalse result → ¬ Meets goal.now replica.new.rows.items }
-{
-    let before = replica.rows.len();
-    if !replica.enter(o) {
-        return false;
-    }
-    goal.is_met(&replica.rows, before)
-}
-
-/// Puts the value of an operation at records, until it is the value of a record.
-#[inline(never)]
-fn put_value(
-    job: &Job,
-    seat: &mut Seat,
-    replica: &mut Replica,
-    op: u32,
-    args: [u32; 4],
-) -> Option<End>
-    requires home { seat.old.home ≡ job.now.board.now }
-    requires job { IsJobOf replica.old job.now }
-    requires working { GoesOn job.now.goal.now replica.old seat.old.own }
-    requires origin { IsOriginIn replica.old (Op op args) }
-    ensures closure { SameClosure replica.old replica.new }
-    ensures seat { IsFurther seat.old seat.new }
-    ensures done { MatchOption result (GoesOn job.now.goal.now replica.new seat.new.own × IsSettled replica.new (Op op args)) (Stops job.now.goal.now job.now.board.now.plan replica.new seat.new.own) }
-{
-    let o = Origin::Op { op, args };
-    while !replica.has(op, &args) {
-        if Board::seen(seat) >= job.budget {
-            return Some(End::Beyond(o));
-        }
-        if replica.reserve().is_err() {
-            return Some(End::OutOfMemory);
-        }
-        let record = put_or_see(job.board, seat, o);
-        if take_in(job.goal, replica, &record) {
-            return Some(End::Reached);
         }
     }
     None
@@ -125,11 +52,12 @@ fn settle(job: &Job, seat: &mut Seat, replica: &mut Replica, op: u32, args: [u32
     ensures closure { SameClosure replica.old replica.new }
     ensures seat { IsFurther seat.old seat.new }
     ensures done { MatchOption result (GoesOn job.now.goal.now replica.new seat.new.own × IsSettled replica.new (Op op args)) (Stops job.now.goal.now job.now.board.now.plan replica.new seat.new.own) }
+    ensures lone { IsAlone seat.old.made seat.old.own → Comes replica.old seat.old.own (turn_of replica.old (Op op args)) → MatchOption result (Comes replica.new seat.new.own (turn_of replica.new (Op op args))) (StopsSerial replica.new seat.new.own) }
 {
     if replica.has(op, &args) {
         return None;
     }
-    put_value(job, seat, replica, op, args)
+    put_value(job, seat, replica, Origin::Op { op, args })
 }
 
 /// Settles each tuple of a slice, which is looked for from the mark.
@@ -145,6 +73,7 @@ fn finish(job: &Job, seat: &mut Seat, replica: &mut Replica, mark: &mut Mark, s:
     ensures first { mark.new.first ≡ first_slice replica.new.shape mark.new.unit }
     ensures earlier { mark.new.first ≤ s }
     ensures done { MatchOption result (GoesOn job.now.goal.now replica.new seat.new.own × IsDone replica.new.operations replica.new.gens.now.items seat.new.own.seen s) (Stops job.now.goal.now job.now.board.now.plan replica.new seat.new.own) }
+    ensures lone { IsAlone seat.old.made seat.old.own → Comes replica.old seat.old.own (turn_from replica.old.shape s) → MatchOption result (Comes replica.new seat.new.own (turn_from replica.new.shape (suc s))) (StopsSerial replica.new seat.new.own) }
 {
     let Claimed {
         op,
@@ -170,6 +99,7 @@ fn rest(job: &Job, seat: &mut Seat, replica: &mut Replica) -> Option<End>
     ensures closure { SameClosure replica.old replica.new }
     ensures seat { IsFurther seat.old seat.new }
     ensures done { MatchOption result (GoesOn job.now.goal.now replica.new seat.new.own × (length seat.old.own.seen < length seat.new.own.seen) × (length seat.old.own.seen < job.now.budget)) (Stops job.now.goal.now job.now.board.now.plan replica.new seat.new.own) }
+    ensures lone { IsAlone seat.old.made seat.old.own → (t : List ℕ) → Comes replica.old seat.old.own t → MatchOption result ⊥ (StopsSerial replica.new seat.new.own) }
 {
     if Board::seen(seat) >= job.budget {
         return Some(End::Left);
@@ -201,6 +131,7 @@ fn work_slices<G: Gate>(
     ensures closure { SameClosure replica.old replica.new }
     ensures seat { IsLater seat.old seat.new }
     ensures end { Stops job.now.goal.now job.now.board.now.plan replica.new seat.new.own result }
+    ensures lone { IsAlone seat.old.made seat.old.own → Comes replica.old seat.old.own (turn_from replica.old.shape seat.old.own.known) → StopsSerial replica.new seat.new.own result }
 {
     let mut mark = replica.shape.first_mark();
     loop {
@@ -230,6 +161,7 @@ fn recall_all(job: &Job, seat: &mut Seat, replica: &mut Replica) -> Result<(), A
     requires replica { IsReplica replica.old }
     requires empty { replica.old.places.items ≡ [] }
     ensures seat { seat.new ≡ seat.old }
+    ensures own { IsOwn seat.old.made seat.old.kept seat.old.own }
     ensures closure { SameClosure replica.old replica.new }
     ensures replica { IsReplica replica.new }
     ensures ok { OnOk result (values_in replica.new ≡ values_of replica.new seat.old.own.seen) }

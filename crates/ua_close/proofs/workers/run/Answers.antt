@@ -1,4 +1,4 @@
-use Rattle.std.proofs.Common.{◌≡◌, inr, List, length, take, refl, sym, ap, ◌∙◌, subst, arith}
+use Rattle.std.proofs.Common.{◌≡◌, inr, List, [], ◌∷◌, length, take, refl, sym, ap, ◌∙◌, subst, arith}
 use Rattle.ua_table.specs.Algebras.{Vector, Product, FiniteAlgebra}
 use Rattle.ua_log.specs.Seats.{Home, SeatView}
 use Rattle.ua_close.specs.declared.harvests.End.TheVariants.{OutOfMemory, Reached}
@@ -9,6 +9,12 @@ use Rattle.ua_close.specs.Workings.{values_of, IsHalted, Stops}
 use Rattle.ua_close.proofs.WorkLaws.{fitting, same_trans}
 use Rattle.ua_close.proofs.RunLaws.{later_self}
 use Rattle.ua_close.proofs.HarvestLaws.{ok_of, first_some, harvest_from, rows_of_replica, rows_tell, ending, working_of, puts_back}
+use Rattle.ua_log.specs.Moves.{IsAlone}
+use Rattle.ua_close.specs.Serials.{HasCome, turn_from}
+use Rattle.ua_close.specs.Workings.{Comes}
+use Rattle.ua_close.proofs.SerialLaws.{ends_serial}
+use Rattle.ua_close.proofs.WorkLaws.{for_same}
+use Rattle.ua_close.proofs.HarvestLaws.{serial_back, none_known, first_turn}
 use Rattle.ua_close.proofs.workers.run.Goals as goal
 
 pub returns-then-is_err : goal.returns-then-is_err
@@ -23,6 +29,7 @@ returns-then-is_err g c =
     harvest_from first.operations first.gens.now.items c.args.job.now.goal.now s s r.rows (later_self s) (e.replica.width ∙ ap (length {A = FiniteAlgebra}) e.closure.operations) c.requires.puts c.requires.note
     OutOfMemory c.harvest.result (subst (λ (t : SeatView). IsHalted t OutOfMemory c.harvest.result.seat) e.seat c.harvest.ensures.seat) c.harvest.ensures.rows c.harvest.ensures.end
     (record { entered = take n seen; first = first_some n seen; rows_are = rows }, λ lt. absurd (omega (arith, lt))) tt
+    (λ lone begun. ends_serial first.operations first.gens.now.items seen (2 ∷ 0 ∷ 0 ∷ []) OutOfMemory refl begun)
 
 pub is_met-requires-clause-fitting : goal.is_met-requires-clause-fitting
 is_met-requires-clause-fitting g c =
@@ -42,6 +49,7 @@ returns-then-is_met g c =
     harvest_from first.operations first.gens.now.items c.args.job.now.goal.now s s r.rows (later_self s) (e.replica.width ∙ ap (length {A = FiniteAlgebra}) e.closure.operations) c.requires.puts c.requires.note
     Reached c.harvest-then-is_met.result (subst (λ (t : SeatView). IsHalted t Reached c.harvest-then-is_met.result.seat) e.seat c.harvest-then-is_met.ensures.seat) c.harvest-then-is_met.ensures.rows c.harvest-then-is_met.ensures.end
     rows (c.is_met.ensures.0 c.if-is_met.true, inr refl)
+    (λ lone begun. ends_serial first.operations first.gens.now.items seen (2 ∷ 0 ∷ 0 ∷ []) Reached refl begun)
 
 pub returns : goal.returns
 returns g c =
@@ -60,3 +68,11 @@ returns g c =
     let k = working_of goal s t first r same end stops in
     harvest_from first.operations first.gens.now.items goal s t r.rows later (k.replica.width ∙ ap (length {A = FiniteAlgebra}) same.operations) (puts_back goal s t first r same k) k.note
     end c.harvest-2.result c.harvest-2.ensures.seat c.harvest-2.ensures.rows c.harvest-2.ensures.end (rows_tell goal s t first r same end stops) (ending goal s t first r same end stops)
+    (λ lone begun.
+    let one = c.recall_all.new.replica in
+    let known = none_known s e.own lone c.requires.unused in
+    let Start : SeatView → Type 0 = λ x. IsAlone x.made x.own × Comes one x.own (turn_from one.shape x.own.known) in
+    let come = for_same (λ p gs. HasCome p gs s.own.seen (2 ∷ 0 ∷ 0 ∷ [])) first one e.closure begun in
+    let start : Start s = (lone.0, subst (Comes one s.own) (sym (ap (turn_from one.shape) known ∙ first_turn one.shape)) come) in
+    let at = subst Start (sym e.seat) start in
+    serial_back goal s t first r same end (w.lone at.0 at.1))

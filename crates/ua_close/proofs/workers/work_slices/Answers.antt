@@ -5,6 +5,9 @@ use Rattle.ua_log.specs.Seats.{SeatView}
 use Rattle.ua_close.proofs.WorkLaws.{same_job, same_trans}
 use Rattle.ua_close.proofs.FinishLaws.{shape_of}
 use Rattle.ua_close.proofs.RunLaws.{later_further, later_claims, later_knows, working_knows, goes_knows, done_knows, done_grown, done_more}
+use Rattle.ua_close.specs.Serials.{turn_from}
+use Rattle.ua_close.specs.Workings.{Comes}
+use Rattle.ua_close.proofs.LoneLaws.{alone_later, claimed_alone, claimed_come, known_alone, known_come}
 use Rattle.ua_close.proofs.workers.work_slices.Goals as goal
 
 pub loop-s-preserved-in-Unit : goal.loop-s-preserved-in-Unit
@@ -24,6 +27,11 @@ loop-s-preserved-in-Unit g c =
     record {
       closure = same_trans c.args.replica.now r c.finish.new.replica i.closure e.closure;
       later = later_further s0 t u (later_claims s0 s t n i.later told.2) e.seat;
+      lone = λ alone come.
+          let one = alone_later s0 s i.later alone in
+          let n_is = (c.in-Unit.ensures.alone one).0 in
+          subst (λ m. Comes c.finish.new.replica u.own (turn_from c.finish.new.replica.shape m)) (sym known)
+          (e.lone (claimed_alone r s t n told.2 one) (claimed_come r s t n told.2 n_is (i.lone alone come)));
       working = e.done.0;
       done = done_more r c.finish.new.replica s t u n shape e.closure i.done told.2 e.seat e.done.1;
       first = e.first;
@@ -44,6 +52,7 @@ loop-s-preserved-in-Lost g c =
     record {
       closure = i.closure;
       later = later_knows c.args.seat.now s t n false i.later told.1;
+      lone = λ alone come. absurd (c.in-Lost.ensures.alone (alone_later c.args.seat.now s i.later alone));
       working = goes_knows c.args.job.now.goal.now r s t n false i.working told.1;
       done = done_knows r s t n false i.done told.1;
       first = i.first;
@@ -73,6 +82,8 @@ loop-s-preserved g c =
     record {
       closure = same_trans c.args.replica.now r c.rest.new.replica i.closure e.closure;
       later = later_further s0 t u (later_knows s0 s t n false i.later told.2) e.seat;
+      lone = λ alone come.
+          absurd (e.lone (known_alone r s t n false told.2 (alone_later s0 s i.later alone)) (turn_from r.shape s.own.known) (known_come r s t n false (turn_from r.shape s.own.known) told.2 (i.lone alone come)));
       working = e.done.0;
       done = done_grown r c.rest.new.replica t.own u.own shape e.closure e.seat.seen e.seat.slices (done_knows r s t n false i.done told.2);
       first = subst (λ (ks : List ℕ). c.loop-s.mark.first ≡ first_slice ks c.loop-s.mark.unit) (sym e.closure.shape) i.first;
@@ -84,3 +95,14 @@ returns-in-Halted-clause-end g c =
     let i = c.loop-s.invariant in
     let told = c.in-Halted.ensures.told in
     (working_knows c.loop-s.replica c.loop-s.seat c.claim.new.seat told.claims true i.working.working told.seat, ap (λ (x : SeatView). x.own.mark) told.seat)
+
+pub returns-in-Some-rest-clause-lone : goal.returns-in-Some-rest-clause-lone
+returns-in-Some-rest-clause-lone g c = λ alone come.
+    let i = c.loop-s.invariant in
+    let r = c.loop-s.replica in
+    let s = c.loop-s.seat in
+    let t = c.claim.new.seat in
+    let told = c.in-Idle.ensures.told in
+    let n = c.in-Idle.field-0 in
+    let x = turn_from r.shape s.own.known in
+    c.in-Some-rest.ensures.lone (known_alone r s t n false told.2 (alone_later c.args.seat.now s i.later alone)) x (known_come r s t n false x told.2 (i.lone alone come))
