@@ -8,7 +8,7 @@ pub mod RecordLaws
 pub mod Reaching
 pub mod Walks
 pub mod Closing
-pub mod ValueLaws
+pub mod RowValues
 pub mod ReplicaLaws
 pub mod GoalLaws
 pub mod WorkLaws
@@ -18,3 +18,4 @@ pub mod HarvestLaws
 pub mod SerialLaws
 pub mod LoneLaws
 pub mod LoneSlices
+pub mod BeginLaws

@@ -13,7 +13,7 @@ use Rattle.ua_close.specs.Values.{with_new, different}
 use Rattle.ua_close.specs.Replicas.{values_in, value_in, IsOriginIn, IsReplica}
 use Rattle.ua_close.specs.declared.replicas.Replica.{Replica}
 use Rattle.ua_close.proofs.LogLemmas.{contains_by}
-use Rattle.ua_close.proofs.ValueLaws.{with_old, with_absent, either_way, in_different, in_all, different_push, rows_twice, length-rows_at}
+use Rattle.ua_close.proofs.RowValues.{with_old, with_absent, either_way, in_different, in_all, different_push, rows_twice, length-rows_at}
 
 -- the rows of records are rows
 below_at : (n : ℕ) (places : List ℕ) (a : ℕ) → AllByRecursion (λ k. k < n) places → a < length places → slice_index places a < n

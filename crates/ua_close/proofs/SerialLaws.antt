@@ -20,7 +20,7 @@ use Rattle.ua_close.specs.Values.{values}
 use Rattle.ua_close.specs.Serials.{recorded, HasCome, turn_from, told_by, EndsSerial}
 use Rattle.ua_close.proofs.RecordLaws.{length-rows_of}
 use Rattle.ua_close.proofs.Reaching.{reached_new, after_unit}
-use Rattle.ua_close.proofs.ValueLaws.{values_push, length-values}
+use Rattle.ua_close.proofs.RowValues.{values_push, length-values}
 
 zip_push : (vs : List Vector) (os : List Origin) (v : Vector) (o : Origin) → length vs ≡ length os → zip (vs ++ v ∷ []) (os ++ o ∷ []) ≡ zip vs os ++ (v, o) ∷ []
 zip_push [] [] v o e = refl

@@ -24,7 +24,7 @@ use Rattle.ua_close.specs.Harvests.{IsPlanOf, PutsNew, IsOneMore}
 use Rattle.ua_close.specs.Replicas.{values_in, value_in, IsOriginIn, IsReplica, SameClosure, SameRecords}
 use Rattle.ua_close.specs.Workings.{values_of, IsJobOf, IsWorking, GoesOn, IsFurther, HasRecord}
 use Rattle.ua_close.proofs.RecordLaws.{origin_value-more, IsOrigin-more}
-use Rattle.ua_close.proofs.ValueLaws.{length-values, length-different, length-rows_at, values_push}
+use Rattle.ua_close.proofs.RowValues.{length-values, length-different, length-rows_at, values_push}
 
 pub fitting : (p : Product) (goal : Goal) (width : ℕ) → width ≡ length p → IsGoal p goal → IsFitting width goal
 fitting p Whole width e h = tt

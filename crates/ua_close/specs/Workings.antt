@@ -1,8 +1,8 @@
 -- What holds of a worker while it works.
-use Rattle.std.specs.Prelude.{◌≡◌, ◌⊎◌, ℕ, ◌-◌, true, false, List, length, take, Contains}
+use Rattle.std.specs.Prelude.{◌≡◌, ◌⊎◌, ℕ, ◌-◌, ◌<◌, true, false, List, [], length, take, slice_index, Contains}
 use Rattle.std.specs.List.{AllByRecursion}
 use Rattle.ua_table.specs.declared.origins.Origin.{Origin}
-use Rattle.ua_table.specs.Algebras.{Vector, arities}
+use Rattle.ua_table.specs.Algebras.{Vector, arities, apply}
 use Rattle.ua_table.specs.Orders.{turn}
 use Rattle.ua_log.specs.declared.views.Plan.{Plan}
 use Rattle.ua_log.specs.declared.views.Worker.{Worker}
@@ -94,3 +94,11 @@ IsHalted s (Beyond o) t = t ≡ with_worker s (noted s.own)
 IsHalted s Halted t = t ≡ s
 IsHalted s OutOfMemory t = t ≡ with_worker s (noted s.own)
 IsHalted s Reached t = t ≡ with_worker s (noted s.own)
+
+-- the first n generators are values of records
+abbrev pub HasGenerators : Replica → ℕ → Type 0
+HasGenerators r n = AllByRecursion (Contains (values_in r)) (take n r.gens.now.items)
+
+-- the vectors of the constants among the first n operations are values of records
+abbrev pub HasConstants : Replica → ℕ → Type 0
+HasConstants r n = (f : ℕ) → f < n → slice_index (arities r.operations) f ≡ 0 → Contains (values_in r) (apply r.operations f [])

@@ -2,6 +2,7 @@
 #![tactic(auto)]
 
 mod apply;
+mod beginnings;
 mod close;
 mod gatherings;
 mod goals;

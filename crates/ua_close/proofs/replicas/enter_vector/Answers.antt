@@ -5,7 +5,7 @@ use Rattle.ua_table.specs.Algebras.{Vector}
 use Rattle.ua_table.proofs.Lists.{Contains-slice_get}
 use Rattle.ua_rows.specs.RowLists.{rows_at}
 use Rattle.ua_core.proofs.RowLemmas.{place_below}
-use Rattle.ua_close.proofs.ValueLaws.{with_old, with_absent, rows_at_push, rows_at_new, named_push}
+use Rattle.ua_close.proofs.RowValues.{with_old, with_absent, rows_at_push, rows_at_new, named_push}
 use Rattle.ua_close.proofs.replicas.enter_vector.Goals as goal
 
 pushed : {E : Type 0} (xs new : List ℕ) (x : ℕ) (r : Result (Unit {0}) E) (u : Unit {0}) → new ≡ (if is_ok r then xs ++ x ∷ [] else xs) → r ≡ Ok u → new ≡ xs ++ x ∷ []
