@@ -21,7 +21,8 @@ use Rattle.ua_close.specs.Progress.{HasValue}
 use Rattle.ua_close.specs.Replicas.{values_in, value_in, SameClosure}
 use Rattle.ua_close.specs.Workings.{values_of, IsWorking, IsSettled, Comes, turn_of, HasGenerators, HasConstants}
 use Rattle.ua_close.proofs.Turns.{turn_none}
-use Rattle.ua_close.proofs.Reaching.{after_generator, after_constant}
+use Rattle.ua_close.specs.Serials.{HasCome}
+use Rattle.ua_close.proofs.Reaching.{before_first, after_generator, after_constant}
 use Rattle.ua_close.proofs.RowValues.{in_left}
 use Rattle.ua_close.proofs.SerialLaws.{come_on}
 
@@ -92,3 +93,7 @@ both (Some end) A B C S T f a b = b
 pub only : (o : Option End) (A C : Type 0) (S : End → Type 0) → (A → C) → MatchOption o A S → MatchOption o C S
 only None A C S f a = f a
 only (Some end) A C S f a = a
+
+-- nothing comes before the first turn
+pub come_first : (r : Replica) (w : Worker) → w.seen ≡ [] → Comes r w (0 ∷ 0 ∷ [])
+come_first r w e = subst (λ l. HasCome r.operations r.gens.now.items l (0 ∷ 0 ∷ [])) (sym e) record { made = tt; serial = tt; before = before_first r.operations r.gens.now.items [] }

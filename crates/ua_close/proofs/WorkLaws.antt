@@ -207,7 +207,7 @@ module _ {X : Type 0} where
   begins_low xs ys p = let e = ap (length {A = X}) p.whole in let l = length-append xs p.rest in omega (arith, e, l)
 
 pub further_self : (s : SeatView) → IsFurther s s
-further_self s = record { home = refl; made = refl; kept = refl; number = refl; slices = refl; known = refl; seen = begins_self s.own.seen; puts = begins_self s.own.puts }
+further_self s = record { home = refl; made = refl; kept = refl; number = refl; slices = refl; known = refl; mark = refl; seen = begins_self s.own.seen; puts = begins_self s.own.puts }
 
 pub further_trans : (s t u : SeatView) → IsFurther s t → IsFurther t u → IsFurther s u
 further_trans s t u a b = record {
@@ -217,6 +217,7 @@ further_trans s t u a b = record {
   number = b.number ∙ a.number;
   slices = b.slices ∙ a.slices;
   known = b.known ∙ a.known;
+  mark = b.mark ∙ a.mark;
   seen = begins_trans s.own.seen t.own.seen u.own.seen a.seen b.seen;
   puts = begins_trans s.own.puts t.own.puts u.own.puts a.puts b.puts;
 }
@@ -228,7 +229,7 @@ further_sees s t x e = subst (IsFurther s) (sym e) record {
   kept = refl;
   number = refl;
   slices = refl;
-  known = refl;
+  known = refl; mark = refl;
   seen = begins_push s.own.seen s.own.seen x (begins_self s.own.seen);
   puts = begins_self s.own.puts;
 }
@@ -241,7 +242,7 @@ further_record s t o x h = ⊎_elim
       kept = refl;
       number = refl;
       slices = refl;
-      known = refl;
+      known = refl; mark = refl;
       seen = begins_push s.own.seen s.own.seen o (begins_self s.own.seen);
       puts = begins_push s.own.puts s.own.puts (length s.own.seen) (begins_self s.own.puts);
     })

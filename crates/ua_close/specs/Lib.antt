@@ -13,3 +13,4 @@ pub mod Replicas
 pub mod Workings
 pub mod Walks
 pub mod Gatherings
+pub mod Beginnings

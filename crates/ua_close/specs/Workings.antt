@@ -51,6 +51,7 @@ pub record IsFurther (s t : SeatView) : Type 0 where
   pub number : t.own.number ≡ s.own.number
   pub slices : t.own.slices ≡ s.own.slices
   pub known : t.own.known ≡ s.own.known
+  pub mark : t.own.mark ≡ s.own.mark
   pub seen : IsPrefix s.own.seen t.own.seen
   pub puts : IsPrefix s.own.puts t.own.puts
 

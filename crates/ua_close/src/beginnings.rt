@@ -1,18 +1,35 @@
 //! The records that a closure begins with.
 
-ghost use Rattle.std.specs.Prelude.{◌≡◌, ◌+◌, ◌<◌, [], ◌∷◌, length, MatchOption};
-ghost use Rattle.ua_table.specs.Algebras.{arities};
+ghost use Rattle.std.specs.Prelude.{◌≡◌, ◌+◌, ◌<◌, [], ◌∷◌, length, false, MatchOption};
+ghost use Rattle.std.specs.List.{AllByRecursion};
+ghost use Rattle.ua_table.specs.Algebras.{IsVector, arities};
 ghost use Rattle.ua_log.specs.Moves.{IsAlone};
 ghost use Rattle.ua_close.specs.Serials.{HasBegunSerial};
+ghost use Rattle.ua_close.specs.Goals.{IsGoal};
+ghost use Rattle.ua_close.specs.Harvests.{IsPlanOf};
 ghost use Rattle.ua_close.specs.Gatherings.{HasBegun};
+ghost use Rattle.ua_close.specs.Beginnings.{BegunTells};
 ghost use Rattle.ua_close.specs.Replicas.{SameClosure};
 ghost use Rattle.ua_close.specs.Workings.{GoesOn, IsFurther, Stops, IsJobOf, Comes, StopsSerial, HasGenerators, HasConstants};
 
-use crate::harvests::End;
+use crate::goals::Goal;
+use crate::harvests::{End, Harvest};
 use crate::puts::{Job, put_value};
 use crate::replicas::Replica;
-use ua_log::Seat;
-use ua_table::Origin;
+use crate::workers::harvest;
+use std::alloc::Global;
+use ua_log::{Board, Seat};
+use ua_rows::Rows;
+use ua_table::{Frame, Origin, Vectors};
+
+/// What comes of the beginning of a closure.
+#[derive(Drop)]
+pub(crate) enum Begun {
+    /// The seat has put the generators and the constants.
+    Going(Seat),
+    /// It ended before that.
+    Ended(Harvest),
+}
 
 /// Puts the generators that differ, in order.
 fn put_generators(job: &Job, seat: &mut Seat, replica: &mut Replica) -> Option<End>
@@ -69,7 +86,7 @@ fn put_constants(job: &Job, seat: &mut Seat, replica: &mut Replica) -> Option<En
 }
 
 /// Puts the generators that differ, in order, and then the vectors of the constants that are new.
-pub(crate) fn begin(job: &Job, seat: &mut Seat, replica: &mut Replica) -> Option<End>
+fn begin(job: &Job, seat: &mut Seat, replica: &mut Replica) -> Option<End>
     requires home { seat.old.home ≡ job.now.board.now }
     requires job { IsJobOf replica.old job.now }
     requires working { GoesOn job.now.goal.now replica.old seat.old.own }
@@ -82,4 +99,39 @@ pub(crate) fn begin(job: &Job, seat: &mut Seat, replica: &mut Replica) -> Option
         return Some(end);
     }
     put_constants(job, seat, replica)
+}
+
+/// Begins a closure on an empty board: its first seat puts the generators that differ, in order, and then
+/// the constants.
+pub(crate) fn start(
+    alloc: Global,
+    board: &Board,
+    mut seat: Seat,
+    frame: &Frame,
+    gens: &Vectors,
+    goal: &Goal,
+) -> Begun
+    requires home { seat.home ≡ board.now }
+    requires plan { IsPlanOf frame.now gens.now.items board.now.plan }
+    requires admitted { AllByRecursion (IsVector frame.now) gens.now.items }
+    requires goal { IsGoal frame.now goal.now }
+    requires seen { seat.own.seen ≡ [] }
+    requires puts { seat.own.puts ≡ [] }
+    requires note { seat.own.note ≡ false }
+    ensures { BegunTells frame.now gens.now.items goal.now seat result }
+{
+    let width = frame.width();
+    let Ok(mut replica) = Replica::new(alloc, frame, gens) else {
+        let rows = Rows::new(alloc, width);
+        return Begun::Ended(harvest(board, seat, rows, End::OutOfMemory));
+    };
+    let job = Job {
+        board,
+        goal,
+        budget: board.budget(),
+    };
+    match begin(&job, &mut seat, &mut replica) {
+        Some(end) => Begun::Ended(harvest(board, seat, replica.rows, end)),
+        None => Begun::Going(seat),
+    }
 }

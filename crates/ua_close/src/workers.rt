@@ -176,7 +176,7 @@ fn recall_all(job: &Job, seat: &mut Seat, replica: &mut Replica) -> Result<(), A
 }
 
 /// The harvest of a worker that ends so. It stops the others, unless it leaves or was itself stopped.
-fn harvest(board: &Board, mut seat: Seat, rows: Rows, end: End) -> Harvest
+pub(crate) fn harvest(board: &Board, mut seat: Seat, rows: Rows, end: End) -> Harvest
     requires { seat.home ≡ board.now }
     ensures seat { IsHalted seat end result.seat }
     ensures rows { result.rows ≡ rows }
