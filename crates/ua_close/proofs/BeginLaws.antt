@@ -37,7 +37,7 @@ one_generator r new i same pre low old settled =
     let there = found gens i (subst (λ (l : List Vector). i < length l) same_gens low) in
     all_take_more (Contains (values_in new)) gens i there.0
     (subst (λ l. AllByRecursion (Contains (values_in new)) (take i l)) same_gens
-      (all_weaker (Contains (values_in r)) (Contains (values_in new)) (λ v h. still_in r new v pre h) (take i r.gens.now.items) old)) there.1
+    (all_weaker (Contains (values_in r)) (Contains (values_in new)) (λ v h. still_in r new v pre h) (take i r.gens.now.items) old)) there.1
     (subst (Contains (values_in new)) (get_or-slice_get gens i there.0 [] there.1) settled.stands)
 
 -- its value is among those of the records seen
@@ -55,12 +55,12 @@ zeros = 0 ∷ 0 ∷ 0 ∷ 0 ∷ []
 pub one_constant : (r new : Replica) (g : ℕ) → SameClosure r new → IsPrefix (values_in r) (values_in new) → slice_index (arities r.operations) g ≡ 0 → HasConstants r g → IsSettled new (Op g zeros) → HasConstants new (g + 1)
 one_constant r new g same pre none old settled f low arity = ⊎_elim
     (λ lt. subst (λ p. Contains (values_in new) (apply p f [])) (sym same.operations)
-      (still_in r new (apply r.operations f []) pre (old f lt (sym (ap (λ p. slice_index (arities p) f) same.operations) ∙ arity))))
+    (still_in r new (apply r.operations f []) pre (old f lt (sym (ap (λ p. slice_index (arities p) f) same.operations) ∙ arity))))
     (λ ge.
-      let e : g ≡ f = omega (arith, low, ge) in
-      let zero : slice_index (arities new.operations) g ≡ 0 = ap (λ p. slice_index (arities p) g) same.operations ∙ none in
-      let value : value_in new (Op g zeros) ≡ apply new.operations g [] = ap (λ k. apply new.operations g (rows_at (values_in new) (take k zeros))) zero in
-      subst (λ k. Contains (values_in new) (apply new.operations k [])) e (subst (Contains (values_in new)) value settled.stands))
+    let e : g ≡ f = omega (arith, low, ge) in
+    let zero : slice_index (arities new.operations) g ≡ 0 = ap (λ p. slice_index (arities p) g) same.operations ∙ none in
+    let value : value_in new (Op g zeros) ≡ apply new.operations g [] = ap (λ k. apply new.operations g (rows_at (values_in new) (take k zeros))) zero in
+    subst (λ k. Contains (values_in new) (apply new.operations k [])) e (subst (Contains (values_in new)) value settled.stands))
     (cases_lt f g)
 
 pub constant_comes : (r : Replica) (w : Worker) (g : ℕ) → slice_index (arities r.operations) g ≡ 0 → IsWorking r w → IsSettled r (Op g zeros) → Comes r w (turn_of r (Op g zeros)) → Comes r w (1 ∷ (g + 1) ∷ [])

@@ -229,7 +229,8 @@ further_sees s t x e = subst (IsFurther s) (sym e) record {
   kept = refl;
   number = refl;
   slices = refl;
-  known = refl; mark = refl;
+  known = refl;
+  mark = refl;
   seen = begins_push s.own.seen s.own.seen x (begins_self s.own.seen);
   puts = begins_self s.own.puts;
 }
@@ -242,7 +243,8 @@ further_record s t o x h = ⊎_elim
       kept = refl;
       number = refl;
       slices = refl;
-      known = refl; mark = refl;
+      known = refl;
+      mark = refl;
       seen = begins_push s.own.seen s.own.seen o (begins_self s.own.seen);
       puts = begins_push s.own.puts s.own.puts (length s.own.seen) (begins_self s.own.puts);
     })

@@ -25,9 +25,9 @@ returns-in-Some c =
     let stops : Stops goal t.home.plan r t.own end = subst (λ (h : Home). Stops goal h.plan r t.own end) (sym home) e.done in
     let k = working_of goal s t first r e.closure end stops in
     let h = harvest_from first.operations first.gens.now.items goal s t r.rows (later_further s s t (later_self s) e.seat) (k.replica.width ∙ ap (length {A = FiniteAlgebra}) e.closure.operations)
-            (puts_back goal s t first r e.closure k) k.note end c.harvest-in-Some.result c.harvest-in-Some.ensures.seat c.harvest-in-Some.ensures.rows c.harvest-in-Some.ensures.end
-            (rows_tell goal s t first r e.closure end stops) (ending goal s t first r e.closure end stops)
-            (λ lone begun. serial_back goal s t first r e.closure end (e.lone lone.0 (come_first first s.own c.requires.seen))) in
+    (puts_back goal s t first r e.closure k) k.note end c.harvest-in-Some.result c.harvest-in-Some.ensures.seat c.harvest-in-Some.ensures.rows c.harvest-in-Some.ensures.end
+    (rows_tell goal s t first r e.closure end stops) (ending goal s t first r e.closure end stops)
+    (λ lone begun. serial_back goal s t first r e.closure end (e.lone lone.0 (come_first first s.own c.requires.seen))) in
     subst (λ (q : Product × VectorList). IsHarvestFrom q.0 q.1.items goal s c.harvest-in-Some.result) (λ i. (n.operations i, n.gens i)) h
 
 pub returns-in-None : goal.returns-in-None
