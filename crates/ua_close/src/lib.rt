@@ -14,7 +14,7 @@ mod sorting;
 mod widths;
 
 pub use close::{CloseError, Closure, close_set};
-pub use gatherings::Gathered;
+pub use gatherings::{Gathered, gather};
 pub use goals::Goal;
 pub use harvests::{End, Harvest};
 pub use listing::Listing;
