@@ -13,3 +13,14 @@ pub mod LogLaws
 pub mod GatheringLaws
 pub mod Takings
 pub mod GatheredLaws
+pub mod RowValues
+pub mod ReplicaLaws
+pub mod GoalLaws
+pub mod WorkLaws
+pub mod FinishLaws
+pub mod RunLaws
+pub mod HarvestLaws
+pub mod SerialLaws
+pub mod LoneLaws
+pub mod LoneSlices
+pub mod BeginLaws

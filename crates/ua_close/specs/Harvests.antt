@@ -16,6 +16,7 @@ use Rattle.ua_close.specs.declared.harvests.End.TheVariants.{Left, Beyond, Halte
 use Rattle.ua_close.specs.declared.harvests.Harvest.{Harvest}
 use Rattle.ua_close.specs.Values.{values, different}
 use Rattle.ua_close.specs.Goals.{Meets}
+use Rattle.ua_close.specs.Serials.{IsLone, HasBegunSerial, EndsSerial}
 
 -- the board was started for this product, and as many generators
 pub record IsPlanOf (p : Product) (gens : List Vector) (plan : Plan) : Type 0 where
@@ -89,6 +90,7 @@ pub record IsHarvestFrom (p : Product) (gens : List Vector) (goal : Goal) (s : S
   pub rows : RowsTell p gens s h.seat h.rows.items h.end
   pub puts : PutsNew p gens h.seat.own
   pub end : EndTells p gens goal s h.seat h.rows.items h.end
+  pub lone : IsLone s → HasBegunSerial p gens s.own.seen → EndsSerial p gens h.seat.own.seen h.end
 
 -- the harvest of some run
 pub record IsHarvest (p : Product) (gens : List Vector) (goal : Goal) (h : Harvest) : Type 0 where

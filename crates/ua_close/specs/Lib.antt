@@ -7,5 +7,10 @@ pub mod Problems
 pub mod Answers
 pub mod Values
 pub mod Goals
+pub mod Serials
 pub mod Harvests
+pub mod Replicas
+pub mod Workings
+pub mod Walks
 pub mod Gatherings
+pub mod Beginnings

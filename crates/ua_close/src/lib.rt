@@ -2,6 +2,7 @@
 #![tactic(auto)]
 
 mod apply;
+mod beginnings;
 mod close;
 mod gatherings;
 mod goals;
@@ -9,9 +10,12 @@ mod harvests;
 mod listing;
 mod log;
 mod problem;
+mod puts;
+mod replicas;
 mod serial;
 mod sorting;
 mod widths;
+mod workers;
 
 pub use close::{CloseError, Closure, close_set};
 pub use gatherings::{Gathered, gather};
@@ -19,6 +23,7 @@ pub use goals::Goal;
 pub use harvests::{End, Harvest};
 pub use listing::Listing;
 pub use ua_table::{FreeGate, Gate, Run};
+pub use workers::work;
 
 #[cfg(test)]
 mod tests;
