@@ -28,7 +28,7 @@ use Rattle.ua_close.specs.Values.{values}
 use Rattle.ua_close.specs.Goals.{Meets}
 use Rattle.ua_close.specs.Harvests.{IsPlanOf, PutsNew, HasLeft, IsOneMore, AreRowsOf, EndTells, RowsTell, IsHarvest}
 use Rattle.ua_close.specs.Gatherings.{IsSeatOf, AreSeats, HasBegun, FirstHasBegun, worker_of, machine_of, task_of, ends_of, rows_of, IsBeyondEnd, IsFirstWith, IsFirstAt, HasMostRows, IsLogOf, IsStillLog, IsFullLog, IsMetLog}
-use Rattle.ua_close.proofs.ValueLaws.{values_first, length-values}
+use Rattle.ua_close.proofs.RowValues.{values_first, length-values}
 use Rattle.ua_close.proofs.LogLaws.{cut_at, whole_prefix, prefix_length, new_distinct, new_different, new_front, log_new, log_members}
 use Rattle.ua_close.proofs.GatheringLaws.{machine_ruled, machine_still, begun_later}
 

@@ -23,7 +23,7 @@ use Rattle.ua_log.specs.Logs.{LogView}
 use Rattle.ua_close.specs.Values.{values}
 use Rattle.ua_close.specs.Harvests.{IsPlanOf, PutsNew, IsDone, HasLeft}
 use Rattle.ua_close.specs.Gatherings.{HasBegun, idle_worker, machine_of, task_of}
-use Rattle.ua_close.proofs.ValueLaws.{values_first, length-values, in_left}
+use Rattle.ua_close.proofs.RowValues.{values_first, length-values, in_left}
 use Rattle.ua_close.proofs.LogLaws.{prefix_length, new_distinct, log_new, log_made}
 
 -- ---- workers that differ in what they have seen

@@ -8,7 +8,6 @@ pub mod RecordLaws
 pub mod Reaching
 pub mod Walks
 pub mod Closing
-pub mod ValueLaws
 pub mod LogLaws
 pub mod GatheringLaws
 pub mod Takings

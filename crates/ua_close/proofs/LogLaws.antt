@@ -20,7 +20,7 @@ use Rattle.ua_log.specs.declared.views.Worker.{Worker}
 use Rattle.ua_log.specs.Rule.{IsPrefix, MayStand, Agrees, Rule}
 use Rattle.ua_close.specs.Values.{values, with_new, different}
 use Rattle.ua_close.specs.Harvests.{IsPlanOf, PutsNew}
-use Rattle.ua_close.proofs.ValueLaws.{values_push, values_first, length-values, with_absent, different_push}
+use Rattle.ua_close.proofs.RowValues.{values_push, values_first, length-values, with_absent, different_push}
 
 module _ {X : Type 0} where
   -- a list up to an item, and behind it
