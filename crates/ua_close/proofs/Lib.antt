@@ -8,6 +8,10 @@ pub mod RecordLaws
 pub mod Reaching
 pub mod Walks
 pub mod Closing
+pub mod LogLaws
+pub mod GatheringLaws
+pub mod Takings
+pub mod GatheredLaws
 pub mod RowValues
 pub mod ReplicaLaws
 pub mod GoalLaws

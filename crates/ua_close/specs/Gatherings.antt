@@ -1,5 +1,5 @@
 -- What the harvests of all workers make together.
-use Rattle.std.specs.Prelude.{◌≡◌, ◌≢◌, ℕ, suc, ◌<◌, ◌≤◌, nat_lt, true, List, [], ◌∷◌, ◌++◌, length, map, nat_eq, None, Contains, ◌↔◌}
+use Rattle.std.specs.Prelude.{◌≡◌, ◌≢◌, ℕ, suc, ◌<◌, ◌≤◌, nat_lt, true, List, [], ◌∷◌, ◌++◌, length, map, take, slice_get, nat_eq, None, Some, Contains, ◌↔◌}
 use Rattle.std.specs.List.{AllByRecursion, IsDistinct}
 use Rattle.std.specs.Cmp.Lexicographic.{pointwise}
 use Rattle.ua_table.specs.declared.origins.Origin.{Origin}
@@ -86,6 +86,23 @@ pub record IsFirstWith (is : End → Type 0) (hs : List Harvest) (h : Harvest) :
   pub whole : hs ≡ before ++ h ∷ after
   pub end : is h.end
   pub none : AllByRecursion (λ (g : Harvest). ¬ is g.end) before
+
+-- the n-th harvest is the first whose end is one of these
+pub record IsFirstAt (is : End → Type 0) (hs : List Harvest) (n : ℕ) : Type 0 where
+  pub harvest : Harvest
+  pub stands : slice_get hs n ≡ Some harvest
+  pub end : is harvest.end
+  pub none : AllByRecursion (λ (e : End). ¬ is e) (take n (ends_of hs))
+
+-- the rows of a harvest
+abbrev pub rows_of : Harvest → RowList
+rows_of h = h.rows
+
+-- no harvest has more rows than the n-th
+pub record HasMostRows (hs : List Harvest) (n : ℕ) : Type 0 where
+  pub rows : RowList
+  pub stands : slice_get (map rows_of hs) n ≡ Some rows
+  pub most : AllByRecursion (λ (h : Harvest). length h.rows.items ≤ length rows.items) hs
 
 -- the rule of the board holds of the log with the workers of all harvests, and its records have different values, which are members
 pub record IsLogOf (p : Product) (gens : List Vector) (plan : Plan) (hs : List Harvest) (log : LogView) : Type 0 where

@@ -18,7 +18,7 @@ mod widths;
 mod workers;
 
 pub use close::{CloseError, Closure, close_set};
-pub use gatherings::Gathered;
+pub use gatherings::{Gathered, gather};
 pub use goals::Goal;
 pub use harvests::{End, Harvest};
 pub use listing::Listing;
