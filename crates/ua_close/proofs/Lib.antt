@@ -23,3 +23,4 @@ pub mod SerialLaws
 pub mod LoneLaws
 pub mod LoneSlices
 pub mod BeginLaws
+pub mod ClosingLaws

@@ -14,3 +14,4 @@ pub mod Workings
 pub mod Walks
 pub mod Gatherings
 pub mod Beginnings
+pub mod Closings

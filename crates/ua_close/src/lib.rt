@@ -4,6 +4,7 @@
 mod apply;
 mod beginnings;
 mod close;
+mod closings;
 mod gatherings;
 mod goals;
 mod harvests;
