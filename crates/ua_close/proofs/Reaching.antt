@@ -172,11 +172,35 @@ module _ (p : Product) (gens rows : List Vector) where
       before (Op f xs) valid (subst (λ (w : List ℕ). slice_cmp nat_cmp w t ≡ Less) (sym (turn_some (arities p) f (take (slice_index (arities p) f) xs) (omega (arith, some, valid.count)))) less)
 
   -- at the start
-  before_first : HasAllBefore p gens rows (0 ∷ 0 ∷ [])
+  pub before_first : HasAllBefore p gens rows (0 ∷ 0 ∷ [])
   before_first = from_kinds (0 ∷ 0 ∷ [])
       (λ j h less. absurd (let low = less_two 0 j 0 less in omega (arith, low)))
       (λ f xs h none less. absurd (less_kind 1 0 (f ∷ []) (0 ∷ []) less (omega arith)))
       (λ f xs h some less. absurd (less_kind 2 0 (unit_at f xs ∷ number_at f xs ∷ []) (0 ∷ []) less (omega arith)))
+
+  -- after a generator
+  pub after_generator : (i : ℕ) → HasAllBefore p gens rows (0 ∷ i ∷ []) → HasValue p gens rows (Gen i) → HasAllBefore p gens rows (0 ∷ (i + 1) ∷ [])
+  after_generator i before here = from_kinds (0 ∷ (i + 1) ∷ [])
+      (λ j h less. ⊎_elim
+      (λ low. before (Gen j) h (two_less 0 j i low))
+      (λ high. subst (λ k. HasValue p gens rows (Gen k)) (let low = less_two 0 j (i + 1) less in let e : i ≡ j = omega (arith, low, high) in e) here)
+      (cases_lt j i))
+      (λ f xs h none less. absurd (less_kind 1 0 (f ∷ []) ((i + 1) ∷ []) less (omega arith)))
+      (λ f xs h some less. absurd (less_kind 2 0 (unit_at f xs ∷ number_at f xs ∷ []) ((i + 1) ∷ []) less (omega arith)))
+
+  -- after all of them
+  pub after_generators : (n : ℕ) → length gens ≤ n → HasAllBefore p gens rows (0 ∷ n ∷ []) → HasAllBefore p gens rows (1 ∷ 0 ∷ [])
+  after_generators n all before = from_kinds (1 ∷ 0 ∷ [])
+      (λ j h less. before (Gen j) h (two_less 0 j n (omega (arith, h, all))))
+      (λ f xs h none less. absurd (let low = less_two 1 f 0 less in omega (arith, low)))
+      (λ f xs h some less. absurd (less_kind 2 1 (unit_at f xs ∷ number_at f xs ∷ []) (0 ∷ []) less (omega arith)))
+
+  -- after all constants
+  pub after_constants : (n : ℕ) → length (arities p) ≤ n → HasAllBefore p gens rows (1 ∷ n ∷ []) → HasAllBefore p gens rows (2 ∷ 0 ∷ 0 ∷ [])
+  after_constants n all before = from_kinds (2 ∷ 0 ∷ 0 ∷ [])
+      (λ j h less. before (Gen j) h (less_first 0 1 (j ∷ []) (n ∷ []) (omega arith)))
+      (λ f xs h none less. constant_before (1 ∷ n ∷ []) before f xs h none (two_less 1 f n (let low = h.operation in omega (arith, low, all))))
+      (λ f xs h some less. ⊎_elim (λ low. absurd (omega (arith, low))) (λ e. absurd (let low = e.1 in omega (arith, low))) (less_three 2 (unit_at f xs) 0 (number_at f xs) 0 less))
 
   -- after an operation, which is a constant or has no turn among the constants
   pub after_constant : (g : ℕ) → HasAllBefore p gens rows (1 ∷ g ∷ []) → (slice_index (arities p) g ≡ 0 → HasValue p gens rows (Op g (0 ∷ 0 ∷ 0 ∷ 0 ∷ []))) → HasAllBefore p gens rows (1 ∷ (g + 1) ∷ [])

@@ -65,7 +65,7 @@ module _ (ks : List ℕ) (u n t : ℕ) (below : u < sum ks * n) (number : t < le
   }
 
   -- and this is its turn
-  tuple_turn : turn ks (Op (operation_of ks u) (four_places ks (operation_of ks u) tuple)) ≡ 2 ∷ u ∷ t ∷ []
+  pub tuple_turn : turn ks (Op (operation_of ks u) (four_places ks (operation_of ks u) tuple)) ≡ 2 ∷ u ∷ t ∷ []
   tuple_turn =
       let f = operation_of ks u in
       let some : 0 < slice_index ks f = (let w = spot.place in omega (arith, w)) in

@@ -5,3 +5,13 @@ pub mod Arrangements
 pub mod Progress
 pub mod Problems
 pub mod Answers
+pub mod Values
+pub mod Goals
+pub mod Serials
+pub mod Harvests
+pub mod Replicas
+pub mod Workings
+pub mod Walks
+pub mod Gatherings
+pub mod Beginnings
+pub mod Closings

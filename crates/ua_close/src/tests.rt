@@ -4,6 +4,8 @@ ghost use Rattle.std.specs.Prelude.{IfOk};
 ghost use Rattle.std.specs.List.{AllByRecursion};
 ghost use Rattle.ua_table.specs.Algebras.{IsVector};
 
+mod workers;
+
 use crate::{CloseError, Closure, FreeGate, Listing, Run, close_set};
 use std::alloc::Global;
 use std::process::Abort;

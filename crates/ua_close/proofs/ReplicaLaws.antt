@@ -1,0 +1,92 @@
+-- What a replica keeps as records are entered.
+use Rattle.std.proofs.Common.{◌≡◌, ◌↔◌, ℕ, zero, suc, ◌<◌, Bool, List, [], ◌∷◌, ◌++◌, length, take, map, Option, Vec, refl, sym, ap, ◌∙◌, subst, arith, ⊎_elim}
+use Rattle.std.specs.Prelude.{Contains, slice_index, IsTrue, IfSome, IfNone, slice_get, Some, is_some}
+use Rattle.std.specs.List.{AllByRecursion}
+use Rattle.std.specs.declared.alloc.Global.{Global}
+use Rattle.ua_table.specs.Algebras.{Vector, IsVector, arities, apply}
+use Rattle.ua_table.specs.declared.origins.Origin.{Origin}
+use Rattle.ua_table.specs.declared.origins.Origin.TheVariants.{Gen, Op}
+use Rattle.ua_table.proofs.Lists.{found, get_or-slice_get, All-slice_get, all_append}
+use Rattle.ua_rows.specs.RowLists.{RowList, rows_at}
+use Rattle.ua_rows.proofs.OperationLaws.{applied_vector}
+use Rattle.ua_close.specs.Values.{with_new, different}
+use Rattle.ua_close.specs.Replicas.{values_in, value_in, IsOriginIn, IsReplica}
+use Rattle.ua_close.specs.declared.replicas.Replica.{Replica}
+use Rattle.ua_close.proofs.LogLemmas.{contains_by}
+use Rattle.ua_close.proofs.RowValues.{with_old, with_absent, either_way, in_different, in_all, different_push, rows_twice, length-rows_at}
+
+-- the rows of records are rows
+below_at : (n : ℕ) (places : List ℕ) (a : ℕ) → AllByRecursion (λ k. k < n) places → a < length places → slice_index places a < n
+below_at n [] a all lt = absurd (omega (arith, lt))
+below_at n (k ∷ ks) zero all lt = all.0
+below_at n (k ∷ ks) (suc a) all lt = below_at n ks a all.1 (omega (arith, lt))
+
+named_below : (n : ℕ) (places args : List ℕ) → AllByRecursion (λ k. k < n) places → AllByRecursion (λ a. a < length places) args → AllByRecursion (λ k. k < n) (map (λ a. slice_index places a) args)
+named_below n places [] all h = tt
+named_below n places (a ∷ rest) all h = (below_at n places a all h.0, named_below n places rest all h.1)
+
+module _ (r : Replica) (op arity : ℕ) (args four : List ℕ) (replica : IsReplica r) (origin : IsOriginIn r (Op op args)) (count : arity ≡ slice_index (arities r.operations) op)
+    (rows : take (length (take arity args)) four ≡ map (λ a. slice_index r.places.items a) (take arity args)) where
+  long : length (take arity args) ≡ arity
+  long = ap (λ k. length (take k args)) count ∙ origin.count ∙ sym count
+
+  earlier : AllByRecursion (λ a. a < length r.places.items) (take arity args)
+  earlier = subst (λ k. AllByRecursion (λ a. a < length r.places.items) (take k args)) (sym count) origin.earlier
+
+  taken : take arity four ≡ map (λ a. slice_index r.places.items a) (take arity args)
+  taken = ap (λ k. take k four) (sym long) ∙ rows
+
+  pub named_rows : AllByRecursion (λ k. k < length r.rows.items) (take arity four)
+  named_rows = subst (AllByRecursion (λ k. k < length r.rows.items)) (sym taken) (named_below (length r.rows.items) r.places.items (take arity args) replica.named earlier)
+
+  pub value_of_rows : apply r.operations op (rows_at r.rows.items (take arity four)) ≡ value_in r (Op op args)
+  value_of_rows = ap (λ l. apply r.operations op (rows_at r.rows.items l)) taken
+      ∙ ap (apply r.operations op) (rows_twice r.rows.items r.places.items (take arity args) earlier)
+      ∙ ap (λ k. apply r.operations op (rows_at (values_in r) (take k args))) count
+
+-- what is looked up among the rows is looked up among the values
+pub has_value : (r : Replica) (v : Vector) (found : Option ℕ) (b : Bool) → IsReplica r → b ≡ is_some found → IfSome found (λ i. slice_get r.rows.items i ≡ Some v) → IfNone found (¬ Contains r.rows.items v) → IsTrue b ↔ Contains (values_in r) v
+has_value r v found b replica e some none =
+    let by = contains_by found b r.rows.items v e some none in (
+      (λ t. in_all (values_in r) v (subst (λ l. Contains l v) replica.rows_are (by.0 t))),
+      (λ h. by.1 (subst (λ l. Contains l v) (sym replica.rows_are) (in_different (values_in r) v h))),
+    )
+
+-- what holds of the rows holds of the values
+all_named : (P : Vector → Type 0) (rows : List Vector) (places : List ℕ) → AllByRecursion P rows → AllByRecursion (λ k. k < length rows) places → AllByRecursion P (rows_at rows places)
+all_named P rows [] all h = tt
+all_named P rows (k ∷ ks) all h =
+    let there = found rows k h.0 in
+    (subst P (sym (get_or-slice_get rows k there.0 [] there.1)) (All-slice_get P rows k there.0 all there.1), all_named P rows ks all h.1)
+
+pub value_vectors : (r : Replica) → IsReplica r → AllByRecursion (IsVector r.operations) (values_in r)
+value_vectors r replica = all_named (IsVector r.operations) r.rows.items r.places.items replica.vectors replica.named
+
+-- the value of an origin is a vector of the product
+pub value_vector : (r : Replica) (o : Origin) → IsReplica r → IsOriginIn r o → IsVector r.operations (value_in r o)
+value_vector r (Gen i) replica h = let there = found r.gens.now.items i h in subst (IsVector r.operations) (sym (get_or-slice_get r.gens.now.items i there.0 [] there.1)) (All-slice_get (IsVector r.operations) r.gens.now.items i there.0 replica.admitted there.1)
+value_vector r (Op f args) replica h =
+    let places = take (slice_index (arities r.operations) f) args in
+    applied_vector r.operations f (values_in r) places (value_in r (Op f args)) replica.product h.operation h.count (value_vectors r replica)
+    (subst (λ n. AllByRecursion (λ a. a < n) places) (sym (length-rows_at r.rows.items r.places.items)) h.earlier) refl
+
+all_new : (P : Vector → Type 0) (rows : List Vector) (v : Vector) → AllByRecursion P rows → P v → AllByRecursion P (with_new rows v)
+all_new P rows v all h = ⊎_elim
+    (λ there. subst (AllByRecursion P) (sym (with_old rows v there)) all)
+    (λ new. subst (AllByRecursion P) (sym (with_absent rows v new)) (all_append P rows (v ∷ []) all (h, tt)))
+    (either_way rows v)
+
+-- a replica into which a value was entered
+pub entered : (r : Replica) (rows : RowList) (places : Vec ℕ Global) (v : Vector) → IsReplica r → IsVector r.operations v → rows.width ≡ r.rows.width → rows.items ≡ with_new r.rows.items v
+    → rows_at rows.items places.items ≡ values_in r ++ v ∷ [] → AllByRecursion (λ k. k < length rows.items) places.items
+    → IsReplica record { operations = r.operations; gens = r.gens; shape = r.shape; rows = rows; places = places; scratch = r.scratch }
+entered r rows places v replica vector width new values named = record {
+  product = replica.product;
+  shape = replica.shape;
+  admitted = replica.admitted;
+  width = width ∙ replica.width;
+  scratch = replica.scratch;
+  named = named;
+  rows_are = new ∙ ap (λ (l : List Vector). with_new l v) replica.rows_are ∙ sym (different_push (values_in r) v) ∙ sym (ap different values);
+  vectors = subst (AllByRecursion (IsVector r.operations)) (sym new) (all_new (IsVector r.operations) r.rows.items v replica.vectors vector);
+}

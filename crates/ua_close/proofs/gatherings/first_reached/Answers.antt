@@ -1,0 +1,10 @@
+use Rattle.std.proofs.Common.{◌≢◌, ◌+◌, ◌<◌, length, arith}
+use Rattle.ua_close.specs.declared.harvests.End.{End}
+use Rattle.ua_close.proofs.Takings.{one_end_more}
+use Rattle.ua_close.proofs.gatherings.first_reached.Goals as goal
+
+pub loop-i-preserved : goal.loop-i-preserved
+loop-i-preserved c =
+    let hs = c.args.harvests.now in
+    let low : c.loop-i.i < length hs = let l = c.loop-i-test.true in omega arith in
+    one_end_more (λ e. e ≢ End.Reached) hs c.loop-i.i c.index-harvests-i.result low c.index-harvests-i.is c.in_default.not-Reached c.loop-i.invariant

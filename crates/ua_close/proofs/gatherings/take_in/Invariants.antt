@@ -1,0 +1,10 @@
+use Rattle.std.specs.Prelude.{vec_len}
+use Rattle.ua_close.specs.declared.harvests.Harvest.{Harvest}
+use Rattle.ua_close.proofs.Takings.{Taking}
+use Rattle.ua_close.proofs.gatherings.take_in.Given as goal
+
+abbrev pub invariant-loop-next : goal.invariant-loop-next
+invariant-loop-next l = (first : Harvest) × Taking l.fn.board l.fn.harvests.items first l.chosen l.taken l.seat l.rows l.waiting.items
+
+abbrev pub decreases-loop-next : goal.decreases-loop-next
+decreases-loop-next l = goal.left-loop-next l

@@ -1,0 +1,164 @@
+//! A worker's own copy of the records that its seat has seen.
+
+ghost use Rattle.std.specs.Prelude.{◌≡◌, ◌<◌, ◌≤◌, ◌++◌, ◌∷◌, [], ◌↔◌, length, map, take, slice_index, vec_len, vec_capacity, Contains, IfOk, OnOk, IsTrue, IsFalse};
+ghost use Rattle.std.specs.List.{AllByRecursion};
+ghost use Rattle.ua_table.specs.declared.origins.Origin.TheVariants.{Op};
+ghost use Rattle.ua_table.specs.Algebras.{IsVector, arities};
+ghost use Rattle.ua_rows.specs.RowLists.{rows_at};
+ghost use Rattle.ua_close.specs.Values.{with_new};
+ghost use Rattle.ua_close.specs.Replicas.{values_in, value_in, IsOriginIn, IsReplica, HasRoom, SameClosure, SameRecords};
+
+use std::alloc::{AllocError, Global};
+use ua_rows::{Operations, Rows, Scratch};
+use ua_table::{Elem, Frame, Origin, Shape, Vectors};
+
+/// The different values of records, with a look-up, and what computes them.
+///
+/// No word of the board tells that a record of another seat is new. So each record has a row, and several
+/// may have the same one.
+#[derive(Drop)]
+pub(crate) struct Replica<'a> {
+    pub(crate) operations: Operations<'a>,
+    pub(crate) gens: &'a Vectors,
+    pub(crate) shape: Shape,
+    pub(crate) rows: Rows,
+    /// The row of each record.
+    pub(crate) places: Vec<u32>,
+    /// Room for one vector.
+    pub(crate) scratch: Scratch,
+}
+
+/// The rows of the records that the arguments name, and 0 after them.
+#[inline(always)]
+fn named(places: &[u32], args: &[u32]) -> [u32; 4]
+    requires few { length args.now ≤ 4 }
+    requires named { AllByRecursion (λ a. a < length places.now) args.now }
+    ensures { take (length args.now) result ≡ map (λ a. slice_index places.now a) args.now }
+{
+    let mut rows = [0; 4];
+    for (j, a) in args.iter().enumerate() {
+        rows[j] = places[*a as usize];
+    }
+    rows
+}
+
+/// Enters a vector as the value of the next record, and answers whether it is a new row. It takes no
+/// memory.
+fn enter_vector(rows: &mut Rows, places: &mut Vec<u32>, v: &[Elem]) -> bool
+    requires width { length v.now ≡ rows.old.width }
+    requires spare { 0 < rows.old.spare }
+    requires room { vec_len places.old < vec_capacity places.old }
+    requires few { length rows.old.items < u32.MAX }
+    requires named { AllByRecursion (λ k. k < length rows.old.items) places.old.items }
+    ensures width { rows.new.width ≡ rows.old.width }
+    ensures rows { rows.new.items ≡ with_new rows.old.items v.now }
+    ensures values { rows_at rows.new.items places.new.items ≡ rows_at rows.old.items places.old.items ++ v.now ∷ [] }
+    ensures named { AllByRecursion (λ k. k < length rows.new.items) places.new.items }
+    ensures new { IsTrue result → rows.new.items ≡ rows.old.items ++ v.now ∷ [] }
+    ensures old { IsFalse result → rows.new.items ≡ rows.old.items }
+{
+    match rows.find(v) {
+        Some(place) => {
+            places.push(place).unwrap();
+            false
+        }
+        None => {
+            let place = rows.push_reserved(v);
+            places.push(place).unwrap();
+            true
+        }
+    }
+}
+
+impl<'a> Replica<'a> {
+    /// The replica of no record.
+    pub(crate) fn new(
+        alloc: Global,
+        frame: &'a Frame<'a>,
+        gens: &'a Vectors,
+    ) -> Result<Replica<'a>, AllocError>
+        requires { AllByRecursion (IsVector frame.now) gens.now.items }
+        ensures replica { IfOk result IsReplica }
+        ensures operations { IfOk result (λ r. r.operations ≡ frame.now) }
+        ensures gens { IfOk result (λ r. r.gens.now ≡ gens.now) }
+        ensures empty { IfOk result (λ r. r.places.items ≡ []) }
+    {
+        let width = frame.width();
+        Ok(Replica {
+            operations: Operations::new(alloc, frame)?,
+            gens,
+            shape: frame.shape(alloc)?,
+            rows: Rows::new(alloc, width),
+            places: Vec::new(alloc),
+            scratch: Scratch::new(alloc, width)?,
+        })
+    }
+
+    /// Makes room for one more record. After want of memory the replica is as it was.
+    pub(crate) fn reserve(&mut self) -> Result<(), AllocError>
+        requires { IsReplica self.old }
+        ensures replica { IsReplica self.new }
+        ensures same { SameRecords self.old self.new }
+        ensures room { OnOk result (HasRoom self.new) }
+    {
+        self.places.reserve(1)?;
+        self.rows.reserve()?;
+        Ok(())
+    }
+
+    /// Writes the value of an operation at records into the scratch, and answers whether it is the value
+    /// of a record. It takes no memory.
+    #[inline(always)]
+    pub(crate) fn has(&mut self, op: u32, args: &[u32; 4]) -> bool
+        requires replica { IsReplica self.old }
+        requires origin { IsOriginIn self.old (Op op args.now) }
+        ensures replica { IsReplica self.new }
+        ensures same { self.new ≡ record self.old { scratch = self.new.scratch } }
+        ensures value { self.new.scratch ≡ value_in self.old (Op op args.now) }
+        ensures has { IsTrue result ↔ Contains (values_in self.old) (value_in self.old (Op op args.now)) }
+    {
+        let arity = usize::from(self.shape.arity(op));
+        let rows = named(self.places.as_slice(), &args[..arity]);
+        self.operations
+            .apply(op, &self.rows, &rows[..arity], &mut self.scratch);
+        self.rows.find_scratch(&self.scratch).is_some()
+    }
+
+    /// Whether the value of an origin is the value of a record. It takes no memory.
+    pub(crate) fn holds(&mut self, o: &Origin) -> bool
+        requires replica { IsReplica self.old }
+        requires origin { IsOriginIn self.old o.now }
+        ensures replica { IsReplica self.new }
+        ensures same { self.new ≡ record self.old { scratch = self.new.scratch } }
+        ensures has { IsTrue result ↔ Contains (values_in self.old) (value_in self.old o.now) }
+    {
+        match o {
+            Origin::Gen { index } => self.rows.find(self.gens.get(*index)).is_some(),
+            Origin::Op { op, args } => self.has(*op, args),
+        }
+    }
+
+    /// Enters a record, and answers whether its value is a new row. It takes no memory.
+    pub(crate) fn enter(&mut self, o: &Origin) -> bool
+        requires replica { IsReplica self.old }
+        requires room { HasRoom self.old }
+        requires origin { IsOriginIn self.old o.now }
+        requires few { length self.old.rows.items < u32.MAX }
+        ensures replica { IsReplica self.new }
+        ensures closure { SameClosure self.old self.new }
+        ensures values { values_in self.new ≡ values_in self.old ++ value_in self.old o.now ∷ [] }
+        ensures new { IsTrue result → self.new.rows.items ≡ self.old.rows.items ++ value_in self.old o.now ∷ [] }
+        ensures old { IsFalse result → self.new.rows.items ≡ self.old.rows.items }
+    {
+        match o {
+            Origin::Gen { index } => {
+                let v = self.gens.get(*index);
+                enter_vector(&mut self.rows, &mut self.places, v)
+            }
+            Origin::Op { op, args } => {
+                self.has(*op, args);
+                enter_vector(&mut self.rows, &mut self.places, self.scratch.as_slice())
+            }
+        }
+    }
+}
