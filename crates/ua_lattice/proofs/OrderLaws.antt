@@ -3,14 +3,16 @@ use Rattle.std.proofs.Common.{◌≡◌, ◌≢◌, ℕ, ◌+◌, ◌<◌, ◌�
 use Rattle.std.specs.Prelude.{Contains, slice_index, ◌==◌}
 use Rattle.std.specs.List.{AllByRecursion, IsDistinct, filter, range_with_len}
 use Rattle.std.specs.List.Sorted.{IsPermutation, IsSorted, IsStrictlySortedBy}
-use Rattle.std.specs.Cmp.{IsTotalOrder, on_total, back_total, then_total, nat_cmp_total}
+use Rattle.std.specs.Bool.{Decides}
+use Rattle.std.specs.Cmp.{IsTotalOrder, on_total, back_total, then_total, nat_cmp_total, tied_itself, Equal-is, eq_by_cmp_equiv}
 use Rattle.std.specs.Cmp.Lexicographic.{slice_cmp, nat_list_cmp_total, pointwise, bytes_decides}
-use Rattle.std.specs.Ordering.{nat_cmp, ordering_then, ordering_reverse, is_lt}
+use Rattle.std.specs.Ordering.{nat_cmp, ordering_then, ordering_reverse, is_lt, is_eq, eq_by_cmp}
 use Rattle.std.specs.declared.cmp.Ordering.TheVariants.{Less, Equal, Greater}
 use Rattle.std.proofs.lemmas.Bool.{true≢false, cases_lt, eq-eqb, eqb-true}
 use Rattle.std.proofs.lemmas.Cmp.{ranked}
 use Rattle.std.proofs.lemmas.Map.Lookups.{exact_bytes}
-use Rattle.std.proofs.lemmas.Map.Keys.{sorted_from_all_adjacent, apart_from_distinct, Less-from_sorted}
+use Rattle.std.proofs.lemmas.Map.Keys.{sorted_from_all_adjacent, apart_from_distinct, Less-from_sorted, IsDistinct-from_sorted}
+use Rattle.std.proofs.lemmas.Map.Made.{length-le_from_is_member, is_member-Decides}
 use Rattle.std.proofs.lemmas.List.{length-map, get_or-map, length-take-le, get_or-take}
 use Rattle.std.proofs.lemmas.List.FromFn.{length-range_with_len, get_or-range_with_len}
 use Rattle.std.proofs.lemmas.List.Sorted.{All-permutation}
@@ -59,6 +61,23 @@ strictly_sorted ps different sorted =
     let no = apart_from_distinct (pointwise nat_eq) ps k (k + 1) [] different (omega arith) h in
     let yes = (bytes_decides (get_or ps k []) (get_or ps (k + 1) [])).1 e in
     true≢false (sym yes ∙ no)))
+
+-- ---- how many there are
+
+abbrev same : Partition → Partition → Bool
+same = eq_by_cmp by_blocks
+
+same_Decides : (p q : Partition) → Decides (same p q) (p ≡ q)
+same_Decides p q = (
+  (λ t. exact_bytes p q (then_equal (nat_cmp (block_count q) (block_count p)) (slice_cmp nat_cmp p q) ((Equal-is (by_blocks p q)).0 t))),
+  (λ e. subst (λ (r : Partition). same p r ≡ true) e (ap is_eq (tied_itself by_blocks_total p))),
+)
+
+-- an ordered list is no longer than a list that has each of its members
+pub length_from_members : (ps qs : List Partition) → IsStrictlySortedBy by_blocks ps → ((p : Partition) → Contains ps p → Contains qs p) → length ps ≤ length qs
+length_from_members ps qs up h =
+    length-le_from_is_member (eq_by_cmp_equiv by_blocks_total) ps qs (IsDistinct-from_sorted by_blocks ps up)
+    (λ p t. (is_member-Decides same_Decides qs p).1 (h p ((is_member-Decides same_Decides ps p).0 t)))
 
 -- what is sorted by a test that reads the count and the partition
 pub sorted_partitions : (cmp : Counted → Counted → Ordering) → ((a b : Counted) → IsCounted a → IsCounted b → cmp a b ≡ by_blocks a.leaders.items b.leaders.items) → (list : List Counted) → AllByRecursion IsCounted list → IsSorted cmp list → IsSorted by_blocks (partitions_of list)

@@ -92,9 +92,9 @@ fn distinct_principals<R: Threads + Sync>(
 
 /// All congruences of an algebra, where there are no more than the budget of a run.
 ///
-/// The principal congruences are found by the run's workers. All others are joins of them: each is joined
-/// with all that are found, unless it is found already. The time is that of so many joins as there are
-/// congruences times those of the principal congruences that are no join of others, twice.
+/// The principal congruences are found by the run's workers, and all others are joins of them. With n
+/// congruences, of which j are principal and no join of others, this takes at most 2nj joins. No closure
+/// is run, so the gate of the run is not passed.
 pub fn congruences<R: Threads + Sync, G: Gate>(
     rt: &R,
     alloc: Global,

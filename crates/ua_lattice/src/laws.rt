@@ -1,10 +1,10 @@
 //! Laws of congruences and their joins: each function does nothing, and its contract states the laws.
 
-ghost use Rattle.std.specs.Prelude.{List, ◌++◌, Contains};
+ghost use Rattle.std.specs.Prelude.{ℕ, ◌≤◌, List, ◌++◌, length, Contains};
 ghost use Rattle.ua_table.specs.Algebras.{FiniteAlgebra, IsAlgebra};
 ghost use Rattle.ua_part.specs.Partitions.{Partition, IsPartition, IsJoin, identity_on};
 ghost use Rattle.ua_prod.specs.Congruences.{IsCongruence};
-ghost use Rattle.ua_lattice.specs.Lattices.{HasPrincipals, IsJoinClosed, IsJoinedWith};
+ghost use Rattle.ua_lattice.specs.Lattices.{HasPrincipals, IsJoinClosed, IsJoinedWith, IsCongruenceList, IsExceedingList};
 
 /// The join of congruences, as partitions, is a congruence; and a list of congruences that holds the
 /// identity and all principal congruences, and is closed under joins, holds every congruence (S. Burris
@@ -18,4 +18,10 @@ pub fn joins()
 /// partition more.
 pub fn joined_with()
     ensures { (list more : List Partition) (p : Partition) → IsPartition p → IsJoinClosed list → IsJoinedWith list p more → IsJoinClosed (list ++ more) }
+{}
+
+/// An algebra with at most so many congruences has no list of one more: so an answer of one more than the
+/// budget comes exactly where there are more.
+pub fn whole_or_exceeding()
+    ensures { (a : FiniteAlgebra) (budget : ℕ) (list more : List Partition) → IsCongruenceList a list → length list ≤ budget → ¬ IsExceedingList a budget more }
 {}

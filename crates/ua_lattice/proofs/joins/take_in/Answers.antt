@@ -1,4 +1,4 @@
-use Rattle.std.proofs.Common.{[], ◌∷◌, ◌++◌, ◌∙◌, List, ap, sym, subst, arith}
+use Rattle.std.proofs.Common.{◌≡◌, [], ◌∷◌, ◌++◌, ◌∙◌, List, ap, sym, subst, arith}
 use Rattle.std.specs.Prelude.{Contains}
 use Rattle.std.proofs.lemmas.Result.{IfOk-weaker}
 use Rattle.ua_table.proofs.Lists.{all_weaker}
@@ -40,7 +40,7 @@ returns-clause-found c =
     let a = c.args.search.now.algebra.now in
     let old = c.args.found.now in
     let new = c.enter_joins.new.rows.items in
-    let generators = c.in_ok-push.ensures.items ∙ ap (λ (p : Partition). old.generators.items ++ p ∷ []) c.in_ok-copy.ensures in
+    let generators : c.push.new.self.items ≡ old.generators.items ++ c.args.part.now ∷ [] = c.in_ok-push.ensures.items ∙ ap (λ (p : Partition). old.generators.items ++ p ∷ []) c.in_ok-copy.ensures in
     ok_both c.enter_joins.result _ _ _
     (λ _ g all whole. subst (λ (gens : List Partition). IsSpannedLattice a gens new) (sym generators)
     (lattice_more a old.generators.items old.rows.items c.args.part.now new c.requires.algebra.algebra c.requires.found c.requires.congruence g (all whole)))
