@@ -1,0 +1,78 @@
+#!/usr/bin/env python3
+"""Times `con` on algebras of known congruence lattices: bench/congruences.py PROGRAM
+
+For each algebra the number of congruences that the program answers and its processor time are printed, and whether the
+number is the known one.
+"""
+
+import itertools
+import random
+import resource
+import subprocess
+import sys
+
+
+def block(size, operations):
+    """The block of an algebra, each operation given as a function of its arguments, with its arity."""
+    lines = [f"algebra A size {size}"]
+    for number, (arity, function) in enumerate(operations):
+        values = (function(*args) for args in itertools.product(range(size), repeat=arity))
+        lines.append(f"op f{number} {arity} = " + " ".join(map(str, values)))
+    return "\n".join(lines + ["end", ""])
+
+
+def chain(size):
+    """A chain as a lattice: any set of its edges can be collapsed."""
+    return block(size, [(2, min), (2, max)]), 2 ** (size - 1)
+
+
+def no_operations(size, partitions):
+    """A set: every partition is a congruence. Their number is the Bell number of the size."""
+    return block(size, []), partitions
+
+
+def permutations(letters):
+    """The symmetric group on so many letters, with multiplication."""
+    members = list(itertools.permutations(range(letters)))
+    number = {member: place for place, member in enumerate(members)}
+
+    def times(a, b):
+        return number[tuple(members[a][letter] for letter in members[b])]
+
+    return block(len(members), [(2, times)])
+
+
+def integers(modulus, ideals):
+    """The ring of integers by a modulus: a congruence for each divisor."""
+    plus, times = lambda a, b: (a + b) % modulus, lambda a, b: a * b % modulus
+    return block(modulus, [(2, plus), (2, times)]), ideals
+
+
+def groupoid(size):
+    """A random operation: almost surely it has the two trivial congruences alone."""
+    draw = random.Random(1)
+    table = [[draw.randrange(size) for _ in range(size)] for _ in range(size)]
+    return block(size, [(2, lambda a, b: table[a][b])]), 2
+
+
+def main():
+    if len(sys.argv) != 2:
+        sys.exit(__doc__)
+    workloads = [
+        ("chain of 12", *chain(12)),
+        ("7 elements, no operation", *no_operations(7, 877)),
+        ("symmetric group on 5 letters", permutations(5), 3),
+        ("integers by 180", *integers(180, 18)),
+        ("random operation on 200 elements", *groupoid(200)),
+    ]
+    for name, algebra, known in workloads:
+        before = resource.getrusage(resource.RUSAGE_CHILDREN).ru_utime
+        run = subprocess.run([sys.argv[1]], input=f"{algebra}con A\n".encode(), stdout=subprocess.PIPE, check=True)
+        seconds = resource.getrusage(resource.RUSAGE_CHILDREN).ru_utime - before
+        head = run.stdout.split(b"\n", 1)[0].decode()
+        verdict = "as known" if head == f"congruences {known}" else f"NOT {known}"
+        print(f"{name:34} {head:18} {seconds:8.2f} s  {verdict}")
+
+
+if __name__ == "__main__":
+    main()
