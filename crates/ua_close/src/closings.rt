@@ -1,23 +1,24 @@
 //! Workers side by side on one board.
 
 ghost use Rattle.std.specs.Prelude.{◌≡◌, ◌<◌, ◌≤◌, ℕ, [], length, vec_len, slice_index_or, IfOk};
-ghost use Rattle.std.specs.List.{AllByRecursion, AllZip};
+ghost use Rattle.std.specs.List.{AllByRecursion};
 ghost use Rattle.ua_table.specs.declared.limits.TheConstants.{WORKERS};
 ghost use Rattle.ua_table.specs.Algebras.{IsVector};
 ghost use Rattle.ua_close.specs.Goals.{IsGoal};
-ghost use Rattle.ua_close.specs.Harvests.{IsPlanOf, PutsNew, IsHarvest, IsHarvestFrom};
-ghost use Rattle.ua_close.specs.Gatherings.{AreSeats, HasBegun, FirstHasBegun};
+ghost use Rattle.ua_close.specs.Harvests.{IsPlanOf};
+ghost use Rattle.ua_log.specs.Seats.{first_seat};
 ghost use Rattle.ua_close.specs.declared.closings.Turn.{Turn};
 ghost use Rattle.ua_close.specs.declared.harvests.Harvest.{Harvest};
-ghost use Rattle.ua_close.specs.Closings.{IsReady, IsUnused, AreTurns, AreReady, IsHarvestOf};
+ghost use Rattle.ua_close.specs.Closings.{IsReady, AreTurns, AreReady, IsHarvestOf, AreHarvests, IsLoneHarvest};
 
+use crate::beginnings::{Begun, start};
 use crate::goals::Goal;
 use crate::harvests::Harvest;
 use crate::workers::work;
 use std::alloc::{AllocError, Global};
 use std::thread::{self, Threads};
 use ua_log::{Board, Seat};
-use ua_table::{Frame, Gate, Vectors};
+use ua_table::{Frame, Gate, Run, Vectors};
 
 /// A worker's number and its seat.
 #[derive(Drop)]
@@ -102,4 +103,34 @@ fn run_turns<R: Threads + Sync, G: Gate>(
             ensures { IsHarvestOf frame.entry.now gens.entry.now.items goal.entry.now turn result }
         { run_turn(alloc, board, turn, frame, gens, goal, gate) },
     )
+}
+
+/// The harvests of the closure of the generators on an empty board.
+fn harvests_of<R: Threads + Sync, G: Gate>(
+    rt: &R,
+    alloc: Global,
+    board: &Board,
+    seat: Seat,
+    frame: &Frame,
+    gens: &Vectors,
+    goal: &Goal,
+    run: &Run<G>,
+) -> Result<Vec<Harvest>, AllocError>
+    requires seat { seat ≡ first_seat board.now }
+    requires plan { IsPlanOf frame.now gens.now.items board.now.plan }
+    requires admitted { AllByRecursion (IsVector frame.now) gens.now.items }
+    requires goal { IsGoal frame.now goal.now }
+    ensures harvests { IfOk result (λ harvests. AreHarvests frame.now gens.now.items goal.now board.now harvests.items) }
+    ensures lone { run.now.workers ≡ 1 → IfOk result (λ harvests. IsLoneHarvest frame.now gens.now.items harvests.items) }
+{
+    match start(alloc, board, seat, frame, gens, goal) {
+        Begun::Ended(harvest) => {
+            let harvests = vec![in alloc; harvest]?;
+            Ok(harvests)
+        }
+        Begun::Going(first) => {
+            let turns = turns_of(alloc, board, first, run.workers)?;
+            run_turns(rt, alloc, board, turns, frame, gens, goal, run.gate)
+        }
+    }
 }
