@@ -1,15 +1,17 @@
 -- Workers side by side on one board.
 use Rattle.std.specs.Prelude.{◌≡◌, ℕ, suc, false, List, [], ◌∷◌, length}
-use Rattle.std.specs.List.{AllByRecursion, AllZip}
+use Rattle.std.specs.List.{AllByRecursion}
 use Rattle.ua_table.specs.Algebras.{Vector, Product}
 use Rattle.ua_log.specs.Seats.{Home, SeatView}
 use Rattle.ua_close.specs.declared.goals.Goal.{Goal}
 use Rattle.ua_close.specs.declared.harvests.Harvest.{Harvest}
+use Rattle.ua_log.specs.declared.views.Plan.{Plan}
+use Rattle.ua_close.specs.declared.gatherings.Gathered.{Gathered}
 use Rattle.ua_close.specs.declared.closings.Turn.{Turn}
 use Rattle.ua_close.specs.declared.harvests.End.TheVariants.{Left}
 use Rattle.ua_close.specs.Serials.{EndsSerial}
-use Rattle.ua_close.specs.Harvests.{PutsNew, IsHarvest, IsHarvestFrom}
-use Rattle.ua_close.specs.Gatherings.{AreSeats, FirstHasBegun, ends_of}
+use Rattle.ua_close.specs.Harvests.{IsPlanOf, PutsNew, IsHarvest, IsHarvestFrom}
+use Rattle.ua_close.specs.Gatherings.{AreSeats, FirstHasBegun, ends_of, GatheringTells}
 
 -- a seat of this board that has taken in none, claimed nothing, and put what is new
 pub record IsReady (p : Product) (gens : List Vector) (home : Home) (s : SeatView) : Type 0 where
@@ -53,3 +55,12 @@ pub record IsLoneHarvest (p : Product) (gens : List Vector) (hs : List Harvest) 
   pub harvest : Harvest
   pub only : hs ≡ harvest ∷ []
   pub serial : EndsSerial p gens harvest.seat.own.seen harvest.end
+
+-- what a closure on a board makes: what its harvests make together; with one worker there is one harvest, which is serial
+pub record IsClosing (p : Product) (gens : List Vector) (goal : Goal) (budget workers : ℕ) (g : Gathered) : Type 0 where
+  pub plan : Plan
+  pub plan_is : IsPlanOf p gens plan
+  pub budget_is : plan.budget ≡ budget
+  pub harvests : List Harvest
+  pub told : GatheringTells p gens goal plan harvests g
+  pub lone : workers ≡ 1 → IsLoneHarvest p gens harvests

@@ -3,15 +3,17 @@
 ghost use Rattle.std.specs.Prelude.{◌≡◌, ◌<◌, ◌≤◌, ℕ, [], length, vec_len, slice_index_or, IfOk};
 ghost use Rattle.std.specs.List.{AllByRecursion};
 ghost use Rattle.ua_table.specs.declared.limits.TheConstants.{WORKERS};
-ghost use Rattle.ua_table.specs.Algebras.{IsVector};
+ghost use Rattle.ua_table.specs.Algebras.{IsVector, arities};
+ghost use Rattle.ua_table.specs.Numbering.{Fits};
 ghost use Rattle.ua_close.specs.Goals.{IsGoal};
 ghost use Rattle.ua_close.specs.Harvests.{IsPlanOf};
 ghost use Rattle.ua_log.specs.Seats.{first_seat};
 ghost use Rattle.ua_close.specs.declared.closings.Turn.{Turn};
 ghost use Rattle.ua_close.specs.declared.harvests.Harvest.{Harvest};
-ghost use Rattle.ua_close.specs.Closings.{IsReady, AreTurns, AreReady, IsHarvestOf, AreHarvests, IsLoneHarvest};
+ghost use Rattle.ua_close.specs.Closings.{IsReady, AreTurns, AreReady, IsHarvestOf, AreHarvests, IsLoneHarvest, IsClosing};
 
 use crate::beginnings::{Begun, start};
+use crate::gatherings::{Gathered, gather};
 use crate::goals::Goal;
 use crate::harvests::Harvest;
 use crate::workers::work;
@@ -133,4 +135,25 @@ fn harvests_of<R: Threads + Sync, G: Gate>(
             run_turns(rt, alloc, board, turns, frame, gens, goal, run.gate)
         }
     }
+}
+
+/// Closes the generators on a board of their own, with as many workers as the run has, until the goal is
+/// met or nothing is left to do.
+pub(crate) fn close_on_board<R: Threads + Sync, G: Gate>(
+    rt: &R,
+    alloc: Global,
+    frame: &Frame,
+    gens: &Vectors,
+    goal: &Goal,
+    run: &Run<G>,
+) -> Result<Gathered, AllocError>
+    requires admitted { AllByRecursion (IsVector frame.now) gens.now.items }
+    requires goal { IsGoal frame.now goal.now }
+    requires fits { Fits (arities frame.now) (length gens.now.items) run.now.budget }
+    ensures { IfOk result (IsClosing frame.now gens.now.items goal.now run.now.budget run.now.workers) }
+{
+    let shape = frame.shape(alloc)?;
+    let (board, seat) = Board::start(alloc, &shape, gens.len(), run.budget)?;
+    let harvests = harvests_of(rt, alloc, &board, seat, frame, gens, goal, run)?;
+    Ok(gather(board, harvests, frame, gens, goal))
 }
