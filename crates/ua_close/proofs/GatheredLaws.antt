@@ -1,5 +1,5 @@
 -- What is gathered, by the answer.
-use Rattle.std.proofs.Common.{◌≡◌, ◌≢◌, ◌↔◌, ℕ, zero, suc, ◌+◌, ◌<◌, ◌≤◌, Bool, true, false, List, [], ◌∷◌, ◌++◌, length, take, map, Some, None, refl, sym, ap, ◌∙◌, subst, arith}
+use Rattle.std.proofs.Common.{◌≡◌, ◌≢◌, ◌↔◌, ℕ, zero, suc, ◌<◌, ◌≤◌, true, false, List, [], ◌∷◌, ◌++◌, length, take, map, Some, refl, sym, ap, ◌∙◌, subst, arith}
 use Rattle.std.specs.Prelude.{Contains, slice_get, slice_index}
 use Rattle.std.specs.List.{AllByRecursion}
 use Rattle.ua_table.specs.declared.origins.Origin.{Origin}
@@ -11,11 +11,10 @@ use Rattle.ua_table.specs.Numbering.{IsShape}
 use Rattle.ua_table.specs.Origins.{IsOrigin, origin_value}
 use Rattle.ua_table.proofs.Counts.{total-map, one_has, once_in, Contains-times}
 use Rattle.ua_table.proofs.GeneratedLaws.{generator_in, result_in}
-use Rattle.ua_table.proofs.Lists.{found, all_at, all_weaker, all_from_contains, All-slice_get, get_or-slice_get, mapped_at, mapped_from, Contains-head, Contains-tail}
+use Rattle.ua_table.proofs.Lists.{found, all_at, All-slice_get, get_or-slice_get, mapped_at, mapped_from, Contains-head, Contains-tail}
 use Rattle.ua_rows.specs.RowLists.{RowList, rows_at}
 use Rattle.ua_core.proofs.RowLemmas.{all_both, place_below}
 use Rattle.ua_core.proofs.StillStates.{still_lists}
-use Rattle.ua_log.specs.declared.views.Plan.{Plan}
 use Rattle.ua_log.specs.declared.views.Worker.{Worker}
 use Rattle.ua_log.specs.Rule.{IsPrefix, IsPlan, Agrees, Rule}
 use Rattle.ua_log.specs.Logs.{LogView}
@@ -29,7 +28,7 @@ use Rattle.ua_close.specs.Goals.{Meets}
 use Rattle.ua_close.specs.Harvests.{IsPlanOf, PutsNew, HasLeft, IsOneMore, AreRowsOf, EndTells, RowsTell, IsHarvest}
 use Rattle.ua_close.specs.Gatherings.{IsSeatOf, AreSeats, HasBegun, FirstHasBegun, worker_of, machine_of, task_of, ends_of, rows_of, IsBeyondEnd, IsFirstWith, IsFirstAt, HasMostRows, IsLogOf, IsStillLog, IsFullLog, IsMetLog}
 use Rattle.ua_close.proofs.RowValues.{values_first, length-values}
-use Rattle.ua_close.proofs.LogLaws.{cut_at, whole_prefix, prefix_length, new_distinct, new_different, new_front, log_new, log_members}
+use Rattle.ua_close.proofs.LogLaws.{cut_at, whole_prefix, new_distinct, new_different, new_front, log_new, log_members}
 use Rattle.ua_close.proofs.GatheringLaws.{machine_ruled, machine_still, begun_later}
 
 -- the first of its kind, by its place

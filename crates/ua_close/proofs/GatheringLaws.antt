@@ -1,21 +1,19 @@
 -- What the harvests of all workers make together.
-use Rattle.std.proofs.Common.{◌≡◌, ◌≢◌, ◌⊎◌, inl, inr, ⊎_elim, ◌↔◌, ℕ, zero, suc, ◌+◌, ◌<◌, ◌≤◌, Bool, true, false, List, [], ◌∷◌, ◌++◌, length, take, map, reverse, get_or, Some, None, refl, sym, ap, ◌∙◌, subst, arith, append_assoc, append-nil}
-use Rattle.std.specs.Prelude.{◌==◌, Contains, slice_get, slice_index, nat_eq, nat_lt}
-use Rattle.std.specs.List.{AllByRecursion, AllZip, IsDistinct}
-use Rattle.std.specs.Cmp.Lexicographic.{pointwise}
+use Rattle.std.proofs.Common.{◌≡◌, ◌≢◌, ◌↔◌, ℕ, suc, ◌+◌, ◌<◌, ◌≤◌, Bool, true, false, List, [], ◌∷◌, length, map, Some, None, refl, sym, ap, ◌∙◌, subst, arith}
+use Rattle.std.specs.Prelude.{◌==◌, Contains}
+use Rattle.std.specs.List.{AllByRecursion, AllZip}
 use Rattle.ua_table.specs.declared.origins.Origin.{Origin}
 use Rattle.ua_table.specs.Algebras.{Vector, Product, arities, apply}
 use Rattle.ua_table.specs.Counting.{one_if, total, times, once_below}
-use Rattle.ua_table.specs.Generated.{Sg}
 use Rattle.ua_table.specs.Numbering.{IsShape}
 use Rattle.ua_table.specs.Slices.{bound}
-use Rattle.ua_table.proofs.Counts.{total-map, one_has, once_in}
-use Rattle.ua_table.proofs.Lists.{all_at, all_map, all_weaker, all_from_contains, Contains-slice_get}
+use Rattle.ua_table.proofs.Counts.{total-map}
+use Rattle.ua_table.proofs.Lists.{all_weaker}
 use Rattle.ua_table.proofs.SliceLaws.{bound_laws}
 use Rattle.ua_core.specs.Machines as machines
 use Rattle.ua_core.specs.Machines.{Task, Machine, HasResults}
-use Rattle.ua_core.specs.Rules.{AreMade, IsWorker, IsRuled, IsQuiet, IsStill}
-use Rattle.ua_core.proofs.RowLemmas.{place_of, at_longer, results_more}
+use Rattle.ua_core.specs.Rules.{IsWorker, IsRuled, IsQuiet, IsStill}
+use Rattle.ua_core.proofs.RowLemmas.{results_more}
 use Rattle.ua_log.specs.declared.views.Plan.{Plan}
 use Rattle.ua_log.specs.declared.views.Worker.{Worker}
 use Rattle.ua_log.specs.Rule.{IsPrefix, Agrees, Rule}

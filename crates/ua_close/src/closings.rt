@@ -1,23 +1,26 @@
 //! Workers side by side on one board.
 
 ghost use Rattle.std.specs.Prelude.{◌≡◌, ◌<◌, ◌≤◌, ℕ, [], length, vec_len, slice_index_or, IfOk};
-ghost use Rattle.std.specs.List.{AllByRecursion, AllZip};
+ghost use Rattle.std.specs.List.{AllByRecursion};
 ghost use Rattle.ua_table.specs.declared.limits.TheConstants.{WORKERS};
-ghost use Rattle.ua_table.specs.Algebras.{IsVector};
+ghost use Rattle.ua_table.specs.Algebras.{IsVector, arities};
+ghost use Rattle.ua_table.specs.Numbering.{Fits};
 ghost use Rattle.ua_close.specs.Goals.{IsGoal};
-ghost use Rattle.ua_close.specs.Harvests.{IsPlanOf, PutsNew, IsHarvest, IsHarvestFrom};
-ghost use Rattle.ua_close.specs.Gatherings.{AreSeats, HasBegun, FirstHasBegun};
+ghost use Rattle.ua_close.specs.Harvests.{IsPlanOf};
+ghost use Rattle.ua_log.specs.Seats.{first_seat};
 ghost use Rattle.ua_close.specs.declared.closings.Turn.{Turn};
 ghost use Rattle.ua_close.specs.declared.harvests.Harvest.{Harvest};
-ghost use Rattle.ua_close.specs.Closings.{IsReady, IsUnused, AreTurns, AreReady, IsHarvestOf};
+ghost use Rattle.ua_close.specs.Closings.{IsReady, AreTurns, AreReady, IsHarvestOf, AreHarvests, IsLoneHarvest, IsClosing};
 
+use crate::beginnings::{Begun, start};
+use crate::gatherings::{Gathered, gather};
 use crate::goals::Goal;
 use crate::harvests::Harvest;
 use crate::workers::work;
 use std::alloc::{AllocError, Global};
 use std::thread::{self, Threads};
 use ua_log::{Board, Seat};
-use ua_table::{Frame, Gate, Vectors};
+use ua_table::{Frame, Gate, Run, Vectors};
 
 /// A worker's number and its seat.
 #[derive(Drop)]
@@ -102,4 +105,55 @@ fn run_turns<R: Threads + Sync, G: Gate>(
             ensures { IsHarvestOf frame.entry.now gens.entry.now.items goal.entry.now turn result }
         { run_turn(alloc, board, turn, frame, gens, goal, gate) },
     )
+}
+
+/// The harvests of the closure of the generators on an empty board.
+fn harvests_of<R: Threads + Sync, G: Gate>(
+    rt: &R,
+    alloc: Global,
+    board: &Board,
+    seat: Seat,
+    frame: &Frame,
+    gens: &Vectors,
+    goal: &Goal,
+    run: &Run<G>,
+) -> Result<Vec<Harvest>, AllocError>
+    requires seat { seat ≡ first_seat board.now }
+    requires plan { IsPlanOf frame.now gens.now.items board.now.plan }
+    requires admitted { AllByRecursion (IsVector frame.now) gens.now.items }
+    requires goal { IsGoal frame.now goal.now }
+    ensures harvests { IfOk result (λ harvests. AreHarvests frame.now gens.now.items goal.now board.now harvests.items) }
+    ensures lone { run.now.workers ≡ 1 → IfOk result (λ harvests. IsLoneHarvest frame.now gens.now.items harvests.items) }
+{
+    match start(alloc, board, seat, frame, gens, goal) {
+        Begun::Ended(harvest) => {
+            let harvests = vec![in alloc; harvest]?;
+            Ok(harvests)
+        }
+        Begun::Going(first) => {
+            let turns = turns_of(alloc, board, first, run.workers)?;
+            run_turns(rt, alloc, board, turns, frame, gens, goal, run.gate)
+        }
+    }
+}
+
+/// Closes the generators on a board of their own, with as many workers as the run has, until the goal is
+/// met or nothing is left to do.
+pub(crate) fn close_on_board<R: Threads + Sync, G: Gate>(
+    rt: &R,
+    alloc: Global,
+    frame: &Frame,
+    gens: &Vectors,
+    goal: &Goal,
+    run: &Run<G>,
+) -> Result<Gathered, AllocError>
+    requires admitted { AllByRecursion (IsVector frame.now) gens.now.items }
+    requires goal { IsGoal frame.now goal.now }
+    requires fits { Fits (arities frame.now) (length gens.now.items) run.now.budget }
+    ensures { IfOk result (IsClosing frame.now gens.now.items goal.now run.now.budget run.now.workers) }
+{
+    let shape = frame.shape(alloc)?;
+    let (board, seat) = Board::start(alloc, &shape, gens.len(), run.budget)?;
+    let harvests = harvests_of(rt, alloc, &board, seat, frame, gens, goal, run)?;
+    Ok(gather(board, harvests, frame, gens, goal))
 }

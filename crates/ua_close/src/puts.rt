@@ -1,9 +1,10 @@
 //! Records that a worker puts, and those that it takes in.
 
-ghost use Rattle.std.specs.Prelude.{◌≡◌, ◌-◌, ◌<◌, ◌≤◌, ◌++◌, ◌∷◌, [], length, take, IsTrue, IsFalse, MatchOption};
+ghost use Rattle.std.specs.Prelude.{◌≡◌, ◌≢◌, ◌-◌, ◌<◌, ◌≤◌, ◌++◌, ◌∷◌, [], length, take, Some, IsTrue, IsFalse, MatchOption};
 ghost use Rattle.ua_log.specs.Rule.{MayStand};
 ghost use Rattle.ua_log.specs.Moves.{adds, IsAlone};
 ghost use Rattle.ua_log.specs.Seats.{with_worker};
+ghost use Rattle.ua_close.specs.declared.harvests.End.{End};
 ghost use Rattle.ua_close.specs.Goals.{Meets, IsGoal};
 ghost use Rattle.ua_close.specs.Replicas.{values_in, value_in, IsOriginIn, IsReplica, HasRoom, SameClosure};
 ghost use Rattle.ua_close.specs.Workings.{GoesOn, IsFurther, HasRecord, IsSettled, Stops, IsJobOf, Comes, StopsSerial, turn_of};
@@ -68,6 +69,7 @@ pub(crate) fn put_value(job: &Job, seat: &mut Seat, replica: &mut Replica, o: Or
     ensures closure { SameClosure replica.old replica.new }
     ensures seat { IsFurther seat.old seat.new }
     ensures done { MatchOption result (GoesOn job.now.goal.now replica.new seat.new.own × IsSettled replica.new o) (Stops job.now.goal.now job.now.board.now.plan replica.new seat.new.own) }
+    ensures short { result ≢ Some End.Left }
     ensures lone { IsAlone seat.old.made seat.old.own → Comes replica.old seat.old.own (turn_of replica.old o) → MatchOption result (Comes replica.new seat.new.own (turn_of replica.new o)) (StopsSerial replica.new seat.new.own) }
 {
     while !replica.holds(&o) {
