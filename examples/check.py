@@ -2,7 +2,7 @@
 """Runs the examples against the built program, and compares its replies with what they are to be.
 
 An example is a file NAME.ua here with its reply in NAME.out, or a fenced block marked `script` in a document with
-the block marked `reply` behind it.
+the next block, marked `reply`.
 
 usage: check.py PROGRAM
 """
@@ -14,7 +14,8 @@ import sys
 
 HERE = pathlib.Path(__file__).resolve().parent
 DOCUMENTS = ["README.md", "docs/LANGUAGE.md"]
-PAIR = re.compile(r"^```script\n(.*?)^```\n\s*^```reply\n(.*?)^```$", re.MULTILINE | re.DOTALL)
+LINES = r"((?:(?!```).*\n)*)"
+PAIR = re.compile(rf"^```script\n{LINES}```\n{LINES}```reply\n{LINES}```$", re.MULTILINE)
 
 
 def scripts():
@@ -24,7 +25,7 @@ def scripts():
     for name in DOCUMENTS:
         text = (HERE.parent / name).read_text(encoding="utf-8")
         for number, pair in enumerate(PAIR.findall(text), 1):
-            yield f"{name}, script {number}", pair[0].encode(), pair[1].encode()
+            yield f"{name}, script {number}", pair[0].encode(), pair[2].encode()
 
 
 def is_as_expected(program, script, reply):
