@@ -48,6 +48,16 @@ def integers(modulus, ideals):
     return block(modulus, [(2, plus), (2, times)]), ideals
 
 
+def elementary_abelian(size, subspaces):
+    """The elementary abelian 2-group of this order: a congruence for each subspace."""
+    return block(size, [(2, lambda a, b: a ^ b)]), subspaces
+
+
+def cycle(size, divisors):
+    """A cycle as a unary algebra: a congruence for each divisor of its length."""
+    return block(size, [(1, lambda a: (a + 1) % size)]), divisors
+
+
 def groupoid(size):
     """A random operation: almost surely it has the two trivial congruences alone."""
     draw = random.Random(1)
@@ -63,6 +73,8 @@ def main():
         ("7 elements, no operation", *no_operations(7, 877)),
         ("symmetric group on 5 letters", permutations(5), 3),
         ("integers by 180", *integers(180, 18)),
+        ("elementary abelian group of 64", *elementary_abelian(64, 2825)),
+        ("cycle of 255", *cycle(255, 8)),
         ("random operation on 200 elements", *groupoid(200)),
     ]
     for name, algebra, known in workloads:
