@@ -1,6 +1,6 @@
 // The loops of crates/bench_rows in C++, with the same input: `close SIZE GENERATORS WIDTH`, which closes
-// vectors under addition modulo the size, or `fill COUNT TIMES`, which pushes vectors of width 8 and then
-// finds each. Rows lie end to end, padded with zeros to words of 64 bits; the index is an open table of
+// vectors under addition modulo the size, `fill COUNT TIMES`, which pushes vectors of width 8 and then
+// finds each, or `apply SIZE WIDTH TIMES`, which adds two vectors again and again. Rows lie end to end, padded with zeros to words of 64 bits; the index is an open table of
 // (high half of the hash, row + 1).
 #include <cstdint>
 #include <cstdio>
@@ -84,18 +84,28 @@ static void apply(const u8* table, std::size_t size, const u8* x, const u8* y, u
   }
 }
 
-static u32 close(u32 size, u32 generators, u32 width) {
+static std::vector<u8> sums(u32 size) {
   std::vector<u8> table;
   for (u32 x = 0; x < size; x++)
     for (u32 y = 0; y < size; y++) table.push_back((u8)((x + y) % size));
+  return table;
+}
+
+// What is left of the last word of a vector.
+static u64 last_of(u32 width) {
+  const u64 used = width % 8;
+  return used == 0 ? ~0ull : (1ull << (8 * used)) - 1;
+}
+
+static u32 close(u32 size, u32 generators, u32 width) {
+  const std::vector<u8> table = sums(size);
   Rows rows(width);
   std::vector<u8> out(rows.stride, 0);
   for (u32 j = 0; j < generators; j++) {
     for (u32 i = 0; i < width; i++) out[i] = i % generators == j;
     rows.add(out.data());
   }
-  const u64 used = width % 8;
-  const u64 last = used == 0 ? ~0ull : (1ull << (8 * used)) - 1;
+  const u64 last = last_of(width);
   for (u32 a = 0; a < rows.count; a++)
     for (u32 b = 0; b <= a; b++) {
       apply(table.data(), size, rows.row(a), rows.row(b), out.data(), rows.stride, last);
@@ -123,9 +133,27 @@ static u32 fill(u32 count, u32 times) {
   return found;
 }
 
+static u32 apply_often(u32 size, u32 width, u32 times) {
+  const std::vector<u8> table = sums(size);
+  Rows rows(width);
+  std::vector<u8> out(rows.stride, 0);
+  for (u32 j = 0; j < 2; j++) {
+    for (u32 i = 0; i < width; i++) out[i] = i % 2 == j;
+    rows.add(out.data());
+  }
+  const u64 last = last_of(width);
+  for (u32 i = 0; i < times; i++)
+    apply(table.data(), size, rows.row(i % 2), rows.row(i / 2 % 2), out.data(), rows.stride, last);
+  return out[0];
+}
+
 int main() {
   char task[16];
   u32 first = 0, second = 0, third = 0;
   if (std::scanf("%15s %u %u %u", task, &first, &second, &third) < 3) return 1;
-  std::printf("%u\n", std::strcmp(task, "close") == 0 ? close(first, second, third) : fill(first, second));
+  u32 answer = 0;
+  if (std::strcmp(task, "close") == 0) answer = close(first, second, third);
+  if (std::strcmp(task, "fill") == 0) answer = fill(first, second);
+  if (std::strcmp(task, "apply") == 0) answer = apply_often(first, second, third);
+  std::printf("%u\n", answer);
 }

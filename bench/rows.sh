@@ -1,7 +1,7 @@
 #!/usr/bin/env bash
 # Times the rows of crates/bench_rows beside the same loops in C++ (bench/rows.cpp): the least processor
 # time of three runs each, taken in turn, and the ratio of the two. A `close` is counted in tuples, a `fill`
-# in pushes and look-ups.
+# in pushes and look-ups, an `apply` in calls.
 set -euo pipefail
 cd "$(dirname "$0")/.."
 (cd crates/bench_rows && rt run >/dev/null)
@@ -38,3 +38,6 @@ compare "close 12 3 128" 2987712
 compare "close 60 2 64" 12963600
 compare "fill 1000000 0" 1000000
 compare "fill 1000000 20" 21000000
+compare "apply 10 8 20000000" 20000000
+compare "apply 10 64 5000000" 5000000
+compare "apply 200 512 500000" 500000

@@ -21,7 +21,7 @@ fn sums(alloc: Global, size: u32) -> Result<Vec<Elem>, AllocError> {
 }
 
 /// The numbers below a size under addition, where a table holds so many.
-fn group(alloc: Global, size: u32) -> Result<Option<Algebra>, AllocError> {
+pub(crate) fn group(alloc: Global, size: u32) -> Result<Option<Algebra>, AllocError> {
     if size > 255 {
         return Ok(None);
     }
@@ -37,7 +37,7 @@ fn group(alloc: Global, size: u32) -> Result<Option<Algebra>, AllocError> {
 }
 
 /// Enters a vector where it is new.
-fn enter(rows: &mut Rows, frame: &Frame, v: &[Elem]) -> Result<(), AllocError>
+pub(crate) fn enter(rows: &mut Rows, frame: &Frame, v: &[Elem]) -> Result<(), AllocError>
     requires width { rows.old.width ≡ length frame.now }
     requires rows { AllByRecursion (IsVector frame.now) rows.old.items }
     ensures width { rows.new.width ≡ length frame.now }
@@ -124,7 +124,12 @@ pub fn close_sums(
 }
 
 /// Generator j of so many.
-fn generator(alloc: Global, width: u32, generators: u32, j: u32) -> Result<Vec<Elem>, AllocError>
+pub(crate) fn generator(
+    alloc: Global,
+    width: u32,
+    generators: u32,
+    j: u32,
+) -> Result<Vec<Elem>, AllocError>
     requires { 0 < generators }
 {
     let mut v = Vec::new(alloc);

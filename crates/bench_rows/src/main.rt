@@ -1,9 +1,12 @@
-//! Rows at length: a closure under one binary operation, or pushes and look-ups, for bench/rows.sh to time.
+//! Rows at length: a closure under one binary operation, pushes and look-ups, or sums of two rows, for
+//! bench/rows.sh to time.
 #![tactic(auto)]
 
+mod applying;
 mod closing;
 mod filling;
 
+use applying::apply_sums;
 use closing::close_sums;
 use filling::fill;
 use std::io;
@@ -16,7 +19,8 @@ fn number(word: Option<&str>) -> u32 {
     }
 }
 
-/// Reads `close SIZE GENERATORS WIDTH` or `fill COUNT TIMES`, and prints how many rows there are.
+/// Reads `close SIZE GENERATORS WIDTH` or `fill COUNT TIMES`, and prints how many rows there are; or
+/// `apply SIZE WIDTH TIMES`, and prints an entry of the sum.
 fn main(rt: HostRuntime) -> io::Result<()> {
     let alloc = rt.alloc();
     let text = io::read_to_string(alloc, rt.reader())?;
@@ -25,10 +29,11 @@ fn main(rt: HostRuntime) -> io::Result<()> {
     let first = number(words.next());
     let second = number(words.next());
     let third = number(words.next());
-    let rows = match task {
+    let answer = match task {
         "close" => close_sums(alloc, first, second, third)?,
         "fill" => fill(alloc, first, second)?,
+        "apply" => apply_sums(alloc, first, second, third)?,
         _ => 0,
     };
-    println!(rt; "{rows}")
+    println!(rt; "{answer}")
 }

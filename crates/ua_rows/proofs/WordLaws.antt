@@ -1,18 +1,17 @@
 -- Words, padding and hashes.
-use Rattle.std.proofs.Common.{◌≡◌, ℕ, zero, suc, ◌+◌, ◌-◌, ◌*◌, ◌/◌, ◌%◌, ◌<◌, ◌≤◌, ◌↔◌, List, [], ◌∷◌, ◌++◌, length, map, take, drop, get_or, refl, sym, ap, ◌∙◌, subst, arith, bit_or}
-use Rattle.std.specs.Prelude.{replicate, fold, IsTrue, Bool, true, false, nat_eq}
+use Rattle.std.proofs.Common.{◌≡◌, ℕ, zero, suc, ◌+◌, ◌-◌, ◌*◌, ◌/◌, ◌%◌, ◌<◌, ◌≤◌, ◌↔◌, List, [], ◌∷◌, ◌++◌, length, map, take, drop, get_or, refl, sym, ap, ◌∙◌, arith, bit_or}
+use Rattle.std.specs.Prelude.{replicate, fold, IsTrue, Bool, nat_eq}
 use Rattle.std.specs.Cmp.Lexicographic.{pointwise, bytes_decides, same_text}
 use Rattle.std.specs.Int.{to_le_bytes, from_le_bytes, w64}
 use Rattle.std.specs.Int.Bits.{bit_xor, xor_self, xor_zero_l, xor_zero_r, xor_assoc}
 use Rattle.std.specs.Simd.{first_chunks}
 use Rattle.std.proofs.lemmas.Nat.{le_or_l, le_or_r}
 use Rattle.ua_rows.specs.declared.words.TheConstants.{SEED}
-use Rattle.ua_rows.specs.Words.{words_for, padded, words_of, mixed, hash_of}
-use Rattle.std.proofs.lemmas.Nat.{div-mul-add}
+use Rattle.ua_rows.specs.Words.{words_for, mixed, hash_of}
 use Rattle.std.proofs.Math.Seq.{take-add}
 use Rattle.std.proofs.lemmas.List.Sums.{fold-append}
 use Rattle.std.proofs.Math.Nat.{mod-add-div', mod-lt}
-use Rattle.std.proofs.lemmas.List.{take_more, same_from_push, take_more_same, take-append-drop, take-take, drop-take, drop-drop, length-drop, append-nil, map-append, drop-append-le, take-append-le, take_all, length-append, length-replicate, take_at}
+use Rattle.std.proofs.lemmas.List.{take_more, same_from_push, take_more_same, take-append-drop, take-take, drop-take, drop-drop, length-drop, append-nil, map-append, drop-append-le, take-append-le, take_all, length-append, length-replicate}
 
 -- two numbers that differ in no bit are equal
 pub same_from_xor : (a b : ℕ) → bit_xor a b ≡ 0 → a ≡ b

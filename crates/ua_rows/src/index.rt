@@ -1,11 +1,10 @@
 //! An index of rows by their hashes.
 
-ghost use Rattle.std.specs.Prelude.{◌≡◌, ◌<◌, ◌≤◌, ℕ, List, [], ◌∷◌, ◌++◌, length, vec_len, IfOk, OnOk};
+ghost use Rattle.std.specs.Prelude.{◌≡◌, ◌<◌, ℕ, List, [], ◌∷◌, ◌++◌, length, vec_len, slice_get, Some, IfOk, OnOk};
+ghost use Rattle.std.specs.List.{AllByRecursion};
 ghost use Rattle.smallvec.specs.SmallVec.{HasRoomFor};
-ghost use Rattle.ua_rows.specs.Indexing.{slot_of, entry_of, bucket_of, hashes_of, IsIndex, HaveRoomBut, HaveRoom};
+ghost use Rattle.ua_rows.specs.Indexing.{tag_of, slot_of, entry_of, bucket_of, Has, AreNamed, IsIndex, HaveRoomBut, HaveRoom};
 
-use crate::pages::Pages;
-use crate::words::hash_of;
 use smallvec::SmallVec;
 use std::alloc::{AllocError, Global};
 
@@ -22,36 +21,36 @@ pub(crate) struct Entry {
     pub(crate) row: u32,
 }
 
-/// The entry of a row with this hash.
-fn entry_for(hash: u64, row: u32) -> Entry
-    ensures { result ≡ entry_of hash row }
+/// The high half of a hash.
+#[inline(always)]
+pub(crate) fn tag_of(hash: u64) -> u32
+    ensures { result ≡ tag_of hash }
 {
-    let tag = (hash >> 32) as u32;
-    Entry { tag, row }
+    (hash >> 32) as u32
 }
 
-/// Rows by their hashes: an entry for each in the bucket of its hash.
+/// Rows by their hashes: an entry for each in the bucket of its tag.
 #[derive(Drop, Debug)]
 pub(crate) struct Index {
     alloc: Global,
-    buckets: Vec<SmallVec<Entry, 3>>,
+    buckets: Vec<SmallVec<Entry, 6>>,
     /// The bucket that was entered last, which alone may lack room for one more entry.
     last: usize,
     ghost within: { 0 < vec_len buckets → last < vec_len buckets },
 }
 
-/// The place of a hash's bucket among so many.
+/// The place of a tag's bucket among so many.
 #[inline(always)]
-fn slot_of(hash: u64, count: usize) -> usize
+fn slot_of(tag: u32, count: usize) -> usize
     requires { 0 < count }
-    ensures slot { result ≡ slot_of count hash }
+    ensures slot { result ≡ slot_of count tag }
     ensures below { result < count }
 {
-    hash as usize & (count - 1)
+    tag as usize & (count - 1)
 }
 
 /// Appends an entry to a bucket, and leaves room for one more.
-fn push_with_room(bucket: &mut SmallVec<Entry, 3>, entry: Entry) -> Result<(), AllocError>
+fn push_with_room(bucket: &mut SmallVec<Entry, 6>, entry: Entry) -> Result<(), AllocError>
     ensures items { OnOk result (bucket.new.items ≡ bucket.old.items ++ entry ∷ []) }
     ensures room { OnOk result (HasRoomFor bucket.new 1) }
 {
@@ -60,22 +59,39 @@ fn push_with_room(bucket: &mut SmallVec<Entry, 3>, entry: Entry) -> Result<(), A
     Ok(())
 }
 
-/// Enters the next row, and leaves room for one more entry in its bucket.
-fn enter(buckets: &mut Vec<SmallVec<Entry, 3>>, hash: u64, row: u32) -> Result<(), AllocError>
+/// Adds an entry, and leaves room for one more in its bucket.
+fn add(buckets: &mut Vec<SmallVec<Entry, 6>>, entry: Entry) -> Result<(), AllocError>
     requires some { 0 < length buckets.old.items }
-    ensures index { OnOk result ((hashes : List ℕ) → length hashes ≡ row → IsIndex hashes buckets.old.items → IsIndex (hashes ++ hash ∷ []) buckets.new.items) }
+    ensures added { OnOk result (Has buckets.new.items entry) }
+    ensures kept { OnOk result ((e : Entry) → Has buckets.old.items e → Has buckets.new.items e) }
+    ensures named { OnOk result ((n : ℕ) → entry.row < n → AreNamed n buckets.old.items → AreNamed n buckets.new.items) }
     ensures room { OnOk result (HaveRoom buckets.old.items → HaveRoom buckets.new.items) }
     ensures count { OnOk result (length buckets.new.items ≡ length buckets.old.items) }
 {
-    let slot = slot_of(hash, buckets.len());
-    push_with_room(&mut buckets[slot], entry_for(hash, row))?;
+    let slot = slot_of(entry.tag, buckets.len());
+    push_with_room(&mut buckets[slot], entry)?;
+    Ok(())
+}
+
+/// Adds some entries, and leaves room for one more in each of their buckets.
+fn add_all(buckets: &mut Vec<SmallVec<Entry, 6>>, entries: &[Entry]) -> Result<(), AllocError>
+    requires some { 0 < length buckets.old.items }
+    ensures added { OnOk result ((i : ℕ) (e : Entry) → slice_get entries.now i ≡ Some e → Has buckets.new.items e) }
+    ensures kept { OnOk result ((e : Entry) → Has buckets.old.items e → Has buckets.new.items e) }
+    ensures named { OnOk result ((n : ℕ) → AllByRecursion (λ (e : Entry). e.row < n) entries.now → AreNamed n buckets.old.items → AreNamed n buckets.new.items) }
+    ensures room { OnOk result (HaveRoom buckets.old.items → HaveRoom buckets.new.items) }
+    ensures count { OnOk result (length buckets.new.items ≡ length buckets.old.items) }
+{
+    for entry in entries {
+        add(buckets, *entry)?;
+    }
     Ok(())
 }
 
 /// So many empty buckets.
-fn empty_buckets(alloc: Global, count: usize) -> Result<Vec<SmallVec<Entry, 3>>, AllocError>
+fn empty_buckets(alloc: Global, count: usize) -> Result<Vec<SmallVec<Entry, 6>>, AllocError>
     requires { 0 < count }
-    ensures index { IfOk result (λ buckets. IsIndex [] buckets.items) }
+    ensures named { IfOk result (λ buckets. (n : ℕ) → AreNamed n buckets.items) }
     ensures room { IfOk result (λ buckets. HaveRoom buckets.items) }
     ensures some { IfOk result (λ buckets. length buckets.items ≡ count) }
 {
@@ -86,23 +102,21 @@ fn empty_buckets(alloc: Global, count: usize) -> Result<Vec<SmallVec<Entry, 3>>,
     Ok(buckets)
 }
 
-/// An index of all rows, each of this width, with so many buckets.
-fn rebuilt(
+/// The entries of some buckets in so many buckets. It reads these buckets in order and writes to few places
+/// at a time, as the entries of one bucket go to the few whose places agree with its own in their low bits.
+fn spread(
     alloc: Global,
-    rows: &Pages,
-    width: usize,
+    old: &[SmallVec<Entry, 6>],
     count: usize,
-) -> Result<Vec<SmallVec<Entry, 3>>, AllocError>
+) -> Result<Vec<SmallVec<Entry, 6>>, AllocError>
     requires some { 0 < count }
-    requires width { width ≤ rows.now.stride }
-    ensures index { IfOk result (λ buckets. IsIndex (hashes_of width rows.now.rows) buckets.items) }
+    ensures index { IfOk result (λ buckets. (hashes : List ℕ) → IsIndex hashes old.now → IsIndex hashes buckets.items) }
     ensures room { IfOk result (λ buckets. HaveRoom buckets.items) }
     ensures some { IfOk result (λ buckets. length buckets.items ≡ count) }
 {
     let mut buckets = empty_buckets(alloc, count)?;
-    for i in 0..rows.len() {
-        let hash = hash_of(&rows.row(i)[..width]);
-        enter(&mut buckets, hash, i as u32)?;
+    for bucket in old {
+        add_all(&mut buckets, bucket.as_slice())?;
     }
     Ok(buckets)
 }
@@ -127,22 +141,20 @@ impl Index {
         if self.buckets.is_empty() {
             return &[];
         }
-        self.buckets[slot_of(hash, self.buckets.len())].as_slice()
+        self.buckets[slot_of(tag_of(hash), self.buckets.len())].as_slice()
     }
 
-    /// Makes room for one more entry in each bucket.
-    pub(crate) fn reserve(&mut self, rows: &Pages, width: usize) -> Result<(), AllocError>
-        requires width { width ≤ rows.now.stride }
-        requires index { IsIndex (hashes_of width rows.now.rows) self.old.buckets.items }
+    /// Makes room for one more entry in each bucket, where there are so many rows.
+    pub(crate) fn reserve(&mut self, rows: usize) -> Result<(), AllocError>
         requires room { HaveRoomBut self.old.last self.old.buckets.items }
-        ensures index { IsIndex (hashes_of width rows.now.rows) self.new.buckets.items }
+        ensures index { (hashes : List ℕ) → IsIndex hashes self.old.buckets.items → IsIndex hashes self.new.buckets.items }
         ensures room { OnOk result (HaveRoom self.new.buckets.items) }
         ensures some { OnOk result (0 < length self.new.buckets.items) }
         ensures others { HaveRoomBut self.new.last self.new.buckets.items }
     {
-        if rows.len() / LOAD >= self.buckets.len() {
+        if rows / LOAD >= self.buckets.len() {
             let count = (self.buckets.len() * 2).max(BUCKETS);
-            self.buckets = rebuilt(self.alloc, rows, width, count)?;
+            self.buckets = spread(self.alloc, self.buckets.as_slice(), count)?;
             self.last = 0;
             return Ok(());
         }
@@ -157,8 +169,9 @@ impl Index {
         ensures index { (hashes : List ℕ) → length hashes ≡ row → IsIndex hashes self.old.buckets.items → IsIndex (hashes ++ hash ∷ []) self.new.buckets.items }
         ensures room { HaveRoomBut self.new.last self.new.buckets.items }
     {
-        let slot = slot_of(hash, self.buckets.len());
-        self.buckets[slot].push_reserved(entry_for(hash, row));
+        let tag = tag_of(hash);
+        let slot = slot_of(tag, self.buckets.len());
+        self.buckets[slot].push_reserved(Entry { tag, row });
         self.last = slot;
     }
 }

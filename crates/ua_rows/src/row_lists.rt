@@ -174,7 +174,7 @@ impl Rows {
             return Ok(());
         }
         self.pages.reserve()?;
-        self.index.reserve(&self.pages, self.width as usize)?;
+        self.index.reserve(self.pages.len())?;
         self.ready = true;
         Ok(())
     }

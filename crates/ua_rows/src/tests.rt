@@ -1,3 +1,5 @@
 //! Lists whose rows are known.
 
 mod listing;
+mod many;
+mod operating;

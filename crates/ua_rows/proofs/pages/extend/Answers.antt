@@ -1,5 +1,5 @@
-use Rattle.std.proofs.Common.{◌≡◌, ◌<◌, ◌≤◌, ◌+◌, ◌-◌, ℕ, ap, sym, ◌∙◌, length, List, [], ◌∷◌, ◌++◌, take, arith, cond}
-use Rattle.std.specs.Prelude.{replicate, vec_len, Result, is_ok}
+use Rattle.std.proofs.Common.{◌≡◌, ◌+◌, ◌-◌, ℕ, ap, ◌∙◌, length, List, ◌++◌, take, arith, cond}
+use Rattle.std.specs.Prelude.{replicate, vec_len, is_ok}
 use Rattle.std.proofs.lemmas.List.{take_all, append_assoc, length-append}
 use Rattle.ua_rows.proofs.pages.extend.Goals as goal
 

@@ -1,4 +1,3 @@
-use Rattle.std.proofs.Common.{◌≡◌}
 use Rattle.ua_rows.proofs.WordLaws.{difference_more}
 use Rattle.ua_rows.proofs.words.difference.Goals as goal
 

@@ -1,11 +1,17 @@
-use Rattle.std.proofs.Common.{◌≡◌}
-use Rattle.ua_rows.specs.Indexing.{hashes_of}
-use Rattle.ua_rows.proofs.IndexLaws.{same_entries, room_again, others_after}
+use Rattle.std.proofs.Common.{sym, subst}
+use Rattle.ua_rows.specs.Indexing.{IsIndex}
+use Rattle.ua_rows.proofs.IndexLaws.{same_entries, room_again, others_after, all_but}
 use Rattle.ua_rows.proofs.index.Index.reserve.Goals as goal
+
+pub returns-then-rows-len-clause-index : goal.returns-then-rows-len-clause-index
+returns-then-rows-len-clause-index c hashes h = c.in_ok-self.ensures.index hashes (subst (IsIndex hashes) (sym c.as_slice.ensures.value) h)
+
+pub returns-then-rows-len-clause-others : goal.returns-then-rows-len-clause-others
+returns-then-rows-len-clause-others c = all_but c.in_ok-self.field-0.items 0 c.in_ok-self.ensures.room
 
 pub returns-clause-index : goal.returns-clause-index
 returns-clause-index c =
-    same_entries (hashes_of c.args.width c.args.rows.now.rows) c.args.self.now.buckets.items c.args.self.now.last c.index_mut.result.now c.reserve.new.self c.index_mut.ensures.value c.reserve.ensures.items c.requires.index
+    same_entries c.args.self.now.buckets.items c.args.self.now.last c.index_mut.result.now c.reserve.new.self c.index_mut.ensures.value c.reserve.ensures.items
 
 pub returns-clause-room : goal.returns-clause-room
 returns-clause-room c = room_again c.args.self.now.buckets.items c.args.self.now.last c.reserve.new.self c.requires.room c.in_ok-reserve.ensures.ok
