@@ -1,5 +1,5 @@
 #!/usr/bin/env python3
-"""Times `con` on algebras of known congruence lattices: bench/congruences.py PROGRAM
+"""Times `con`, with one worker, on algebras of known congruence lattices: bench/congruences.py PROGRAM
 
 For each algebra the number of congruences that the program answers and its processor time are printed, and whether the
 number is the known one.
@@ -79,7 +79,8 @@ def main():
     ]
     for name, algebra, known in workloads:
         before = resource.getrusage(resource.RUSAGE_CHILDREN).ru_utime
-        run = subprocess.run([sys.argv[1]], input=f"{algebra}con A\n".encode(), stdout=subprocess.PIPE, check=True)
+        command = [sys.argv[1], "--workers", "1"]
+        run = subprocess.run(command, input=f"{algebra}con A\n".encode(), stdout=subprocess.PIPE, check=True)
         seconds = resource.getrusage(resource.RUSAGE_CHILDREN).ru_utime - before
         head = run.stdout.split(b"\n", 1)[0].decode()
         verdict = "as known" if head == f"congruences {known}" else f"NOT {known}"

@@ -1,3 +1,4 @@
 pub mod Normal
 pub mod ClosingLaws
 pub mod PairLaws
+pub mod CombinationLaws
