@@ -22,7 +22,7 @@ use Rattle.ua_close.proofs.Counting.{once-below, once-some}
 
 -- ---- the columns of a listing
 
-vectors_of-listed : (rows : List Vector) (ranks : List ℕ) (os : List Origin) → length os ≡ length ranks → vectors_of (listed rows ranks os) ≡ rows_at rows ranks
+pub vectors_of-listed : (rows : List Vector) (ranks : List ℕ) (os : List Origin) → length os ≡ length ranks → vectors_of (listed rows ranks os) ≡ rows_at rows ranks
 vectors_of-listed rows [] os e = refl
 vectors_of-listed rows (r ∷ ranks) [] e = absurd (omega (arith, e))
 vectors_of-listed rows (r ∷ ranks) (o ∷ os) e = ap (λ (vs : List Vector). slice_index_or rows r [] ∷ vs) (vectors_of-listed rows ranks os (omega (arith, e)))

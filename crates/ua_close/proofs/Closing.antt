@@ -1,6 +1,6 @@
 -- What the records of a closure give at the end: a listing, and of what.
-use Rattle.std.proofs.Common.{◌≡◌, ℕ, suc, ◌+◌, ◌-◌, ◌<◌, ◌≤◌, List, [], ◌∷◌, ◌++◌, length, map, take, drop, get_or, replicate, refl, sym, ap, ◌∙◌, subst, arith, Some, length-append, Bool, true, false}
-use Rattle.std.specs.Prelude.{slice_get, slice_index, slice_index_or, Contains, MatchBool}
+use Rattle.std.proofs.Common.{◌≡◌, ℕ, suc, ◌+◌, ◌<◌, ◌≤◌, List, [], ◌∷◌, ◌++◌, length, map, take, drop, get_or, refl, sym, ap, ◌∙◌, subst, arith, Some, length-append}
+use Rattle.std.specs.Prelude.{slice_get, slice_index, Contains}
 use Rattle.std.specs.List.{AllByRecursion}
 use Rattle.std.proofs.lemmas.List.{length-map, get_or-map, get_or-take, length-take-le, length-take, length-drop}
 use Rattle.std.proofs.lemmas.Option.{slice_get-get_or, slice_get_within, get_or_from_slice_get}
@@ -8,21 +8,19 @@ use Rattle.ua_table.specs.declared.origins.Origin.{Origin}
 use Rattle.ua_table.specs.declared.origins.Origin.TheVariants.{Gen, Op}
 use Rattle.ua_table.specs.Algebras.{Vector, Product, arities, apply}
 use Rattle.ua_table.specs.Origins.{IsOrigin, arguments_of, origin_value}
-use Rattle.ua_table.specs.Generated.{Sg, IsClosed}
+use Rattle.ua_table.specs.Generated.{Sg}
 use Rattle.ua_table.specs.Listings.{Row, vectors_of, ranks_of, IsMadeFrom, IsListing, IsClosedListing, IsExceedingListing}
 use Rattle.ua_table.specs.Orders.{Record, by_rank}
 use Rattle.ua_table.proofs.Lists.{any_default, All-slice_get}
-use Rattle.ua_table.proofs.GeneratedLaws.{Sg-least}
 use Rattle.ua_table.proofs.ListingLaws.{vector_in}
 use Rattle.ua_close.specs.Records.{rows_of, rows_at, AreRecords}
 use Rattle.ua_close.specs.Arrangements.{IsOriginOver, IsArranged}
-use Rattle.ua_close.specs.Progress.{HasValue, HasReached, IsBeyond}
 use Rattle.ua_close.proofs.Counting.{once-some}
 use Rattle.ua_close.proofs.RecordLaws.{record_at, IsOrigin-more, length-rows_of}
 use Rattle.ua_close.proofs.ArrangementLaws.{take_seam, drop_seam}
 
 -- what holds of the element at each index holds of all
-all_from_slice_get : {X : Type 0} (P : X → Type 0) (xs : List X) → ((i : ℕ) (x : X) → slice_get xs i ≡ Some x → P x) → AllByRecursion P xs
+pub all_from_slice_get : {X : Type 0} (P : X → Type 0) (xs : List X) → ((i : ℕ) (x : X) → slice_get xs i ≡ Some x → P x) → AllByRecursion P xs
 all_from_slice_get P [] h = tt
 all_from_slice_get P (x ∷ xs) h = (h 0 x refl, all_from_slice_get P xs (λ i y e. h (suc i) y e))
 
@@ -98,11 +96,11 @@ module _ (p : Product) (gens : List Vector) (rs : List Record) (rows : List Row)
       let b = becomes r.rank r.vector r.origin low named new.origin new.value in
       record { origin = b.valid; earlier = b.earlier; value = b.value }
 
-  listing_from : IsListing p gens rows
+  pub listing_from : IsListing p gens rows
   listing_from = record { increasing = arranged.increasing; ranks = arranged.ranks; origins = all_from_slice_get (IsMadeFrom p gens rows) rows made_from }
 
   -- each vector of the records is a row
-  members_to : (v : Vector) → Contains (rows_of rs) v → Contains (vectors_of rows) v
+  pub members_to : (v : Vector) → Contains (rows_of rs) v → Contains (vectors_of rows) v
   members_to v c =
       let k : c.0 < length rows = omega (arith, c.1, length-rows_of rs, arranged.count) in
       let at = once-some (length rows) (ranks_of rows) arranged.ranks c.0 k in
@@ -112,62 +110,19 @@ module _ (p : Product) (gens : List Vector) (rs : List Record) (rows : List Row)
       let here : at.0 < length (vectors_of rows) = omega (arith, h, length-map rows (λ (w : Row). w.vector)) in
       (at.0, here, any_default (vectors_of rows) at.0 v [] here ∙ row_of_rank at.0 h ∙ ap (λ m. get_or (rows_of rs) m []) rank ∙ any_default (rows_of rs) c.0 [] v c.1 ∙ c.2)
 
--- ---- records that hold the value of each origin
-
--- where the members of a list stand
-record Standing (rows args : List Vector) : Type 0 where
-  places : List ℕ
-  are : rows_at rows places ≡ args
-  below : AllByRecursion (λ a. a < length rows) places
-
-standing : (rows args : List Vector) → AllByRecursion (Contains rows) args → Standing rows args
-standing rows [] h = record { places = []; are = refl; below = tt }
-standing rows (v ∷ vs) h =
-    let rest = standing rows vs h.1 in
-    let c = h.0 in
-    record { places = c.0 ∷ rest.places; are = λ i. (any_default rows c.0 [] v c.1 ∙ c.2) i ∷ rest.are i; below = (c.1, rest.below) }
-
-module _ (p : Product) (gens rows : List Vector) (all : (o : Origin) → IsOrigin (arities p) (length gens) (length rows) o → HasValue p gens rows o) where
-  rows_closed : IsClosed p rows
-  rows_closed f args in_range arity h =
-      let s = standing rows args h in
-      let k = slice_index (arities p) f in
-      let zeros = replicate (4 - k) 0 in
-      let n : length s.places ≡ k = sym (length-map s.places (λ a. slice_index_or rows a [])) ∙ ap length s.are ∙ arity in
-      let front : take k (s.places ++ zeros) ≡ s.places = take_seam k s.places zeros n in
-      let here = all (Op f (s.places ++ zeros)) (record {
-        operation = in_range;
-        count = ap length front ∙ n;
-        earlier = subst (AllByRecursion (λ a. a < length rows)) (sym front) s.below;
-        unused = drop_seam k s.places zeros n;
-      }) in
-      subst (λ (vs : List Vector). Contains rows (apply p f vs)) (ap (rows_at rows) front ∙ s.are) here
-
-  generators_there : AllByRecursion (Contains rows) gens
-  generators_there = all_from_slice_get (Contains rows) gens (λ i v e. subst (Contains rows) (get_or_from_slice_get gens i v [] e) (all (Gen i) (slice_get_within gens i v e)))
-
-  -- then they hold the subuniverse
-  rows_hold : (v : Vector) → Sg p gens v → Contains rows v
-  rows_hold v s = Sg-least p gens rows generators_there rows_closed v s
-
 -- ---- the answers
 
-module _ (p : Product) (gens : List Vector) (b : ℕ) (rs : List Record) (rows : List Row) (arranged : IsArranged (arities p) rs rows) where
-  -- all origins have their value among the records, which are within the budget
-  pub closed_from : AreRecords p gens rs → length rs ≤ b → ((o : Origin) → IsOrigin (arities p) (length gens) (length (rows_of rs)) o → HasValue p gens (rows_of rs) o) → IsClosedListing p gens b rows
-  closed_from made within all =
+module _ (p : Product) (gens : List Vector) (b : ℕ) (rs : List Record) (rows : List Row) (arranged : IsArranged (arities p) rs rows) (made : AreRecords p gens rs) where
+  -- the records are exactly the members, which are within the budget
+  pub closed_from : length rs ≤ b → ((v : Vector) → Sg p gens v → Contains (rows_of rs) v) → IsClosedListing p gens b rows
+  closed_from within all =
       let listing = listing_from p gens rs rows made arranged in
       record {
         listing = listing;
         within = omega (arith, within, arranged.count);
-        exact = λ v. (λ h. vector_in p gens rows listing v h, λ s. members_to p gens rs rows made arranged v (rows_hold p gens (rows_of rs) all v s));
+        exact = λ v. (λ h. vector_in p gens rows listing v h, λ s. members_to p gens rs rows made arranged v (all v s));
       }
 
   -- the records are one more than the budget
-  pub exceeding_from : AreRecords p gens rs → length rs ≡ b + 1 → IsExceedingListing p gens b rows
-  exceeding_from made beyond = record { listing = listing_from p gens rs rows made arranged; beyond = arranged.count ∙ beyond }
-
--- however the entering ended, there are records
-pub made_however : (p : Product) (gens : List Vector) (b : ℕ) (rs : List Record) (t : List ℕ) (whole : Bool) → MatchBool whole (HasReached p gens b rs t) (IsBeyond p gens b rs) → AreRecords p gens rs
-made_however p gens b rs t true m = m.made
-made_however p gens b rs t false m = m.made
+  pub exceeding_from : length rs ≡ b + 1 → IsExceedingListing p gens b rows
+  exceeding_from beyond = record { listing = listing_from p gens rs rows made arranged; beyond = arranged.count ∙ beyond }

@@ -1,7 +1,5 @@
 pub mod Counting
-pub mod LogLemmas
 pub mod RankingLaws
-pub mod ApplyForms
 pub mod ArrangementLaws
 pub mod Turns
 pub mod RecordLaws
@@ -24,3 +22,15 @@ pub mod LoneLaws
 pub mod LoneSlices
 pub mod BeginLaws
 pub mod ClosingLaws
+pub mod RecordsLaws
+pub mod RecordedLaws
+pub mod MetLaws
+pub mod ReachLaws
+pub mod NeedLaws
+pub mod StepsForLaws
+pub mod SearchLaws
+pub mod VisitLaws
+pub mod HeightLaws
+pub mod RearrangeLaws
+pub mod HighLaws
+pub mod LeastLaws

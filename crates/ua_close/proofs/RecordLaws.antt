@@ -5,7 +5,7 @@ use Rattle.std.specs.List.{AllByRecursion}
 use Rattle.std.proofs.lemmas.List.{append-nil, map-append, get_or_append_left, length-map}
 use Rattle.ua_table.specs.declared.origins.Origin.{Origin}
 use Rattle.ua_table.specs.declared.origins.Origin.TheVariants.{Gen, Op}
-use Rattle.ua_table.specs.Algebras.{Vector, Product, IsVector, arities, apply}
+use Rattle.ua_table.specs.Algebras.{Vector, Product, arities, apply}
 use Rattle.ua_table.specs.Origins.{IsOrigin, origin_value}
 use Rattle.ua_table.specs.Orders.{Record, IsNext, IsSerialFrom, IsSerial}
 use Rattle.ua_table.proofs.Lists.{all_weaker}
@@ -34,14 +34,6 @@ serial_push p gens earlier (s ∷ rs) r h new =
 
 pub IsSerial-push : (p : Product) (gens : List Vector) (rs : List Record) (r : Record) → IsSerial p gens rs → IsNext p gens (rows_of rs) r → IsSerial p gens (rs ++ r ∷ [])
 IsSerial-push p gens rs r h new = serial_push p gens [] rs r h new
-
--- the rows are vectors of the product
-vectors_from : (p : Product) (gens earlier : List Vector) (rs : List Record) → AreRecordsFrom p gens earlier rs → AllByRecursion (IsVector p) (rows_of rs)
-vectors_from p gens earlier [] h = tt
-vectors_from p gens earlier (r ∷ rs) h = (h.0.vector, vectors_from p gens (earlier ++ r.0 ∷ []) rs h.1)
-
-pub rows_are_vectors : (p : Product) (gens : List Vector) (rs : List Record) → AreRecords p gens rs → AllByRecursion (IsVector p) (rows_of rs)
-rows_are_vectors p gens rs h = vectors_from p gens [] rs h
 
 -- a record is new after those before it
 record_from : (p : Product) (gens earlier : List Vector) (rs : List Record) (k : ℕ) (r : Record) → AreRecordsFrom p gens earlier rs → slice_get rs k ≡ Some r → IsNew p gens (earlier ++ take k (rows_of rs)) r

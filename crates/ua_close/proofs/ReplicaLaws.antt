@@ -1,19 +1,23 @@
 -- What a replica keeps as records are entered.
-use Rattle.std.proofs.Common.{◌≡◌, ◌↔◌, ℕ, zero, suc, ◌<◌, Bool, List, [], ◌∷◌, ◌++◌, length, take, map, Option, Vec, refl, sym, ap, ◌∙◌, subst, arith, ⊎_elim}
+use Rattle.std.proofs.Common.{◌≡◌, ◌↔◌, ℕ, zero, suc, ◌<◌, Bool, true, false, None, List, [], ◌∷◌, ◌++◌, length, take, map, Option, Vec, refl, sym, ap, ◌∙◌, subst, arith, ⊎_elim}
 use Rattle.std.specs.Prelude.{Contains, slice_index, IsTrue, IfSome, IfNone, slice_get, Some, is_some}
 use Rattle.std.specs.List.{AllByRecursion}
 use Rattle.std.specs.declared.alloc.Global.{Global}
 use Rattle.ua_table.specs.Algebras.{Vector, IsVector, arities, apply}
 use Rattle.ua_table.specs.declared.origins.Origin.{Origin}
 use Rattle.ua_table.specs.declared.origins.Origin.TheVariants.{Gen, Op}
-use Rattle.ua_table.proofs.Lists.{found, get_or-slice_get, All-slice_get, all_append}
+use Rattle.ua_table.proofs.Lists.{found, get_or-slice_get, All-slice_get, all_append, Contains-slice_get}
 use Rattle.ua_rows.specs.RowLists.{RowList, rows_at}
 use Rattle.ua_rows.proofs.OperationLaws.{applied_vector}
 use Rattle.ua_close.specs.Values.{with_new, different}
 use Rattle.ua_close.specs.Replicas.{values_in, value_in, IsOriginIn, IsReplica}
 use Rattle.ua_close.specs.declared.replicas.Replica.{Replica}
-use Rattle.ua_close.proofs.LogLemmas.{contains_by}
 use Rattle.ua_close.proofs.RowValues.{with_old, with_absent, either_way, in_different, in_all, different_push, rows_twice, length-rows_at}
+
+-- a look-up finds what is there
+pub contains_by : (r : Option ℕ) (b : Bool) (rows : List Vector) (v : Vector) → b ≡ is_some r → IfSome r (λ i. slice_get rows i ≡ Some v) → IfNone r (¬ Contains rows v) → IsTrue b ↔ Contains rows v
+contains_by None b rows v e found absent = (λ t. let no : true ≡ false = sym t ∙ e in cc, λ c. absurd (absent c))
+contains_by (Some i) b rows v e found absent = (λ t. Contains-slice_get rows i v found, λ c. e)
 
 -- the rows of records are rows
 below_at : (n : ℕ) (places : List ℕ) (a : ℕ) → AllByRecursion (λ k. k < n) places → a < length places → slice_index places a < n

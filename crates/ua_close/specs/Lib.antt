@@ -1,9 +1,7 @@
 pub mod Records
-pub mod Slices
 pub mod Rankings
 pub mod Arrangements
 pub mod Progress
-pub mod Problems
 pub mod Answers
 pub mod Values
 pub mod Goals
@@ -15,3 +13,8 @@ pub mod Walks
 pub mod Gatherings
 pub mod Beginnings
 pub mod Closings
+pub mod Reaches
+pub mod Needed
+pub mod Memberships
+pub mod Searches
+pub mod Leasts

@@ -3,11 +3,16 @@ use Rattle.std.specs.Prelude.{◌≡◌, ℕ, ◌<◌, List, length, map, slice_
 use Rattle.ua_table.specs.Algebras.{Vector, IsIncreasing}
 use Rattle.ua_table.specs.Counting.{EachOnceBelow}
 use Rattle.ua_close.specs.Records.{rows_at}
+use Rattle.ua_close.specs.declared.sorting.HighRow.{HighRow}
 use Rattle.ua_close.specs.declared.sorting.RankedRow.{RankedRow}
 
 -- the ranks of the rows, in order
 abbrev pub ranks_of_rows : List RankedRow → List ℕ
 ranks_of_rows rows = map (λ (r : RankedRow). r.rank) rows
+
+-- the positions of the rows, in order
+abbrev pub places_of : List HighRow → List ℕ
+places_of rows = map (λ (r : HighRow). r.place) rows
 
 -- the ranks of all rows, in the order of their vectors
 pub record IsRanking (rows : List Vector) (ranks : List ℕ) : Type 0 where

@@ -1,7 +1,5 @@
 -- What a closure has found so far: records in order, each made from earlier ones.
-use Rattle.std.specs.Prelude.{◌≡◌, ℕ, List, [], ◌∷◌, ◌++◌, length, map, slice_index_or, Contains, Vec}
-use Rattle.std.specs.declared.alloc.Global.{Global}
-use Rattle.ua_table.specs.declared.origins.Origin.{Origin}
+use Rattle.std.specs.Prelude.{◌≡◌, ℕ, List, [], ◌∷◌, ◌++◌, length, map, slice_index_or, Contains}
 use Rattle.ua_table.specs.Algebras.{Vector, Product, IsVector, arities}
 use Rattle.ua_table.specs.Origins.{IsOrigin, origin_value}
 use Rattle.ua_table.specs.Orders.{Record}
@@ -13,10 +11,6 @@ rows_of records = map (λ (r : Record). r.0) records
 -- the rows of these ranks
 abbrev pub rows_at : List Vector → List ℕ → List Vector
 rows_at rows ranks = map (λ r. slice_index_or rows r []) ranks
-
--- the record that a vector in memory and its origin make
-abbrev pub record_of : Vec ℕ Global × Origin → Record
-record_of e = (e.0.items, e.1)
 
 -- a vector of the product that is none of the earlier ones, with an origin over them
 pub record IsNew (p : Product) (gens : List Vector) (earlier : List Vector) (r : Record) : Type 0 where

@@ -1,19 +1,23 @@
 //! Listings of a generated subuniverse.
 
-ghost use Rattle.std.specs.Prelude.{◌≡◌, ℕ, ◌<◌, ◌≤◌, ◌++◌, length, map, take, drop, slice_get, slice_index, Some, IfOk, IfSome, IfNone, Contains};
+ghost use Rattle.std.specs.Prelude.{◌≡◌, ℕ, ◌<◌, ◌≤◌, ◌^◌, ◌++◌, length, map, take, drop, slice_get, slice_index, Some, IfOk, IfSome, IfNone, Contains};
 ghost use Rattle.std.specs.List.{AllByRecursion};
+ghost use Rattle.ua_table.specs.Algebras.{Vector, IsIncreasing};
+ghost use Rattle.ua_table.specs.Counting.{EachOnceBelow};
 ghost use Rattle.ua_table.specs.Listings.{vectors_of, ranks_of};
 ghost use Rattle.ua_table.specs.Orders.{Record};
-ghost use Rattle.ua_close.specs.Records.{rows_of};
+ghost use Rattle.ua_close.specs.Rankings.{ArePositions};
+ghost use Rattle.ua_close.specs.Records.{rows_of, rows_at};
 ghost use Rattle.ua_close.specs.Arrangements.{origins_of, by_position, origins_at, listed, IsIndex, IsOriginOver, IsArranged};
 
-use crate::log::Log;
+use crate::records::Records;
 use crate::sorting::{positions_of, ranks_in_order};
 use std::alloc::{AllocError, Global};
 use std::marker::Model;
+use ua_rows::Rows;
 use ua_table::{Elem, Origin, Shape};
 
-/// The order of the rows of a log.
+/// The order of the rows of records.
 #[derive(Drop, Debug)]
 struct Index {
     /// The ranks, in the order of the vectors.
@@ -27,7 +31,7 @@ struct Index {
 /// Rows in order of their vectors, each with its rank and its origin, which names rows by position.
 #[derive(Drop, Debug)]
 pub struct Listing {
-    log: Log,
+    records: Records,
     index: Index,
 }
 
@@ -40,13 +44,13 @@ impl Model for Listing {
     ghost use Rattle.ua_close.specs.Records.{rows_of};
     ghost use Rattle.ua_close.specs.Arrangements.{listed, IsIndex};
 
-    ghost view = { λ a. listed (rows_of a.log) a.index.ranks.items a.index.origins.items };
+    ghost view = { λ a. listed (rows_of a.records) a.index.ranks.items a.index.origins.items };
 
-    ghost invariant = { λ a. IsIndex (rows_of a.log) a.index.ranks.items a.index.positions.items a.index.origins.items };
+    ghost invariant = { λ a. IsIndex (rows_of a.records) a.index.ranks.items a.index.positions.items a.index.origins.items };
 }
 
 /// The positions of the first arguments, which are ranks, and the other arguments as they are.
-fn moved_arguments(positions: &[u32], args: [u32; 4], count: u8) -> [u32; 4]
+pub(crate) fn moved_arguments(positions: &[u32], args: [u32; 4], count: u8) -> [u32; 4]
     requires few { count ≤ 4 }
     requires named { AllByRecursion (λ a. a < length positions.now) (take count args) }
     ensures { result ≡ map (λ a. slice_index positions.now a) (take count args) ++ drop count args }
@@ -59,7 +63,7 @@ fn moved_arguments(positions: &[u32], args: [u32; 4], count: u8) -> [u32; 4]
 }
 
 /// An origin with positions in place of ranks.
-fn moved(shape: &Shape, positions: &[u32], origin: Origin) -> Origin
+pub(crate) fn moved(shape: &Shape, positions: &[u32], origin: Origin) -> Origin
     requires { IsOriginOver shape.now (length positions.now) origin }
     ensures { result ≡ by_position shape.now positions.now origin }
 {
@@ -76,30 +80,36 @@ fn moved(shape: &Shape, positions: &[u32], origin: Origin) -> Origin
 fn moved_origins(
     alloc: Global,
     shape: &Shape,
-    log: &Log,
+    records: &Records,
     ranks: &[u32],
     positions: &[u32],
 ) -> Result<Vec<Origin>, AllocError>
-    requires origins { AllByRecursion (λ (r : Record). IsOriginOver shape.now (length positions.now) r.1) log.now }
-    requires ranks { AllByRecursion (λ r. r < length log.now) ranks.now }
-    ensures { IfOk result (λ origins. origins.items ≡ origins_at shape.now positions.now log.now ranks.now) }
+    requires origins { AllByRecursion (λ (r : Record). IsOriginOver shape.now (length positions.now) r.1) records.now }
+    requires ranks { AllByRecursion (λ r. r < length records.now) ranks.now }
+    ensures { IfOk result (λ origins. origins.items ≡ origins_at shape.now positions.now records.now ranks.now) }
 {
     let mut origins = Vec::with_capacity(alloc, ranks.len())?;
     for rank in ranks {
-        origins.push(moved(shape, positions, log.origin(*rank)))?;
+        origins.push(moved(shape, positions, records.origin(*rank)))?;
     }
     Ok(origins)
 }
 
-/// The order of the rows of a log, and their origins by position.
-fn index_of(alloc: Global, shape: &Shape, log: &Log) -> Result<Index, AllocError>
-    requires { AllByRecursion (λ (r : Record). IsOriginOver shape.now (length log.now) r.1) log.now }
-    ensures index { IfOk result (λ index. IsIndex (rows_of log.now) index.ranks.items index.positions.items index.origins.items) }
-    ensures arranged { IfOk result (λ index. IsArranged shape.now log.now (listed (rows_of log.now) index.ranks.items index.origins.items)) }
+/// The order of the rows of records, and their origins by position.
+fn index_of(alloc: Global, shape: &Shape, records: &Records) -> Result<Index, AllocError>
+    requires { AllByRecursion (λ (r : Record). IsOriginOver shape.now (length records.now) r.1) records.now }
+    ensures index { IfOk result (λ index. IsIndex (rows_of records.now) index.ranks.items index.positions.items index.origins.items) }
+    ensures arranged { IfOk result (λ index. IsArranged shape.now records.now (listed (rows_of records.now) index.ranks.items index.origins.items)) }
 {
-    let ranks = ranks_in_order(alloc, log)?;
+    let ranks = ranks_in_order(alloc, records)?;
     let positions = positions_of(alloc, ranks.as_slice())?;
-    let origins = moved_origins(alloc, shape, log, ranks.as_slice(), positions.as_slice())?;
+    let origins = moved_origins(
+        alloc,
+        shape,
+        records,
+        ranks.as_slice(),
+        positions.as_slice(),
+    )?;
     Ok(Index {
         ranks,
         positions,
@@ -107,13 +117,37 @@ fn index_of(alloc: Global, shape: &Shape, log: &Log) -> Result<Index, AllocError
     })
 }
 
-/// The listing of a log.
-pub fn listing_of(alloc: Global, shape: &Shape, log: Log) -> Result<Listing, AllocError>
-    requires { AllByRecursion (λ (r : Record). IsOriginOver shape.now (length log) r.1) log }
-    ensures { IfOk result (IsArranged shape.now log) }
+/// The listing of records.
+pub(crate) fn listing_of(
+    alloc: Global,
+    shape: &Shape,
+    records: Records,
+) -> Result<Listing, AllocError>
+    requires { AllByRecursion (λ (r : Record). IsOriginOver shape.now (length records) r.1) records }
+    ensures { IfOk result (IsArranged shape.now records) }
 {
-    let index = index_of(alloc, shape, &log)?;
-    Ok(Listing { log, index })
+    let index = index_of(alloc, shape, &records)?;
+    Ok(Listing { records, index })
+}
+
+/// The origins at these positions, with ranks in place of positions.
+fn origins_by_rank(
+    alloc: Global,
+    shape: &Shape,
+    ranks: &[u32],
+    places: &[u32],
+    origins: &[Origin],
+) -> Result<Vec<Origin>, AllocError>
+    requires count { length origins.now ≡ length ranks.now }
+    requires origins { AllByRecursion (IsOriginOver shape.now (length ranks.now)) origins.now }
+    requires places { AllByRecursion (λ q. q < length ranks.now) places.now }
+    ensures { IfOk result (λ moved. length moved.items ≡ length places.now) }
+{
+    let mut moved_origins = Vec::with_capacity(alloc, places.len())?;
+    for place in places {
+        moved_origins.push(moved(shape, ranks, origins[*place as usize]))?;
+    }
+    Ok(moved_origins)
 }
 
 impl Listing {
@@ -121,7 +155,7 @@ impl Listing {
     pub fn len(&self) -> u32
         ensures { result ≡ length self.now }
     {
-        self.log.len()
+        self.records.len()
     }
 
     /// The vector of row i, counted from 0 in the order of the vectors.
@@ -129,7 +163,7 @@ impl Listing {
         requires { i < length self.now }
         ensures { slice_get (vectors_of self.now) i ≡ Some result.now }
     {
-        self.log.row(self.index.ranks[i as usize])
+        self.records.row(self.index.ranks[i as usize])
     }
 
     /// The rank of row i: how many rows were found before it.
@@ -138,6 +172,14 @@ impl Listing {
         ensures { slice_get (ranks_of self.now) i ≡ Some result }
     {
         self.index.ranks[i as usize]
+    }
+
+    /// The row of a rank.
+    pub(crate) fn position(&self, rank: u32) -> u32
+        requires { rank < length self.now }
+        ensures { slice_get (ranks_of self.now) result ≡ Some rank }
+    {
+        self.index.positions[rank as usize]
     }
 
     /// The origin of row i.
@@ -153,7 +195,62 @@ impl Listing {
         ensures found { IfSome result (λ i. slice_get (vectors_of self.now) i ≡ Some v.now) }
         ensures absent { IfNone result (¬ Contains (vectors_of self.now) v.now) }
     {
-        let rank = self.log.find(v)?;
+        let rank = self.records.find(v)?;
         Some(self.index.positions[rank as usize])
+    }
+
+    /// The rows at these different positions, in their order.
+    pub(crate) fn rows_at(
+        &self,
+        alloc: Global,
+        width: u32,
+        places: &[u32],
+    ) -> Result<Rows, AllocError>
+        requires widths { AllByRecursion (λ (v : Vector). length v ≡ width) (vectors_of self.now) }
+        requires increasing { IsIncreasing (vectors_of self.now) }
+        requires places { EachOnceBelow (length self.now) places.now }
+        requires few { length places.now < 2 ^ 32 }
+        ensures width { IfOk result (λ rows. rows.width ≡ width) }
+        ensures rows { IfOk result (λ rows. rows.items ≡ rows_at (vectors_of self.now) places.now) }
+    {
+        let mut rows = Rows::new(alloc, width);
+        for place in places {
+            rows.push(self.row(*place))?;
+        }
+        Ok(rows)
+    }
+
+    /// The listing of the same vectors whose ranks go by these positions, with these origins.
+    pub(crate) fn rearranged(
+        &self,
+        alloc: Global,
+        shape: &Shape,
+        width: u32,
+        places: &[u32],
+        origins: Vec<Origin>,
+    ) -> Result<Listing, AllocError>
+        requires widths { AllByRecursion (λ (v : Vector). length v ≡ width) (vectors_of self.now) }
+        requires increasing { IsIncreasing (vectors_of self.now) }
+        requires places { EachOnceBelow (length self.now) places.now }
+        requires all { length places.now ≡ length self.now }
+        requires few { length places.now < 2 ^ 32 }
+        requires count { length origins.items ≡ length self.now }
+        requires origins { AllByRecursion (IsOriginOver shape.now (length self.now)) origins.items }
+        ensures vectors { IfOk result (λ list. vectors_of list ≡ vectors_of self.now) }
+        ensures ranks { IfOk result (λ list. ArePositions places.now (ranks_of list)) }
+        ensures origins { IfOk result (λ list. origins_of list ≡ origins.items) }
+    {
+        let rows = self.rows_at(alloc, width, places)?;
+        let ranks = positions_of(alloc, places)?;
+        let moved = origins_by_rank(alloc, shape, ranks.as_slice(), places, origins.as_slice())?;
+        let positions = places.to_vec(alloc)?;
+        Ok(Listing {
+            records: Records::of(rows, moved),
+            index: Index {
+                ranks,
+                positions,
+                origins,
+            },
+        })
     }
 }

@@ -4,6 +4,10 @@ ghost use Rattle.std.specs.Prelude.{IfOk};
 ghost use Rattle.std.specs.List.{AllByRecursion};
 ghost use Rattle.ua_table.specs.Algebras.{IsVector};
 
+mod leasts;
+mod meeting;
+mod reaching;
+mod stepping;
 mod workers;
 
 use crate::{CloseError, Closure, FreeGate, Listing, Run, close_set};
@@ -50,9 +54,10 @@ fn close<R: Threads + Abort + Sync>(
     frame: &Frame,
     vectors: &[&[Elem]],
     budget: u32,
+    workers: u32,
 ) -> Result<Result<Closure, CloseError>, Fail> {
     let gens = generators(rt, alloc, frame, vectors)?;
-    let run = Run::new(budget, 1, &FreeGate).ok_or("a budget out of its limits")?;
+    let run = Run::new(budget, workers, &FreeGate).ok_or("a number out of its limits")?;
     Ok(close_set(rt, alloc, frame, &gens, &run))
 }
 
@@ -87,18 +92,35 @@ struct Case<'a> {
     rows: &'a [Row<'a>],
 }
 
+/// Compares the vectors of a closed listing.
+fn expect_vectors(rt: &impl Abort, list: &Listing, rows: &[Row]) {
+    assert_eq!(rt; list.len() as usize, rows.len());
+    for (i, (row, _, _)) in rows.iter().enumerate() {
+        assert_eq!(rt; list.row(i as u32), *row);
+    }
+}
+
+/// Compares the rows with one worker, and with more workers what does not depend on them.
 fn expect<R: Threads + Abort + Sync>(
     rt: &R,
     alloc: Global,
     frame: &Frame,
     case: &Case,
 ) -> Result<(), Fail> {
-    let (closed, list) = match close(rt, alloc, frame, case.gens, case.budget)?? {
-        Closure::Closed(list) => (true, list),
-        Closure::Exceeds(list) => (false, list),
-    };
-    assert_eq!(rt; closed, case.closed);
-    expect_rows(rt, &list, case.rows);
+    for workers in [1, 2, 16] {
+        let (closed, list) = match close(rt, alloc, frame, case.gens, case.budget, workers)?? {
+            Closure::Closed(list) => (true, list),
+            Closure::Exceeds(list) => (false, list),
+        };
+        assert_eq!(rt; closed, case.closed, "{workers} workers");
+        assert_eq!(rt; list.len() as usize, case.rows.len(), "{workers} workers");
+        if workers == 1 {
+            expect_rows(rt, &list, case.rows);
+        }
+        if closed {
+            expect_vectors(rt, &list, case.rows);
+        }
+    }
     Ok(())
 }
 
@@ -295,7 +317,7 @@ fn error<R: Threads + Abort + Sync>(
     budget: u32,
 ) -> Result<Option<CloseError>, Fail> {
     let frame = Frame::power(algebra, width)?;
-    Ok(close(rt, alloc, &frame, &[], budget)?.err())
+    Ok(close(rt, alloc, &frame, &[], budget, 2)?.err())
 }
 
 #[test]
