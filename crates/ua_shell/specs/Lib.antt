@@ -3,6 +3,7 @@ pub mod Sessions
 pub mod Refusals
 pub mod Operands
 pub mod CloseCommand
+pub mod MemberCommand
 pub mod EvalCommand
 pub mod CgCommand
 pub mod ConCommand
@@ -11,4 +12,5 @@ pub mod Outputs
 pub mod Served
 pub mod Codes
 pub mod Words
+pub mod Options
 pub mod Runs

@@ -4,7 +4,7 @@ ghost use Rattle.std.specs.Prelude.{◌≡◌, ◌<◌, ◌≤◌, ◌*◌, [], 
 ghost use Rattle.std.specs.List.{AllByRecursion};
 ghost use Rattle.ua_script.specs.declared.script.Number.{Number};
 ghost use Rattle.ua_table.specs.declared.limits.TheConstants.{SIZE, BUDGET};
-ghost use Rattle.ua_table.specs.Algebras.{arities_of};
+ghost use Rattle.ua_table.specs.Algebras.{IsVector, arities_of};
 ghost use Rattle.ua_table.specs.Numbering.{records};
 ghost use Rattle.ua_shell.specs.Sessions.{lookup, bounds_of};
 ghost use Rattle.ua_shell.specs.Operands.{values_of, vectors_of, Fits};
@@ -13,10 +13,10 @@ ghost use Rattle.ua_shell.specs.Refusals.{first_refusal};
 
 use crate::operands::{elements, find_algebra, first_other_length, first_vector_above};
 use crate::refusals::{Refusal, refusal_reply};
-use crate::texts::{push_number, push_rows};
+use crate::texts::{push_counted, push_rows};
 use std::alloc::{AllocError, Global};
 use std::thread::Threads;
-use ua_close::{CloseError, Closure, close_set};
+use ua_close::{CloseError, Closure, close_set, least};
 use ua_script::{Items, Mode, Number, Word};
 use ua_table::limits::{BUDGET, SIZE};
 use ua_table::{Algebra, Frame, Gate, Run, Vectors};
@@ -48,7 +48,12 @@ fn checked<'a>(
 }
 
 /// The vectors that are written.
-fn vectors(alloc: Global, width: u32, size: u32, gens: &[Items]) -> Result<Vectors, AllocError>
+pub(crate) fn vectors(
+    alloc: Global,
+    width: u32,
+    size: u32,
+    gens: &[Items],
+) -> Result<Vectors, AllocError>
     requires fit { AllByRecursion (Fits width size) gens.now }
     requires few { length gens.now ≤ 16777216 }
     requires small { size ≤ SIZE }
@@ -62,7 +67,29 @@ fn vectors(alloc: Global, width: u32, size: u32, gens: &[Items]) -> Result<Vecto
     Ok(vectors)
 }
 
-/// What `close_set` answers for a power of the algebra.
+/// What `close_set` answers, and with `least` the least listing in place of a closed one.
+fn asked_closure<R: Threads + Sync, G: Gate>(
+    rt: &R,
+    alloc: Global,
+    frame: &Frame,
+    gens: &Vectors,
+    run: &Run<G>,
+    mode: Mode,
+) -> Result<Closure, CloseError>
+    requires admitted { AllByRecursion (IsVector frame.now) gens.now.items }
+    ensures { IsPermitted frame.now gens.now.items (bounds_of run.now.budget run.now.workers) mode result }
+{
+    let closure = close_set(rt, alloc, frame, gens, run)?;
+    match (mode, closure) {
+        (Mode::Least, Closure::Closed(rows)) => {
+            let rows = least(alloc, frame, gens, &rows)?;
+            Ok(Closure::Closed(rows))
+        }
+        (_, closure) => Ok(closure),
+    }
+}
+
+/// What is answered for a power of the algebra.
 fn close_power<R: Threads + Sync, G: Gate>(
     rt: &R,
     alloc: Global,
@@ -70,21 +97,22 @@ fn close_power<R: Threads + Sync, G: Gate>(
     width: u32,
     gens: &[Items],
     run: &Run<G>,
+    mode: Mode,
 ) -> Result<Closure, CloseError>
     requires some { 0 < width }
     requires fit { AllByRecursion (Fits width algebra.now.size) gens.now }
     requires few { length gens.now ≤ 16777216 }
-    ensures { IsPermitted (replicate width algebra.now) (vectors_of gens.now) (bounds_of run.now.budget run.now.workers) result }
+    ensures { IsPermitted (replicate width algebra.now) (vectors_of gens.now) (bounds_of run.now.budget run.now.workers) mode result }
 {
     let vectors = vectors(alloc, width, algebra.size(), gens)?;
     match Frame::power(algebra, width) {
-        Ok(frame) => close_set(rt, alloc, &frame, &vectors, run),
+        Ok(frame) => asked_closure(rt, alloc, &frame, &vectors, run, mode),
         Err(_) => Err(wide_power(alloc, algebra, width, vectors.len(), run.budget)?),
     }
 }
 
 /// The error for a power with more coordinates than a frame has.
-fn wide_power(
+pub(crate) fn wide_power(
     alloc: Global,
     algebra: &Algebra,
     width: u32,
@@ -117,17 +145,14 @@ fn closure_reply(
     let mut out = Vec::new(alloc);
     let rows = match closure {
         Closure::Closed(rows) => {
-            out.extend_from_slice(b"closed ")?;
-            push_number(&mut out, u128::from(rows.len()))?;
+            push_counted(&mut out, b"closed", u128::from(rows.len()))?;
             rows
         }
         Closure::Exceeds(rows) => {
-            out.extend_from_slice(b"exceeds ")?;
-            push_number(&mut out, u128::from(budget))?;
+            push_counted(&mut out, b"exceeds", u128::from(budget))?;
             rows
         }
     };
-    out.push(b'\n')?;
     if mode != Mode::Count {
         push_rows(&mut out, algebra, rows)?;
     }
@@ -152,7 +177,7 @@ pub fn answer_close<R: Threads + Sync, G: Gate>(
         Ok(algebra) => algebra,
         Err(refusal) => return refusal_reply(alloc, refusal),
     };
-    match close_power(rt, alloc, algebra, width.value, gens, run) {
+    match close_power(rt, alloc, algebra, width.value, gens, run, mode) {
         Ok(closure) => closure_reply(alloc, algebra, run.budget, mode, &closure),
         Err(CloseError::Wide { records, cells }) => {
             refusal_reply(alloc, Refusal::Wide { records, cells })

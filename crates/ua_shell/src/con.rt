@@ -4,12 +4,11 @@ ghost use Rattle.std.specs.Prelude.{◌≡◌, ◌++◌, [], Some, IfOk, IfErr, 
 ghost use Rattle.ua_part.specs.Blocks.{partition_text};
 ghost use Rattle.ua_shell.specs.Sessions.{lookup, bounds_of};
 ghost use Rattle.ua_shell.specs.ConCommand.{con_errors, parts_text, numbered_text, pairs_text, irreducibles_text, lattice_text, ConReply};
-ghost use Rattle.ua_shell.specs.Texts.{line, counted};
 ghost use Rattle.ua_shell.specs.Refusals.{first_refusal};
 
 use crate::operands::find_algebra;
 use crate::refusals::{Refusal, refusal_reply};
-use crate::texts::{push_more, push_number};
+use crate::texts::{push_counted, push_more, push_number};
 use std::alloc::{AllocError, Global};
 use std::thread::Threads;
 use ua_lattice::{Lattice, congruences};
@@ -75,17 +74,6 @@ fn push_pairs(out: &mut Vec<u8>, pairs: &[(u32, u32)]) -> Result<(), AllocError>
     Ok(())
 }
 
-/// Appends a word and a number, on a line.
-fn push_counted(out: &mut Vec<u8>, word: &[u8], n: usize) -> Result<(), AllocError>
-    ensures { OnOk result (out.new.items ≡ out.old.items ++ line (counted word.now n)) }
-{
-    out.extend_from_slice(word)?;
-    out.push(b' ')?;
-    push_number(out, n as u128)?;
-    out.push(b'\n')?;
-    Ok(())
-}
-
 /// Appends the places of the irreducible congruences, on a line.
 fn push_irreducibles(out: &mut Vec<u8>, places: &[u32]) -> Result<(), AllocError>
     ensures { OnOk result (out.new.items ≡ out.old.items ++ irreducibles_text places.now) }
@@ -107,14 +95,14 @@ fn lattice_reply(alloc: Global, budget: u32, lattice: &Lattice) -> Result<Vec<u8
             covers,
             irreducibles,
         } => {
-            push_counted(&mut out, b"congruences", list.len())?;
+            push_counted(&mut out, b"congruences", list.len() as u128)?;
             push_numbered(&mut out, list.as_slice())?;
-            push_counted(&mut out, b"covers", covers.len())?;
+            push_counted(&mut out, b"covers", covers.len() as u128)?;
             push_pairs(&mut out, covers.as_slice())?;
             push_irreducibles(&mut out, irreducibles.as_slice())?;
         }
         Lattice::Exceeds(list) => {
-            push_counted(&mut out, b"exceeds", budget as usize)?;
+            push_counted(&mut out, b"exceeds", u128::from(budget))?;
             push_parts(&mut out, list.as_slice())?;
         }
     }

@@ -5,6 +5,7 @@ mod cg;
 mod close;
 mod con;
 mod eval;
+mod member;
 mod operands;
 mod refusals;
 mod run_call;

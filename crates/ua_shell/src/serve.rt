@@ -11,10 +11,11 @@ use crate::cg::answer_cg;
 use crate::close::answer_close;
 use crate::con::answer_con;
 use crate::eval::answer_eval;
+use crate::member::answer_member;
 use std::alloc::{AllocError, Global};
 use std::thread::Threads;
 use ua_io::{Sink, write_all};
-use ua_script::{Command, Item, Provable};
+use ua_script::{Command, Item, Mode, Provable};
 use ua_table::{Algebra, Gate, Run};
 
 /// How the items of a script were served.
@@ -54,6 +55,25 @@ fn answer<R: Threads + Sync, G: Gate>(
             *width,
             gens.as_slice(),
             *mode,
+        ),
+        Command::Ask {
+            what: Provable::Member {
+                algebra,
+                width,
+                gens,
+                target,
+            },
+            mode: Mode::Plain,
+            cert: false,
+        } => answer_member(
+            rt,
+            alloc,
+            session,
+            run,
+            algebra,
+            *width,
+            gens.as_slice(),
+            target,
         ),
         Command::Eval {
             algebra,

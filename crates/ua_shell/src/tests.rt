@@ -11,6 +11,9 @@ use ua_script::{Mode, Number, Place, Word};
 use ua_table::{Algebra, FreeGate, Name, OpTable, Run};
 use ua_text::{FaultKind, TextFault};
 
+mod meeting;
+mod members;
+
 const MEET: &str = "algebra M size 2\nop meet 2 = 0 0 0 1\nend\n";
 
 /// How a run ended, and what it wrote.
@@ -18,6 +21,15 @@ const MEET: &str = "algebra M size 2\nop meet 2 = 0 0 0 1\nend\n";
 struct Ended {
     status: Status,
     out: Vec<u8>,
+}
+
+/// The words of a command line.
+fn words_of(alloc: Global, texts: &[&str]) -> Result<Vec<String>, AllocError> {
+    let mut words = Vec::new(alloc);
+    for text in texts {
+        words.push(String::from_str(alloc, text)?)?;
+    }
+    Ok(words)
 }
 
 /// Runs a script; the calls listed fail.
@@ -43,10 +55,11 @@ fn run_with<R: Threads + Sync>(
     })
 }
 
-/// Runs a script that follows the block of M, with no words.
+/// Runs a script that follows the block of M, with one worker.
 fn answer<R: Threads + Sync>(rt: &R, alloc: Global, text: &str) -> Result<Ended, AllocError> {
     let script = format!(in alloc; "{MEET}{text}")?;
-    run_with(rt, alloc, &[], script.as_bytes(), &[], &[])
+    let words = words_of(alloc, &["--workers", "1"])?;
+    run_with(rt, alloc, &words, script.as_bytes(), &[], &[])
 }
 
 #[test]
@@ -80,7 +93,8 @@ fn replies(rt: HostRuntime) -> Result<(), Fail> {
 fn constants(rt: HostRuntime) -> Result<(), Fail> {
     let alloc = rt.alloc();
     let script = b"algebra K size 2 op c 0 = 1 end close K 3 close K 3 [1 1 1]";
-    let ended = run_with(&rt, alloc, &[], script, &[], &[])?;
+    let words = words_of(alloc, &["--workers", "1"])?;
+    let ended = run_with(&rt, alloc, &words, script, &[], &[])?;
     assert_eq!(rt; ended.status, Status::Done);
     let reply = b"closed 1\n[1 1 1] 0 c\nclosed 1\n[1 1 1] 0 gen 0\n";
     assert_eq!(rt; ended.out.as_slice(), reply.as_slice());
@@ -309,10 +323,10 @@ fn faults_of_the_text(rt: HostRuntime) -> Result<(), Fail> {
         ("algebra M size 256", 1, 16, FaultKind::Number),
         ("algebra M size 2 end types M", 1, 22, FaultKind::Unbuilt),
         (
-            "algebra M size 2 end close M 2 least",
+            "algebra M size 2 end close M 2 least count",
             1,
-            32,
-            FaultKind::Unbuilt,
+            38,
+            FaultKind::Word,
         ),
         ("algebra M size 2 end algebra M", 1, 30, FaultKind::Name),
         ("algebra", 1, 8, FaultKind::End),
@@ -338,13 +352,71 @@ fn faults_of_the_text(rt: HostRuntime) -> Result<(), Fail> {
     Ok(())
 }
 
+/// Three vectors without operations, closed after each list of words.
+#[test]
+fn words_set_the_budget(rt: HostRuntime) -> Result<(), Fail> {
+    let alloc = rt.alloc();
+    let script = b"algebra E size 3 end close E 1 [0] [1] [2] count";
+    for (words, reply) in [
+        ([].as_slice(), "closed 3\n"),
+        (["--budget=3"].as_slice(), "closed 3\n"),
+        (["--budget", "2"].as_slice(), "exceeds 2\n"),
+        (["--workers", "16"].as_slice(), "closed 3\n"),
+        (["--budget=1000000", "--workers=1"].as_slice(), "closed 3\n"),
+        (
+            ["--workers", "2", "--budget", "1"].as_slice(),
+            "exceeds 1\n",
+        ),
+    ] {
+        let words = words_of(alloc, words)?;
+        let ended = run_with(&rt, alloc, &words, script, &[], &[])?;
+        assert_eq!(rt; ended.status, Status::Done);
+        assert_eq!(rt; ended.out.as_slice(), reply.as_bytes());
+    }
+    Ok(())
+}
+
+/// The source fails at its first call, so nothing is read where the status is another.
 #[test]
 fn words_are_refused(rt: HostRuntime) -> Result<(), Fail> {
     let alloc = rt.alloc();
-    for word in ["--help", "", "--", "script.ua"] {
-        let words = [String::from_str(alloc, word)?];
+    for words in [
+        ["script.ua"].as_slice(),
+        &[""],
+        &["--"],
+        &["--budget=3", "--"],
+        &["--workers", "--"],
+        &["--workers"],
+        &["--workers="],
+        &["--workers 2"],
+        &["--workers", "2", "3"],
+        &["--workers", "0"],
+        &["--workers", "17"],
+        &["--workers=-3"],
+        &["--workers", "-3"],
+        &["--workers", "+3"],
+        &["--workers", "--budget=3"],
+        &["--workers", "2", "--workers", "2"],
+        &["--workers=2", "--workers", "3"],
+        &["--budget", "0"],
+        &["--budget", "010"],
+        &["--budget=1000001"],
+        &["--budget=18446744073709551617"],
+        &["-w", "2"],
+        &["-b2"],
+        &["--work", "2"],
+        &["--Workers=2"],
+        &["--help"],
+        &["-h"],
+        &["help"],
+        &["--version"],
+        &["-V"],
+        &["--generate", "0"],
+        &["--jobs", "2"],
+    ] {
+        let words = words_of(alloc, words)?;
         let ended = run_with(&rt, alloc, &words, MEET.as_bytes(), &[0], &[])?;
-        assert_eq!(rt; ended.status, Status::Usage, "{word}");
+        assert_eq!(rt; ended.status, Status::Usage);
         assert!(rt; ended.out.is_empty());
     }
     Ok(())
