@@ -1,8 +1,9 @@
 #!/usr/bin/env python3
-"""Runs the examples against the built program, and compares its replies with what they are to be.
+"""Runs the examples against the built program, and compares its replies with what they are to be; then checks the tools.
 
 An example is a file NAME.ua here with its reply in NAME.out, or a fenced block marked `script` in a document with
-the next block, marked `reply`.
+the next block, marked `reply`. The program runs with one worker, and with the words in NAME.args, one on a line, or behind
+the mark `script`.
 
 usage: check.py PROGRAM
 """
@@ -15,22 +16,28 @@ import sys
 HERE = pathlib.Path(__file__).resolve().parent
 DOCUMENTS = ["README.md", "docs/LANGUAGE.md"]
 LINES = r"((?:(?!```).*\n)*)"
-PAIR = re.compile(rf"^```script\n{LINES}```\n{LINES}```reply\n{LINES}```$", re.MULTILINE)
+PAIR = re.compile(rf"^```script(.*)\n{LINES}```\n{LINES}```reply\n{LINES}```$", re.MULTILINE)
 
 
 def scripts():
-    """The name, the script and the reply of each example."""
+    """The name, the words, the script and the reply of each example."""
     for script in sorted(HERE.glob("*.ua")):
-        yield script.name, script.read_bytes(), script.with_suffix(".out").read_bytes()
+        args = script.with_suffix(".args")
+        words = args.read_text(encoding="utf-8").split() if args.exists() else []
+        yield script.name, words, script.read_bytes(), script.with_suffix(".out").read_bytes()
     for name in DOCUMENTS:
         text = (HERE.parent / name).read_text(encoding="utf-8")
-        for number, pair in enumerate(PAIR.findall(text), 1):
-            yield f"{name}, script {number}", pair[0].encode(), pair[2].encode()
+        pairs = PAIR.findall(text)
+        if len(pairs) != text.count("\n```script"):
+            sys.exit(f"{name}: a script without a reply behind it")
+        for number, pair in enumerate(pairs, 1):
+            yield f"{name}, script {number}", pair[0].split(), pair[1].encode(), pair[3].encode()
 
 
-def is_as_expected(program, script, reply):
-    """Whether the program ends with status 0 and gives this reply."""
-    run = subprocess.run([program], input=script, stdout=subprocess.PIPE, check=False)
+def is_as_expected(program, words, script, reply):
+    """Whether the program, with one worker, ends with status 0 and gives this reply."""
+    command = [program, "--workers", "1", *words]
+    run = subprocess.run(command, input=script, stdout=subprocess.PIPE, check=False)
     return (run.stdout, run.returncode) == (reply, 0)
 
 
@@ -39,13 +46,14 @@ def main():
         sys.exit(__doc__)
     wrong = 0
     count = 0
-    for name, script, reply in scripts():
+    for name, *example in scripts():
         count += 1
-        if not is_as_expected(sys.argv[1], script, reply):
+        if not is_as_expected(sys.argv[1], *example):
             wrong += 1
             print(f"{name}: another reply")
-    print(f"examples: {count - wrong} as expected, {wrong} not")
-    sys.exit(1 if wrong else 0)
+    print(f"examples: {count - wrong} as expected, {wrong} not", flush=True)
+    tools = subprocess.run([sys.executable, HERE.parent / "tools" / "check.py", sys.argv[1]], check=False)
+    sys.exit(1 if wrong or tools.returncode else 0)
 
 
 if __name__ == "__main__":

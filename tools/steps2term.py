@@ -1,0 +1,125 @@
+#!/usr/bin/env python3
+"""Turns the steps of a `member` reply into a term: steps2term.py [--step I] [--limit N] < REPLY
+
+The input is a reply `yes N` with its steps, or the steps alone. Where a line `yes N` stands in it, lines before it and
+behind its steps are passed over. Generator I is written as the variable xI.
+"""
+
+import argparse
+import re
+
+from blocks import Fault, is_operation_name, number_of, run
+
+HEAD = re.compile(r"yes ([0-9]{1,9})")
+WITHOUT = ("no", "exceeds", "error")
+
+
+def lines_of(text):
+    """The lines that steps are to stand in, each with its number."""
+    lines = list(enumerate(text.removesuffix("\n").split("\n"), 1))
+    for place, (number, line) in enumerate(lines):
+        head = HEAD.fullmatch(line.strip())
+        if head:
+            count = int(head.group(1))
+            steps = lines[place + 1 : place + 1 + count]
+            if len(steps) < count:
+                raise Fault(f"{number}:1", f"{count} steps are to follow, and {len(steps)} do")
+            return steps
+    return [(number, line) for number, line in lines if line.strip()]
+
+
+def columned(line):
+    """The words of a line, each with its column."""
+    return [(word.group(), word.start() + 1) for word in re.finditer(r"\S+", line)]
+
+
+def number_at(number, word, column, below):
+    value = number_of(word)
+    if value is None:
+        raise Fault(f"{number}:{column}", f"a number is needed, and {word} is none")
+    if below is not None and value >= below:
+        raise Fault(f"{number}:{column}", f"{word} names no earlier step")
+    return value
+
+
+def step_of(number, line, index, arities):
+    """A step as (name, arguments); that of a generator has its variable as the name."""
+    words = columned(line)
+    if index == 0 and words and words[0][0] in WITHOUT:
+        raise Fault(f"{number}:1", f"a reply `{words[0][0]}` has no steps")
+    if not words or words[0][0] != str(index):
+        raise Fault(f"{number}:1", f"step {index} is needed here")
+    if len(words) == 1:
+        raise Fault(f"{number}:{len(line.rstrip()) + 1}", "an operation or a generator is needed")
+    name, column = words[1]
+    if name == "gen":
+        if len(words) != 3:
+            raise Fault(f"{number}:{column}", "a generator has one number")
+        return f"x{number_at(number, *words[2], None)}", []
+    if not is_operation_name(name):
+        raise Fault(f"{number}:{column}", f"{name} is no name of an operation")
+    args = [number_at(number, *word, index) for word in words[2:]]
+    if arities.setdefault(name, len(args)) != len(args):
+        raise Fault(f"{number}:{column}", f"{name} has {len(args)} arguments here, and {arities[name]} before")
+    return name, args
+
+
+def steps_of(text):
+    arities = {}
+    steps = []
+    for number, line in lines_of(text):
+        steps.append(step_of(number, line, len(steps), arities))
+    if not steps:
+        raise Fault("1:1", "there is no step")
+    return steps
+
+
+def is_longer(steps, step, limit):
+    """Whether the text of the term has more characters than the limit."""
+    lengths = []
+    for name, args in steps[: step + 1]:
+        length = len(name) + sum(lengths[arg] for arg in args) + 2 * len(args)
+        lengths.append(min(length, limit + 1))
+    return lengths[step] > limit
+
+
+def term_of(steps, step):
+    """The text of the term of a step, without recursion: terms may be deep."""
+    pieces = []
+    waiting = [step]
+    while waiting:
+        top = waiting.pop()
+        if isinstance(top, str):
+            pieces.append(top)
+            continue
+        name, args = steps[top]
+        pieces.append(name)
+        if args:
+            pieces.append("(")
+            waiting.append(")")
+            for arg in reversed(args[1:]):
+                waiting += [arg, ", "]
+            waiting.append(args[0])
+    return "".join(pieces)
+
+
+def main():
+    parser = argparse.ArgumentParser(description=__doc__, formatter_class=argparse.RawDescriptionHelpFormatter)
+    parser.add_argument("--step", type=int, help="the step whose term is printed, in place of the last")
+    parser.add_argument("--limit", type=int, default=100_000, help="characters at most (else 100000)")
+    options = parser.parse_args()
+
+    def convert(text):
+        steps = steps_of(text)
+        step = len(steps) - 1 if options.step is None else options.step
+        if not 0 <= step < len(steps):
+            raise Fault("--step", f"there is no step {step}: the last is {len(steps) - 1}")
+        if is_longer(steps, step, options.limit):
+            raise Fault("--limit", f"the term has more than {options.limit} characters")
+        return term_of(steps, step) + "\n"
+
+    run("steps2term", convert)
+
+
+if __name__ == "__main__":
+    main()
