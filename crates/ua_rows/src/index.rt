@@ -1,6 +1,6 @@
 //! An index of rows by their hashes.
 
-ghost use Rattle.std.specs.Prelude.{◌≡◌, ◌<◌, ℕ, List, [], ◌∷◌, ◌++◌, length, vec_len, slice_get, Some, IfOk, OnOk};
+ghost use Rattle.std.specs.Prelude.{◌≡◌, ◌<◌, ℕ, List, [], ◌∷◌, ◌++◌, length, vec_len, slice_get, Some, IfOk, OnOk, IsFalse};
 ghost use Rattle.std.specs.List.{AllByRecursion};
 ghost use Rattle.smallvec.specs.SmallVec.{HasRoomFor};
 ghost use Rattle.ua_rows.specs.Indexing.{tag_of, slot_of, entry_of, bucket_of, Has, AreNamed, IsIndex, HaveRoomBut, HaveRoom};
@@ -11,7 +11,10 @@ use std::alloc::{AllocError, Global};
 /// How many buckets the first index has.
 const BUCKETS: usize = 16;
 
-/// How many rows there are at most for each bucket.
+/// Up to how many buckets there is at most one row for each. So many take a megabyte, which a cache holds.
+const SPARSE: usize = 16_384;
+
+/// How many rows there are at most for each of more buckets.
 const LOAD: usize = 2;
 
 /// A row, and the high half of its hash.
@@ -47,6 +50,17 @@ fn slot_of(tag: u32, count: usize) -> usize
     ensures below { result < count }
 {
     tag as usize & (count - 1)
+}
+
+/// Whether so many rows are all that so many buckets are for. While a cache holds the buckets they are kept
+/// sparse, so that a look-up mostly finds its row first in its bucket; beyond, memory counts.
+fn is_full(buckets: usize, rows: usize) -> bool
+    ensures some { IsFalse result → 0 < buckets }
+{
+    if buckets <= SPARSE {
+        return buckets <= rows;
+    }
+    buckets <= rows / LOAD
 }
 
 /// Appends an entry to a bucket, and leaves room for one more.
@@ -152,7 +166,7 @@ impl Index {
         ensures some { OnOk result (0 < length self.new.buckets.items) }
         ensures others { HaveRoomBut self.new.last self.new.buckets.items }
     {
-        if rows / LOAD >= self.buckets.len() {
+        if is_full(self.buckets.len(), rows) {
             let count = (self.buckets.len() * 2).max(BUCKETS);
             self.buckets = spread(self.alloc, self.buckets.as_slice(), count)?;
             self.last = 0;

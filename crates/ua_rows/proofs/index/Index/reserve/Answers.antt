@@ -3,11 +3,11 @@ use Rattle.ua_rows.specs.Indexing.{IsIndex}
 use Rattle.ua_rows.proofs.IndexLaws.{same_entries, room_again, others_after, all_but}
 use Rattle.ua_rows.proofs.index.Index.reserve.Goals as goal
 
-pub returns-then-rows-len-clause-index : goal.returns-then-rows-len-clause-index
-returns-then-rows-len-clause-index c hashes h = c.in_ok-self.ensures.index hashes (subst (IsIndex hashes) (sym c.as_slice.ensures.value) h)
+pub returns-then-is_full-clause-index : goal.returns-then-is_full-clause-index
+returns-then-is_full-clause-index c hashes h = c.in_ok-self.ensures.index hashes (subst (IsIndex hashes) (sym c.as_slice.ensures.value) h)
 
-pub returns-then-rows-len-clause-others : goal.returns-then-rows-len-clause-others
-returns-then-rows-len-clause-others c = all_but c.in_ok-self.field-0.items 0 c.in_ok-self.ensures.room
+pub returns-then-is_full-clause-others : goal.returns-then-is_full-clause-others
+returns-then-is_full-clause-others c = all_but c.in_ok-self.field-0.items 0 c.in_ok-self.ensures.room
 
 pub returns-clause-index : goal.returns-clause-index
 returns-clause-index c =
