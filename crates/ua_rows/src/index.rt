@@ -14,8 +14,9 @@ const BUCKETS: usize = 16;
 /// Up to how many buckets there is at most one row for each. So many take a megabyte, which a cache holds.
 const SPARSE: usize = 16_384;
 
-/// How many rows there are at most for each of more buckets.
-const LOAD: usize = 2;
+/// How many rows there are at most for each of more buckets: few enough that most buckets have places for
+/// theirs and one more.
+const LOAD: usize = 5;
 
 /// A row, and the high half of its hash.
 #[derive(Clone, Copy, Default, Debug)]
@@ -23,6 +24,9 @@ pub(crate) struct Entry {
     pub(crate) tag: u32,
     pub(crate) row: u32,
 }
+
+/// The entries of one place of the index. Ten and what says how many there are take 96 bytes.
+type Bucket = SmallVec<Entry, 10>;
 
 /// The high half of a hash.
 #[inline(always)]
@@ -36,7 +40,7 @@ pub(crate) fn tag_of(hash: u64) -> u32
 #[derive(Drop, Debug)]
 pub(crate) struct Index {
     alloc: Global,
-    buckets: Vec<SmallVec<Entry, 6>>,
+    buckets: Vec<Bucket>,
     /// The bucket that was entered last, which alone may lack room for one more entry.
     last: usize,
     ghost within: { 0 < vec_len buckets → last < vec_len buckets },
@@ -64,7 +68,7 @@ fn is_full(buckets: usize, rows: usize) -> bool
 }
 
 /// Appends an entry to a bucket, and leaves room for one more.
-fn push_with_room(bucket: &mut SmallVec<Entry, 6>, entry: Entry) -> Result<(), AllocError>
+fn push_with_room(bucket: &mut Bucket, entry: Entry) -> Result<(), AllocError>
     ensures items { OnOk result (bucket.new.items ≡ bucket.old.items ++ entry ∷ []) }
     ensures room { OnOk result (HasRoomFor bucket.new 1) }
 {
@@ -74,7 +78,7 @@ fn push_with_room(bucket: &mut SmallVec<Entry, 6>, entry: Entry) -> Result<(), A
 }
 
 /// Adds an entry, and leaves room for one more in its bucket.
-fn add(buckets: &mut Vec<SmallVec<Entry, 6>>, entry: Entry) -> Result<(), AllocError>
+fn add(buckets: &mut Vec<Bucket>, entry: Entry) -> Result<(), AllocError>
     requires some { 0 < length buckets.old.items }
     ensures added { OnOk result (Has buckets.new.items entry) }
     ensures kept { OnOk result ((e : Entry) → Has buckets.old.items e → Has buckets.new.items e) }
@@ -88,7 +92,7 @@ fn add(buckets: &mut Vec<SmallVec<Entry, 6>>, entry: Entry) -> Result<(), AllocE
 }
 
 /// Adds some entries, and leaves room for one more in each of their buckets.
-fn add_all(buckets: &mut Vec<SmallVec<Entry, 6>>, entries: &[Entry]) -> Result<(), AllocError>
+fn add_all(buckets: &mut Vec<Bucket>, entries: &[Entry]) -> Result<(), AllocError>
     requires some { 0 < length buckets.old.items }
     ensures added { OnOk result ((i : ℕ) (e : Entry) → slice_get entries.now i ≡ Some e → Has buckets.new.items e) }
     ensures kept { OnOk result ((e : Entry) → Has buckets.old.items e → Has buckets.new.items e) }
@@ -103,7 +107,7 @@ fn add_all(buckets: &mut Vec<SmallVec<Entry, 6>>, entries: &[Entry]) -> Result<(
 }
 
 /// So many empty buckets.
-fn empty_buckets(alloc: Global, count: usize) -> Result<Vec<SmallVec<Entry, 6>>, AllocError>
+fn empty_buckets(alloc: Global, count: usize) -> Result<Vec<Bucket>, AllocError>
     requires { 0 < count }
     ensures named { IfOk result (λ buckets. (n : ℕ) → AreNamed n buckets.items) }
     ensures room { IfOk result (λ buckets. HaveRoom buckets.items) }
@@ -118,11 +122,7 @@ fn empty_buckets(alloc: Global, count: usize) -> Result<Vec<SmallVec<Entry, 6>>,
 
 /// The entries of some buckets in so many buckets. It reads these buckets in order and writes to few places
 /// at a time, as the entries of one bucket go to the few whose places agree with its own in their low bits.
-fn spread(
-    alloc: Global,
-    old: &[SmallVec<Entry, 6>],
-    count: usize,
-) -> Result<Vec<SmallVec<Entry, 6>>, AllocError>
+fn spread(alloc: Global, old: &[Bucket], count: usize) -> Result<Vec<Bucket>, AllocError>
     requires some { 0 < count }
     ensures index { IfOk result (λ buckets. (hashes : List ℕ) → IsIndex hashes old.now → IsIndex hashes buckets.items) }
     ensures room { IfOk result (λ buckets. HaveRoom buckets.items) }

@@ -1,7 +1,6 @@
 //! Whole runs over memory.
 
 use crate::close::answer_close;
-use crate::con::answer_con;
 use crate::{Status, run};
 use std::alloc::{AllocError, Global};
 use std::test::Fail;
@@ -215,16 +214,25 @@ fn lattices_of_congruences(rt: HostRuntime) -> Result<(), Fail> {
 #[test]
 fn more_congruences_than_the_budget(rt: HostRuntime) -> Result<(), Fail> {
     let alloc = rt.alloc();
-    let Some(limits) = Run::new(2, 1, &FreeGate) else {
-        return Err(Fail::from("no such budget"));
-    };
-    let none = Algebra::new(Name::new(alloc, b"E")?, 3, Vec::new(alloc))?;
-    let word = Word {
-        name: Name::new(alloc, b"E")?,
-        place: Place { line: 1, column: 1 },
-    };
-    let reply = answer_con(&rt, alloc, &[none], &limits, &word)?;
-    let Some(parts) = reply.as_slice().strip_prefix(b"exceeds 2\n") else {
+    let script = format!(in alloc; "{ALGEBRAS}con Q\ncon S")?;
+    let words = words_of(alloc, &["--budget", "3"])?;
+    let ended = run_with(&rt, alloc, &words, script.as_bytes(), &[], &[])?;
+    assert_eq!(rt; ended.status, Status::Done);
+    assert_eq!(rt;
+        ended.out.as_slice(),
+        b"exceeds 3\n|0|1|2|3|\n|0 1|2 3|\n|0 2|1 3|\n|0 1 2 3|\ncongruences 3\n0 |0|1|2|3|4|5|\n1 |0 1 2|3 4 5|\n2 |0 1 2 3 4 5|\ncovers 2\n0 1\n1 2\njoin irreducibles 1 2\n".as_slice()
+    );
+    Ok(())
+}
+
+/// Which congruences are listed beyond the budget is open; how many is not.
+#[test]
+fn as_many_congruences_as_the_budget_and_one(rt: HostRuntime) -> Result<(), Fail> {
+    let alloc = rt.alloc();
+    let words = words_of(alloc, &["--budget=2"])?;
+    let script = b"algebra E size 3 end con E";
+    let ended = run_with(&rt, alloc, &words, script, &[], &[])?;
+    let Some(parts) = ended.out.as_slice().strip_prefix(b"exceeds 2\n") else {
         return Err(Fail::from("another reply"));
     };
     assert_eq!(rt; parts.iter().filter(|b| **b == b'\n').count(), 3);
