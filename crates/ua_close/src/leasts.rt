@@ -7,7 +7,7 @@ ghost use Rattle.ua_table.specs.Algebras.{IsVector, arities};
 ghost use Rattle.ua_table.specs.Counting.{numbers_below};
 ghost use Rattle.ua_table.specs.Listings.{vectors_of, IsClosedListing};
 ghost use Rattle.ua_table.specs.Orders.{IsLeast};
-ghost use Rattle.ua_table.specs.Slices.{bound, first_slice};
+ghost use Rattle.ua_table.specs.Slices.{bound, IsMark};
 ghost use Rattle.ua_close.specs.Leasts.{IsClosedWithin};
 ghost use Rattle.ua_close.specs.Searches.{height_number, IsNearTop, IsTop, IsLater, IsTable, IsSearchOf, MayReachIn, HasReachedIn, GoesOnTo, GeneratorsSettledIn, ConstantsSettledIn, SliceSettledIn, SlicesSettledIn, IsWholeSearch};
 
@@ -134,12 +134,12 @@ fn visit_slice(
     requires row { m < length search.old.order.items }
     requires after { bound table.now.shape m ≤ s }
     requires below { s < bound table.now.shape (m + 1) }
-    requires first { mark.old.first ≡ first_slice table.now.shape mark.old.unit }
+    requires mark { IsMark table.now.shape mark.old }
     requires earlier { mark.old.first ≤ s }
     requires height { height ≡ suc (height_number search.old m) }
     requires top { IsTop search.old height }
     ensures width { length scratch.new ≡ length table.now.operations }
-    ensures first { mark.new.first ≡ first_slice table.now.shape mark.new.unit }
+    ensures mark { IsMark table.now.shape mark.new }
     ensures earlier { mark.new.first ≤ s }
     ensures goes_on { OnOk result (GoesOnTo table.now search.old search.new height) }
     ensures settled { OnOk result (SliceSettledIn table.now search.new s) }
@@ -174,11 +174,11 @@ fn visit_row(
     requires row { m < length search.old.order.items }
     requires near { IsNearTop search.old m }
     requires from { from ≡ bound table.now.shape m }
-    requires first { mark.old.first ≡ first_slice table.now.shape mark.old.unit }
+    requires mark { IsMark table.now.shape mark.old }
     requires earlier { mark.old.first ≤ from }
     requires settled { SlicesSettledIn table.now search.old from }
     ensures width { length scratch.new ≡ length table.now.operations }
-    ensures first { mark.new.first ≡ first_slice table.now.shape mark.new.unit }
+    ensures mark { IsMark table.now.shape mark.new }
     ensures earlier { IfOk result (λ to. mark.new.first ≤ to) }
     ensures to { IfOk result (λ to. to ≡ bound table.now.shape (m + 1)) }
     ensures goes_on { OnOk result (GoesOnTo table.now search.old search.new (suc (height_number search.old m))) }

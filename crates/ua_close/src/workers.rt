@@ -5,7 +5,7 @@ ghost use Rattle.std.specs.List.{AllByRecursion};
 ghost use Rattle.ua_table.specs.declared.origins.Origin.{Origin};
 ghost use Rattle.ua_table.specs.declared.origins.Origin.TheVariants.{Op};
 ghost use Rattle.ua_table.specs.Algebras.{IsVector, arities};
-ghost use Rattle.ua_table.specs.Slices.{bound, first_slice};
+ghost use Rattle.ua_table.specs.Slices.{bound, IsMark};
 ghost use Rattle.ua_log.specs.Rule.{MayStand};
 ghost use Rattle.ua_log.specs.Moves.{sees, IsAlone};
 ghost use Rattle.ua_log.specs.Seats.{IsOwn, with_worker};
@@ -66,11 +66,11 @@ fn finish(job: &Job, seat: &mut Seat, replica: &mut Replica, mark: &mut Mark, s:
     requires job { IsJobOf replica.old job.now }
     requires working { GoesOn job.now.goal.now replica.old seat.old.own }
     requires below { s < bound replica.old.shape (length seat.old.own.seen) }
-    requires first { mark.old.first ≡ first_slice replica.old.shape mark.old.unit }
+    requires mark { IsMark replica.old.shape mark.old }
     requires earlier { mark.old.first ≤ s }
     ensures closure { SameClosure replica.old replica.new }
     ensures seat { IsFurther seat.old seat.new }
-    ensures first { mark.new.first ≡ first_slice replica.new.shape mark.new.unit }
+    ensures mark { IsMark replica.new.shape mark.new }
     ensures earlier { mark.new.first ≤ s }
     ensures done { MatchOption result (GoesOn job.now.goal.now replica.new seat.new.own × IsDone replica.new.operations replica.new.gens.now.items seat.new.own.seen s) (Stops job.now.goal.now job.now.board.now.plan replica.new seat.new.own) }
     ensures lone { IsAlone seat.old.made seat.old.own → Comes replica.old seat.old.own (turn_from replica.old.shape s) → MatchOption result (Comes replica.new seat.new.own (turn_from replica.new.shape (suc s))) (StopsSerial replica.new seat.new.own) }

@@ -96,6 +96,25 @@ fn tuples_of_rows(shape: &Shape, rows: u32) -> Option<u64> {
     None
 }
 
+/// The first slice, of those in steps, that a mark carried along finds elsewhere than a walk from the
+/// first unit, or whose unit it takes apart otherwise than a division.
+fn first_stray(shape: &Shape, rows: u32, step: u64) -> Option<u64> {
+    if rows <= 1_000_000 && step > 0 && shape.fits(0, rows) {
+        let mut mark = shape.first_mark();
+        for s in 0..shape.bound(rows) {
+            if s % step > 0 {
+                continue;
+            }
+            let (slice, next) = shape.slice_from(rows, mark, s);
+            mark = next;
+            if slice != shape.slice_of(rows, s) || unit(shape, slice.unit) != Some(next.parts) {
+                return Some(s);
+            }
+        }
+    }
+    None
+}
+
 #[test]
 fn units_of_arities_two_and_one(rt: HostRuntime) -> Result<(), Fail> {
     let shape = shape(rt.alloc(), &[2, 1])?;
@@ -250,6 +269,18 @@ fn all_tuples_of_some_rows(rt: HostRuntime) -> Result<(), Fail> {
     assert_eq!(rt; tuples_of_rows(&ternary, 70), Some(343_000));
     let mixed = shape(rt.alloc(), &[2, 0, 4, 1])?;
     assert_eq!(rt; tuples_of_rows(&mixed, 12), Some(144 + 20_736 + 12));
+    Ok(())
+}
+
+#[test]
+fn slices_found_by_marks(rt: HostRuntime) -> Result<(), Fail> {
+    let mixed = shape(rt.alloc(), &[2, 0, 1, 3])?;
+    for (rows, slices, step) in [(100, 735, 1), (3000, 6_605_333, 9973)] {
+        assert_eq!(rt; bound(&mixed, rows), Some(slices), "{rows} rows");
+        assert_eq!(rt; first_stray(&mixed, rows, step), None, "{rows} rows");
+    }
+    let none = shape(rt.alloc(), &[0, 0])?;
+    assert_eq!(rt; bound(&none, 3000), Some(0));
     Ok(())
 }
 
