@@ -81,7 +81,7 @@ numbers_once vs =
 
 -- ---- the rows in order
 
-abbrev ranks : List Ranked → List ℕ
+abbrev pub ranks : List Ranked → List ℕ
 ranks ps = map (λ (p : Ranked). p.1) ps
 
 less_from : (v w : Vector) (o rest : Ordering) → o ≡ slice_cmp nat_cmp w v → is_lt (ordering_then o rest) ≡ false → v ≢ w → slice_cmp nat_cmp v w ≡ Less
@@ -147,7 +147,7 @@ module _ (rows : List Vector) (ps : List Ranked) (different : IsDistinct (pointw
           at_most : (m n : ℕ) → n ≤ m → m ≢ n → n < m
           at_most m n h k = ⊎_elim (λ l. l) (λ g. absurd (k (omega (arith, g, h)))) (cases_lt n m)
 
-  ranking : IsRanking rows (ranks ps)
+  pub ranking : IsRanking rows (ranks ps)
   ranking = record { count = length-map ps (λ (p : Ranked). p.1) ∙ length-ps; once = ranks_once; increasing = increasing }
 
 ranks_are : (rs : List RankedRow) → ranks (map ranked rs) ≡ ranks_of_rows rs

@@ -1,5 +1,6 @@
 mod Rows
 mod Checks
+mod Findings
 mod Serving
 mod Built
 mod Walking

@@ -3,6 +3,7 @@ pub mod Sessions
 pub mod Refusals
 pub mod Operands
 pub mod CloseCommand
+pub mod Findings
 pub mod MemberCommand
 pub mod EvalCommand
 pub mod CgCommand

@@ -3,12 +3,14 @@
 ghost use Rattle.std.specs.Prelude.{◌≡◌, ◌<◌, ◌≤◌, ◌*◌, [], length, replicate, Some, IfOk, IfErr};
 ghost use Rattle.std.specs.List.{AllByRecursion};
 ghost use Rattle.ua_script.specs.declared.script.Number.{Number};
+ghost use Rattle.ua_script.specs.declared.script.Mode.{Mode};
 ghost use Rattle.ua_table.specs.declared.limits.TheConstants.{SIZE, BUDGET};
 ghost use Rattle.ua_table.specs.Algebras.{IsVector, arities_of};
 ghost use Rattle.ua_table.specs.Numbering.{records};
 ghost use Rattle.ua_shell.specs.Sessions.{lookup, bounds_of};
 ghost use Rattle.ua_shell.specs.Operands.{values_of, vectors_of, Fits};
 ghost use Rattle.ua_shell.specs.CloseCommand.{close_errors, closure_text, IsPermitted, CloseReply};
+ghost use Rattle.ua_shell.specs.Findings.{MayFind, size_text, found_text};
 ghost use Rattle.ua_shell.specs.Refusals.{first_refusal};
 
 use crate::operands::{elements, find_algebra, first_other_length, first_vector_above};
@@ -16,10 +18,17 @@ use crate::refusals::{Refusal, refusal_reply};
 use crate::texts::{push_counted, push_rows};
 use std::alloc::{AllocError, Global};
 use std::thread::Threads;
-use ua_close::{CloseError, Closure, close_set, least};
+use ua_close::{CloseError, Closure, Size, close_set, least, subuniverse_size};
 use ua_script::{Items, Mode, Number, Word};
 use ua_table::limits::{BUDGET, SIZE};
 use ua_table::{Algebra, Frame, Gate, Run, Vectors};
+
+/// What a `close` finds: a closure with its rows, or how many there are.
+#[derive(Drop)]
+enum Found {
+    Listed(Closure),
+    Counted(Size),
+}
 
 /// The algebra of a `close`, or the first of its errors.
 fn checked<'a>(
@@ -89,7 +98,27 @@ fn asked_closure<R: Threads + Sync, G: Gate>(
     }
 }
 
-/// What is answered for a power of the algebra.
+/// What `asked_closure` answers, and with `count` the size alone, for which no listing is made.
+fn find_members<R: Threads + Sync, G: Gate>(
+    rt: &R,
+    alloc: Global,
+    frame: &Frame,
+    gens: &Vectors,
+    run: &Run<G>,
+    mode: Mode,
+) -> Result<Found, CloseError>
+    requires admitted { AllByRecursion (IsVector frame.now) gens.now.items }
+    ensures { MayFind frame.now gens.now.items (bounds_of run.now.budget run.now.workers) mode result }
+{
+    if mode == Mode::Count {
+        let size = subuniverse_size(rt, alloc, frame, gens, run)?;
+        return Ok(Found::Counted(size));
+    }
+    let closure = asked_closure(rt, alloc, frame, gens, run, mode)?;
+    Ok(Found::Listed(closure))
+}
+
+/// What is found in a power of the algebra.
 fn close_power<R: Threads + Sync, G: Gate>(
     rt: &R,
     alloc: Global,
@@ -98,15 +127,15 @@ fn close_power<R: Threads + Sync, G: Gate>(
     gens: &[Items],
     run: &Run<G>,
     mode: Mode,
-) -> Result<Closure, CloseError>
+) -> Result<Found, CloseError>
     requires some { 0 < width }
     requires fit { AllByRecursion (Fits width algebra.now.size) gens.now }
     requires few { length gens.now ≤ 16777216 }
-    ensures { IsPermitted (replicate width algebra.now) (vectors_of gens.now) (bounds_of run.now.budget run.now.workers) mode result }
+    ensures { MayFind (replicate width algebra.now) (vectors_of gens.now) (bounds_of run.now.budget run.now.workers) mode result }
 {
     let vectors = vectors(alloc, width, algebra.size(), gens)?;
     match Frame::power(algebra, width) {
-        Ok(frame) => asked_closure(rt, alloc, &frame, &vectors, run, mode),
+        Ok(frame) => find_members(rt, alloc, &frame, &vectors, run, mode),
         Err(_) => Err(wide_power(alloc, algebra, width, vectors.len(), run.budget)?),
     }
 }
@@ -132,34 +161,52 @@ pub(crate) fn wide_power(
     })
 }
 
-/// The reply to a closure.
-fn closure_reply(
-    alloc: Global,
-    algebra: &Algebra,
-    budget: u32,
-    mode: Mode,
-    closure: &Closure,
-) -> Result<Vec<u8>, AllocError>
-    ensures { IfOk result (λ v. v.items ≡ closure_text algebra.now budget mode closure.now) }
+/// The reply to the size of a closure.
+fn size_reply(alloc: Global, budget: u32, size: Size) -> Result<Vec<u8>, AllocError>
+    ensures { IfOk result (λ v. v.items ≡ size_text budget size) }
 {
     let mut out = Vec::new(alloc);
-    let rows = match closure {
-        Closure::Closed(rows) => {
-            push_counted(&mut out, b"closed", u128::from(rows.len()))?;
-            rows
-        }
-        Closure::Exceeds(rows) => {
-            push_counted(&mut out, b"exceeds", u128::from(budget))?;
-            rows
-        }
-    };
-    if mode != Mode::Count {
-        push_rows(&mut out, algebra, rows)?;
+    match size {
+        Size::Closed(count) => push_counted(&mut out, b"closed", u128::from(count))?,
+        Size::Exceeds => push_counted(&mut out, b"exceeds", u128::from(budget))?,
     }
     Ok(out)
 }
 
-/// The reply to `close`: the first of its errors, or the closure.
+/// The reply to a closure: its size, and its rows.
+fn closure_reply(
+    alloc: Global,
+    algebra: &Algebra,
+    budget: u32,
+    closure: &Closure,
+) -> Result<Vec<u8>, AllocError>
+    ensures { IfOk result (λ v. v.items ≡ closure_text algebra.now budget Mode.Plain closure.now) }
+{
+    let (size, rows) = match closure {
+        Closure::Closed(rows) => (Size::Closed(rows.len()), rows),
+        Closure::Exceeds(rows) => (Size::Exceeds, rows),
+    };
+    let mut out = size_reply(alloc, budget, size)?;
+    push_rows(&mut out, algebra, rows)?;
+    Ok(out)
+}
+
+/// The reply to what is found.
+fn found_reply(
+    alloc: Global,
+    algebra: &Algebra,
+    budget: u32,
+    found: &Found,
+) -> Result<Vec<u8>, AllocError>
+    ensures { IfOk result (λ v. v.items ≡ found_text algebra.now budget found.now) }
+{
+    match found {
+        Found::Listed(closure) => closure_reply(alloc, algebra, budget, closure),
+        Found::Counted(size) => size_reply(alloc, budget, *size),
+    }
+}
+
+/// The reply to `close`: the first of its errors, or what is found.
 pub fn answer_close<R: Threads + Sync, G: Gate>(
     rt: &R,
     alloc: Global,
@@ -178,7 +225,7 @@ pub fn answer_close<R: Threads + Sync, G: Gate>(
         Err(refusal) => return refusal_reply(alloc, refusal),
     };
     match close_power(rt, alloc, algebra, width.value, gens, run, mode) {
-        Ok(closure) => closure_reply(alloc, algebra, run.budget, mode, &closure),
+        Ok(found) => found_reply(alloc, algebra, run.budget, &found),
         Err(CloseError::Wide { records, cells }) => {
             refusal_reply(alloc, Refusal::Wide { records, cells })
         }
