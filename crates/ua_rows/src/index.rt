@@ -11,12 +11,13 @@ use std::alloc::{AllocError, Global};
 /// How many buckets the first index has.
 const BUCKETS: usize = 16;
 
-/// Up to how many buckets there is at most one row for each. So many take a megabyte, which a cache holds.
+/// Up to how many buckets there is at most one row for each. The front of each, with one row or two, is then
+/// in a cache.
 const SPARSE: usize = 16_384;
 
 /// How many rows there are at most for each of more buckets: few enough that most buckets have places for
 /// theirs and one more.
-const LOAD: usize = 5;
+const LOAD: usize = 8;
 
 /// A row, and the high half of its hash.
 #[derive(Clone, Copy, Default, Debug)]
@@ -25,8 +26,8 @@ pub(crate) struct Entry {
     pub(crate) row: u32,
 }
 
-/// The entries of one place of the index. Ten and what says how many there are take 96 bytes.
-type Bucket = SmallVec<Entry, 10>;
+/// The entries of one place of the index. Fourteen and what says how many there are take 128 bytes.
+type Bucket = SmallVec<Entry, 14>;
 
 /// The high half of a hash.
 #[inline(always)]
@@ -56,8 +57,8 @@ fn slot_of(tag: u32, count: usize) -> usize
     tag as usize & (count - 1)
 }
 
-/// Whether so many rows are all that so many buckets are for. While a cache holds the buckets they are kept
-/// sparse, so that a look-up mostly finds its row first in its bucket; beyond, memory counts.
+/// Whether so many rows are all that so many buckets are for. A few buckets are kept sparse, so that a look-up
+/// mostly finds its row first in its bucket; beyond, the fewer bytes each row takes the more a cache holds.
 fn is_full(buckets: usize, rows: usize) -> bool
     ensures some { IsFalse result → 0 < buckets }
 {
