@@ -1,16 +1,14 @@
 //! A worker's own copy of the records that its seat has seen.
 
-ghost use Rattle.std.specs.Prelude.{◌≡◌, ◌<◌, ◌≤◌, ◌++◌, ◌∷◌, [], ◌↔◌, length, map, take, slice_index, vec_len, vec_capacity, Contains, IfOk, OnOk, IsTrue, IsFalse};
+ghost use Rattle.std.specs.Prelude.{◌≡◌, ◌<◌, ◌≤◌, ◌++◌, ◌∷◌, [], ◌↔◌, length, map, take, slice_index, Contains, IfOk, OnOk, IsTrue, IsFalse};
 ghost use Rattle.std.specs.List.{AllByRecursion};
 ghost use Rattle.ua_table.specs.declared.origins.Origin.TheVariants.{Op};
-ghost use Rattle.ua_table.specs.Algebras.{IsVector, arities};
-ghost use Rattle.ua_rows.specs.RowLists.{rows_at};
-ghost use Rattle.ua_close.specs.Values.{with_new};
+ghost use Rattle.ua_table.specs.Algebras.{IsVector};
 ghost use Rattle.ua_close.specs.Replicas.{values_in, value_in, IsOriginIn, IsReplica, HasRoom, SameClosure, SameRecords};
 
 use std::alloc::{AllocError, Global};
 use ua_rows::{Operations, Rows, Scratch};
-use ua_table::{Elem, Frame, Origin, Shape, Vectors};
+use ua_table::{Frame, Origin, Shape, Vectors};
 
 /// The different values of records, with a look-up, and what computes them.
 ///
@@ -24,7 +22,7 @@ pub(crate) struct Replica<'a> {
     pub(crate) rows: Rows,
     /// The row of each record.
     pub(crate) places: Vec<u32>,
-    /// Room for one vector.
+    /// The value that was computed last.
     pub(crate) scratch: Scratch,
 }
 
@@ -40,34 +38,6 @@ fn named(places: &[u32], args: &[u32]) -> [u32; 4]
         rows[j] = places[*a as usize];
     }
     rows
-}
-
-/// Enters a vector as the value of the next record, and answers whether it is a new row. It takes no
-/// memory.
-fn enter_vector(rows: &mut Rows, places: &mut Vec<u32>, v: &[Elem]) -> bool
-    requires width { length v.now ≡ rows.old.width }
-    requires spare { 0 < rows.old.spare }
-    requires room { vec_len places.old < vec_capacity places.old }
-    requires few { length rows.old.items < u32.MAX }
-    requires named { AllByRecursion (λ k. k < length rows.old.items) places.old.items }
-    ensures width { rows.new.width ≡ rows.old.width }
-    ensures rows { rows.new.items ≡ with_new rows.old.items v.now }
-    ensures values { rows_at rows.new.items places.new.items ≡ rows_at rows.old.items places.old.items ++ v.now ∷ [] }
-    ensures named { AllByRecursion (λ k. k < length rows.new.items) places.new.items }
-    ensures new { IsTrue result → rows.new.items ≡ rows.old.items ++ v.now ∷ [] }
-    ensures old { IsFalse result → rows.new.items ≡ rows.old.items }
-{
-    match rows.find(v) {
-        Some(place) => {
-            places.push(place).unwrap();
-            false
-        }
-        None => {
-            let place = rows.push_reserved(v);
-            places.push(place).unwrap();
-            true
-        }
-    }
 }
 
 impl<'a> Replica<'a> {
@@ -99,11 +69,50 @@ impl<'a> Replica<'a> {
         requires { IsReplica self.old }
         ensures replica { IsReplica self.new }
         ensures same { SameRecords self.old self.new }
+        ensures scratch { self.new.scratch ≡ self.old.scratch }
         ensures room { OnOk result (HasRoom self.new) }
     {
         self.places.reserve(1)?;
         self.rows.reserve()?;
         Ok(())
+    }
+
+    /// Writes the value of an operation at records into the scratch. It takes no memory.
+    #[inline(always)]
+    fn apply(&mut self, op: u32, args: &[u32; 4])
+        requires replica { IsReplica self.old }
+        requires origin { IsOriginIn self.old (Op op args.now) }
+        ensures replica { IsReplica self.new }
+        ensures same { self.new ≡ record self.old { scratch = self.new.scratch } }
+        ensures value { self.new.scratch ≡ value_in self.old (Op op args.now) }
+    {
+        let arity = usize::from(self.shape.arity(op));
+        let rows = named(self.places.as_slice(), &args[..arity]);
+        self.operations
+            .apply(op, &self.rows, &rows[..arity], &mut self.scratch);
+    }
+
+    /// Writes the value of an origin into the scratch. It takes no memory.
+    fn compute(&mut self, o: &Origin)
+        requires replica { IsReplica self.old }
+        requires origin { IsOriginIn self.old o.now }
+        ensures replica { IsReplica self.new }
+        ensures same { self.new ≡ record self.old { scratch = self.new.scratch } }
+        ensures value { self.new.scratch ≡ value_in self.old o.now }
+    {
+        match o {
+            Origin::Gen { index } => self.scratch.copy_from(self.gens.get(*index)),
+            Origin::Op { op, args } => self.apply(*op, args),
+        }
+    }
+
+    /// Whether the scratch is the value of a record.
+    #[inline(always)]
+    fn has_scratch(&self) -> bool
+        requires { IsReplica self.now }
+        ensures { IsTrue result ↔ Contains (values_in self.now) self.now.scratch }
+    {
+        self.rows.find_scratch(&self.scratch).is_some()
     }
 
     /// Writes the value of an operation at records into the scratch, and answers whether it is the value
@@ -117,25 +126,41 @@ impl<'a> Replica<'a> {
         ensures value { self.new.scratch ≡ value_in self.old (Op op args.now) }
         ensures has { IsTrue result ↔ Contains (values_in self.old) (value_in self.old (Op op args.now)) }
     {
-        let arity = usize::from(self.shape.arity(op));
-        let rows = named(self.places.as_slice(), &args[..arity]);
-        self.operations
-            .apply(op, &self.rows, &rows[..arity], &mut self.scratch);
-        self.rows.find_scratch(&self.scratch).is_some()
+        self.apply(op, args);
+        self.has_scratch()
     }
 
-    /// Whether the value of an origin is the value of a record. It takes no memory.
+    /// Writes the value of an origin into the scratch, and answers whether it is the value of a record. It
+    /// takes no memory.
     pub(crate) fn holds(&mut self, o: &Origin) -> bool
         requires replica { IsReplica self.old }
         requires origin { IsOriginIn self.old o.now }
         ensures replica { IsReplica self.new }
         ensures same { self.new ≡ record self.old { scratch = self.new.scratch } }
+        ensures value { self.new.scratch ≡ value_in self.old o.now }
         ensures has { IsTrue result ↔ Contains (values_in self.old) (value_in self.old o.now) }
     {
-        match o {
-            Origin::Gen { index } => self.rows.find(self.gens.get(*index)).is_some(),
-            Origin::Op { op, args } => self.has(*op, args),
-        }
+        self.compute(o);
+        self.has_scratch()
+    }
+
+    /// Enters a record whose value is in the scratch and is the value of no record, and answers its row. It
+    /// takes no memory.
+    pub(crate) fn enter_new(&mut self) -> u32
+        requires replica { IsReplica self.old }
+        requires room { HasRoom self.old }
+        requires vector { IsVector self.old.operations self.old.scratch }
+        requires new { ¬ Contains (values_in self.old) self.old.scratch }
+        requires few { length self.old.rows.items < u32.MAX }
+        ensures row { result ≡ length self.old.rows.items }
+        ensures replica { IsReplica self.new }
+        ensures closure { SameClosure self.old self.new }
+        ensures values { values_in self.new ≡ values_in self.old ++ self.old.scratch ∷ [] }
+        ensures rows { self.new.rows.items ≡ self.old.rows.items ++ self.old.scratch ∷ [] }
+    {
+        let place = self.rows.push_scratch(&self.scratch);
+        self.places.push(place).unwrap();
+        place
     }
 
     /// Enters a record, and answers whether its value is a new row. It takes no memory.
@@ -150,14 +175,15 @@ impl<'a> Replica<'a> {
         ensures new { IsTrue result → self.new.rows.items ≡ self.old.rows.items ++ value_in self.old o.now ∷ [] }
         ensures old { IsFalse result → self.new.rows.items ≡ self.old.rows.items }
     {
-        match o {
-            Origin::Gen { index } => {
-                let v = self.gens.get(*index);
-                enter_vector(&mut self.rows, &mut self.places, v)
+        self.compute(o);
+        match self.rows.find_scratch(&self.scratch) {
+            Some(place) => {
+                self.places.push(place).unwrap();
+                false
             }
-            Origin::Op { op, args } => {
-                self.has(*op, args);
-                enter_vector(&mut self.rows, &mut self.places, self.scratch.as_slice())
+            None => {
+                self.enter_new();
+                true
             }
         }
     }

@@ -17,7 +17,7 @@ ghost use Rattle.ua_close.specs.Workings.{values_of, GoesOn, IsFurther, IsSettle
 
 use crate::goals::Goal;
 use crate::harvests::{End, Harvest};
-use crate::puts::{Job, put_value, take_in};
+use crate::puts::{Job, put_new, take_in};
 use crate::replicas::Replica;
 use std::alloc::{AllocError, Global};
 use ua_log::{Board, Claim, Seat};
@@ -57,7 +57,7 @@ fn settle(job: &Job, seat: &mut Seat, replica: &mut Replica, op: u32, args: [u32
     if replica.has(op, &args) {
         return None;
     }
-    put_value(job, seat, replica, Origin::Op { op, args })
+    put_new(job, seat, replica, Origin::Op { op, args })
 }
 
 /// Settles each tuple of a slice, which is looked for from the mark.

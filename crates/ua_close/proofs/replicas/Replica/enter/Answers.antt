@@ -1,44 +1,36 @@
-use Rattle.std.proofs.Common.{◌≡◌, ℕ, ◌<◌, ◌++◌, ◌∷◌, [], length, sym, ap, ◌∙◌, subst}
-use Rattle.ua_table.specs.Algebras.{Vector, Product, FiniteAlgebra, IsVector}
-use Rattle.ua_table.proofs.Lists.{get_or-slice_get, AllZip-length}
+use Rattle.std.proofs.Common.{◌≡◌, ◌++◌, ◌∷◌, [], sym, ap, ◌∙◌, subst}
+use Rattle.ua_table.specs.Algebras.{Vector, Product, IsVector}
 use Rattle.ua_close.specs.declared.replicas.Replica.{Replica}
-use Rattle.ua_close.specs.Replicas.{values_in, value_in}
-use Rattle.ua_close.proofs.ReplicaLaws.{value_vector, entered}
+use Rattle.ua_close.specs.Replicas.{values_in}
+use Rattle.ua_close.proofs.ReplicaLaws.{value_vector, no_value, pushed_place, old_values, entered_old}
 use Rattle.ua_close.proofs.replicas.Replica.enter.Goals as goal
 
-pub enter_vector-requires-clause-width : goal.enter_vector-requires-clause-width
-enter_vector-requires-clause-width c =
-    let r = c.args.self.now in
-    let o = c.args.o.now in
-    let value : c.get-v.result.now ≡ value_in r o = sym (get_or-slice_get r.gens.now.items c.in-Gen.index c.get-v.result.now [] c.get-v.ensures.vector) ∙ sym (ap (value_in r) c.in-Gen.is) in
-    ap (length {A = ℕ}) value ∙ sym (AllZip-length (λ (a : FiniteAlgebra) x. x < a.size) r.operations (value_in r o) (value_vector r o c.requires.replica c.requires.origin)) ∙ sym c.requires.replica.width
+pub returns-in-Some-clause-replica : goal.returns-in-Some-clause-replica
+returns-in-Some-clause-replica c =
+    let r = c.compute.new.self in
+    let place = c.in-Some.place in
+    let more = pushed_place r.places.items c.push.new.self.items place c.push.result c.unwrap.result c.push.ensures.items c.unwrap.ensures in
+    entered_old r c.push.new.self place c.compute.ensures.replica more c.in-Some.ensures.found
 
-pub returns-in-Gen-clause-replica : goal.returns-in-Gen-clause-replica
-returns-in-Gen-clause-replica c =
-    let r = c.args.self.now in
-    let o = c.args.o.now in
-    let value : c.get-v.result.now ≡ value_in r o = sym (get_or-slice_get r.gens.now.items c.in-Gen.index c.get-v.result.now [] c.get-v.ensures.vector) ∙ sym (ap (value_in r) c.in-Gen.is) in
-    entered r c.enter_vector.new.rows c.enter_vector.new.places c.get-v.result.now c.requires.replica (subst (IsVector r.operations) (sym value) (value_vector r o c.requires.replica c.requires.origin))
-    c.enter_vector.ensures.width c.enter_vector.ensures.rows c.enter_vector.ensures.values c.enter_vector.ensures.named
+pub returns-in-Some-clause-values : goal.returns-in-Some-clause-values
+returns-in-Some-clause-values c =
+    let r = c.compute.new.self in
+    let e = c.compute.ensures in
+    let place = c.in-Some.place in
+    let more = pushed_place r.places.items c.push.new.self.items place c.push.result c.unwrap.result c.push.ensures.items c.unwrap.ensures in
+    old_values r c.push.new.self place e.replica more c.in-Some.ensures.found ∙ (λ j. ap values_in e.same j ++ e.value j ∷ [])
 
-pub returns-in-Gen-clause-values : goal.returns-in-Gen-clause-values
-returns-in-Gen-clause-values c =
+pub enter_new-requires-clause-vector : goal.enter_new-requires-clause-vector
+enter_new-requires-clause-vector c =
     let r = c.args.self.now in
-    let value : c.get-v.result.now ≡ value_in r c.args.o.now = sym (get_or-slice_get r.gens.now.items c.in-Gen.index c.get-v.result.now [] c.get-v.ensures.vector) ∙ sym (ap (value_in r) c.in-Gen.is) in
-    c.enter_vector.ensures.values ∙ ap (λ (v : Vector). values_in r ++ v ∷ []) value
+    let e = c.compute.ensures in
+    let operations = ap (λ (s : Replica). s.operations) e.same in
+    subst (λ (q : Product × Vector). IsVector q.0 q.1) (λ j. (sym operations j, sym e.value j)) (value_vector r c.args.o.now c.requires.replica c.requires.origin)
 
-pub returns-in-Gen-clause-new : goal.returns-in-Gen-clause-new
-returns-in-Gen-clause-new c =
-    let r = c.args.self.now in
-    let value : c.get-v.result.now ≡ value_in r c.args.o.now = sym (get_or-slice_get r.gens.now.items c.in-Gen.index c.get-v.result.now [] c.get-v.ensures.vector) ∙ sym (ap (value_in r) c.in-Gen.is) in
-    λ t. c.enter_vector.ensures.new t ∙ ap (λ (v : Vector). r.rows.items ++ v ∷ []) value
+pub enter_new-requires-clause-new : goal.enter_new-requires-clause-new
+enter_new-requires-clause-new c = no_value c.compute.new.self c.compute.new.self.scratch c.compute.ensures.replica c.in-None.ensures.absent
 
-pub returns-in-Op-clause-replica : goal.returns-in-Op-clause-replica
-returns-in-Op-clause-replica c =
-    let r = c.args.self.now in
-    let o = c.args.o.now in
-    let value : c.as_slice.result.now ≡ value_in r o = c.as_slice.ensures ∙ c.has.ensures.value ∙ ap (value_in r) (sym c.in-Op.is) in
-    let operations : c.has.new.self.operations ≡ r.operations = ap (λ (s : Replica). s.operations) c.has.ensures.same in
-    entered c.has.new.self c.enter_vector-in-Op.new.rows c.enter_vector-in-Op.new.places c.as_slice.result.now c.has.ensures.replica
-    (subst (λ (q : Product × Vector). IsVector q.0 q.1) (λ i. (sym operations i, sym value i)) (value_vector r o c.requires.replica c.requires.origin))
-    c.enter_vector-in-Op.ensures.width c.enter_vector-in-Op.ensures.rows c.enter_vector-in-Op.ensures.values c.enter_vector-in-Op.ensures.named
+pub returns-in-None-clause-values : goal.returns-in-None-clause-values
+returns-in-None-clause-values c =
+    let e = c.compute.ensures in
+    c.enter_new.ensures.values ∙ (λ j. ap values_in e.same j ++ e.value j ∷ [])
