@@ -38,6 +38,7 @@ compare "close 12 3 128" 2987712
 compare "close 60 2 64" 12963600
 compare "fill 1000000 0" 1000000
 compare "fill 1000000 20" 21000000
+compare "fill 10000 2000" 20010000
 compare "apply 10 8 20000000" 20000000
 compare "apply 10 64 5000000" 5000000
 compare "apply 200 512 500000" 500000
