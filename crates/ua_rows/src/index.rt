@@ -11,8 +11,7 @@ use std::alloc::{AllocError, Global};
 /// How many buckets the first index has.
 const BUCKETS: usize = 16;
 
-/// Up to how many buckets there is at most one row for each. The front of each, with one row or two, is then
-/// in a cache.
+/// Up to how many buckets there is at most one row for each. So many take two megabytes.
 const SPARSE: usize = 16_384;
 
 /// How many rows there are at most for each of more buckets: few enough that most buckets have places for
@@ -58,7 +57,8 @@ fn slot_of(tag: u32, count: usize) -> usize
 }
 
 /// Whether so many rows are all that so many buckets are for. A few buckets are kept sparse, so that a look-up
-/// mostly finds its row first in its bucket; beyond, the fewer bytes each row takes the more a cache holds.
+/// mostly finds its row first in its bucket; more would not stay in a cache, so fewer bytes for each row count
+/// for more.
 fn is_full(buckets: usize, rows: usize) -> bool
     ensures some { IsFalse result → 0 < buckets }
 {
@@ -68,12 +68,25 @@ fn is_full(buckets: usize, rows: usize) -> bool
     buckets <= rows / LOAD
 }
 
+/// Makes room for so many more entries in a bucket. Mostly there is room, and the call that makes it is no
+/// small one.
+#[inline(always)]
+fn make_room(bucket: &mut Bucket, count: usize) -> Result<(), AllocError>
+    ensures items { bucket.new.items ≡ bucket.old.items }
+    ensures room { OnOk result (HasRoomFor bucket.new count) }
+{
+    if bucket.capacity() - bucket.len() < count {
+        bucket.reserve(count)?;
+    }
+    Ok(())
+}
+
 /// Appends an entry to a bucket, and leaves room for one more.
 fn push_with_room(bucket: &mut Bucket, entry: Entry) -> Result<(), AllocError>
     ensures items { OnOk result (bucket.new.items ≡ bucket.old.items ++ entry ∷ []) }
     ensures room { OnOk result (HasRoomFor bucket.new 1) }
 {
-    bucket.reserve(2)?;
+    make_room(bucket, 2)?;
     bucket.push_reserved(entry);
     Ok(())
 }
@@ -173,7 +186,7 @@ impl Index {
             self.last = 0;
             return Ok(());
         }
-        self.buckets[self.last].reserve(1)?;
+        make_room(&mut self.buckets[self.last], 1)?;
         Ok(())
     }
 
