@@ -51,6 +51,36 @@ def integers(modulus, rank, width):
     return script(modulus, [(2, lambda a, b: (a + b) % modulus)], units(rank, width))
 
 
+def affine(width, rank):
+    """The sums of an odd number of so many unit vectors over the field of two elements."""
+    return script(2, [(3, lambda a, b, c: a ^ b ^ c)], units(rank, width))
+
+
+def lukasiewicz(variables):
+    """The functions of the three-valued logic of Łukasiewicz, with its implication and its negation."""
+    implies, negation = (2, lambda a, b: min(2, 2 - a + b)), (1, lambda a: 2 - a)
+    return script(3, [implies, negation], projections(3, variables))
+
+
+def dicyclic(variables):
+    """The words in the dicyclic group of order 12, whose element 6 e + i is the i-th power of its rotation, times
+    its other generator where e is 1."""
+
+    def times(a, b):
+        (e, i), (f, j) = divmod(a, 6), divmod(b, 6)
+        return (i + (6 - j if e else j) + 3 * (e & f)) % 6 + 6 * (e ^ f)
+
+    return script(12, [(2, times)], projections(12, variables))
+
+
+def transformations(points):
+    """All maps on so many points, as the orbit of their list under a cycle, a transposition and a merging."""
+    cycle = (1, lambda a: (a + 1) % points)
+    swap = (1, lambda a: 1 - a if a < 2 else a)
+    merge = (1, lambda a: 0 if a < 2 else a)
+    return script(points, [cycle, swap, merge], [range(points)])
+
+
 def orbit(points):
     """The symmetric group as the orbit of a list of all points, under a cycle and a transposition."""
     cycle = (1, lambda a: (a + 1) % points)
@@ -86,8 +116,12 @@ def main():
         ("free distributive lattice on 5", distributive_lattice(5), 7579, 10000),
         ("meets of 12 co-atoms, width 128", semilattice(12, 128), 4095, 10000),
         ("integers by 10, rank 4, width 8", integers(10, 4, 8), 10000, 10000),
-        ("orbit of 9 points", orbit(9), 362880, 400000),
+        ("sums of three, width 64", affine(64, 9), 256, 10000),
         ("functions of 2 over 3 elements", field(3, 2), 6561, 10000),
+        ("functions of 2 in a logic of 3", lukasiewicz(2), 3888, 10000),
+        ("words of 2 in a group of 12", dicyclic(2), 3888, 10000),
+        ("orbit of 9 points", orbit(9), 362880, 400000),
+        ("maps on 7 points", transformations(7), 823543, 1000000),
     ]
     print(f"{'closure':32} workers  {'reply':14}  elapsed s  processor s  peak MiB")
     wrong = 0

@@ -1,9 +1,12 @@
 // The loops of crates/bench_rows in C++, with the same input: `close SIZE GENERATORS WIDTH`, which closes
 // vectors under addition modulo the size, `fill COUNT TIMES`, which pushes vectors of width 8 and then
-// finds each, or `apply SIZE WIDTH TIMES`, which adds two vectors again and again. Rows lie end to end, padded with zeros to words of 64 bits; the index is an open table of
-// (high half of the hash, row + 1).
+// finds each, or `apply SIZE WIDTH TIMES`, which adds two vectors again and again.
+//
+// Rows lie end to end, padded with zeros to words of 64 bits. Their index is, by the word of the command
+// line, `table`, an open table of slots of 8 bytes, or `buckets`, the buckets of crates/ua_rows.
 #include <cstdint>
 #include <cstdio>
+#include <cstdlib>
 #include <cstring>
 #include <vector>
 
@@ -18,11 +21,109 @@ static u64 mixed(u64 hash, u64 word) {
   return (u64)product ^ (u64)(product >> 64);
 }
 
-struct Rows {
+// Slots of (high half of the hash, row + 1), or 0, tried one after the other.
+struct Table {
+  std::vector<u64> slots = std::vector<u64>(1024, 0);
+
+  // The slot of the row of this hash that is the one looked for, or the empty slot where it would stand.
+  template <class Is> std::size_t slot_of(u64 hash, Is is) const {
+    const u64 tag = hash >> 32 << 32;
+    const std::size_t mask = slots.size() - 1;
+    for (std::size_t at = hash & mask;; at = (at + 1) & mask) {
+      const u64 slot = slots[at];
+      if (slot == 0) return at;
+      if (slot >> 32 << 32 == tag && is((u32)slot - 1)) return at;
+    }
+  }
+
+  template <class Is> bool find(u64 hash, Is is) const { return slots[slot_of(hash, is)] != 0; }
+
+  template <class Is, class HashOf> void add(u64 hash, u32 row, Is is, HashOf hash_of) {
+    slots[slot_of(hash, is)] = (hash >> 32 << 32) | (row + 1);
+    if (2 * ((std::size_t)row + 1) > slots.size()) grow(row + 1, hash_of);
+  }
+
+  template <class HashOf> void grow(u32 count, HashOf hash_of) {
+    slots.assign(slots.size() * 2, 0);
+    const std::size_t mask = slots.size() - 1;
+    for (u32 i = 0; i < count; i++) {
+      const u64 hash = hash_of(i);
+      std::size_t at = hash & mask;
+      while (slots[at] != 0) at = (at + 1) & mask;
+      slots[at] = (hash >> 32 << 32) | (i + 1);
+    }
+  }
+};
+
+struct Entry { u32 tag, row; };
+
+// As many entries as in a bucket of crates/ua_rows, and always room for one more.
+struct Bucket {
+  static constexpr u64 inside = 14;
+  u64 capacity = inside;
+  union { Entry entries[inside]; Entry* heap; };
+  u64 len = 0;
+
+  const Entry* data() const { return capacity == inside ? entries : heap; }
+
+  void push(Entry entry) {
+    if (len + 1 == capacity) spill();
+    (capacity == inside ? entries : heap)[len++] = entry;
+  }
+
+  void spill() {
+    Entry* more = (Entry*)std::malloc(2 * capacity * sizeof(Entry));
+    std::memcpy(more, data(), len * sizeof(Entry));
+    if (capacity != inside) std::free(heap);
+    heap = more;
+    capacity *= 2;
+  }
+};
+
+struct Buckets {
+  std::size_t size = 16;
+  Bucket* buckets = empty(size);
+
+  static Bucket* empty(std::size_t size) {
+    Bucket* buckets = (Bucket*)std::malloc(size * sizeof(Bucket));
+    for (std::size_t i = 0; i < size; i++) buckets[i].capacity = Bucket::inside, buckets[i].len = 0;
+    return buckets;
+  }
+
+  template <class Is> bool find(u64 hash, Is is) const {
+    const u32 tag = hash >> 32;
+    const Bucket& bucket = buckets[tag & (size - 1)];
+    const Entry* entries = bucket.data();
+    for (u64 i = 0; i < bucket.len; i++)
+      if (entries[i].tag == tag && is(entries[i].row)) return true;
+    return false;
+  }
+
+  template <class Is, class HashOf> void add(u64 hash, u32 row, Is, HashOf) {
+    if (size <= (size <= 16384 ? row : row / 8)) grow();
+    const u32 tag = hash >> 32;
+    buckets[tag & (size - 1)].push({tag, row});
+  }
+
+  void grow() {
+    Bucket* old = buckets;
+    const std::size_t count = size;
+    size *= 2;
+    buckets = empty(size);
+    for (std::size_t i = 0; i < count; i++) {
+      const Entry* entries = old[i].data();
+      for (u64 k = 0; k < old[i].len; k++) buckets[entries[k].tag & (size - 1)].push(entries[k]);
+      if (old[i].capacity != Bucket::inside) std::free(old[i].heap);
+    }
+    std::free(old);
+  }
+};
+
+template <class Index> struct Rows {
   std::size_t stride;
   u32 count = 0;
   std::vector<u8> cells;
-  std::vector<u64> slots = std::vector<u64>(1024, 0);
+  Index index;
 
   explicit Rows(std::size_t width) : stride((width + 7) / 8 * 8) {}
 
@@ -40,37 +141,16 @@ struct Rows {
     return bits == 0;
   }
 
-  // The slot of the vector, or the empty one where it would stand.
-  std::size_t slot_of(const u8* v, u64 hash) const {
-    const u64 tag = hash >> 32 << 32;
-    const std::size_t mask = slots.size() - 1;
-    for (std::size_t at = hash & mask;; at = (at + 1) & mask) {
-      const u64 slot = slots[at];
-      if (slot == 0) return at;
-      if (slot >> 32 << 32 == tag && same(row((u32)slot - 1), v)) return at;
-    }
+  bool find(const u8* v) const {
+    return index.find(hash_of(v), [&](u32 i) { return same(row(i), v); });
   }
-
-  bool find(const u8* v) const { return slots[slot_of(v, hash_of(v))] != 0; }
 
   void add(const u8* v) {
     const u64 hash = hash_of(v);
-    const std::size_t at = slot_of(v, hash);
-    if (slots[at] != 0) return;
+    const auto is = [&](u32 i) { return same(row(i), v); };
+    if (index.find(hash, is)) return;
     cells.insert(cells.end(), v, v + stride);
-    slots[at] = (hash >> 32 << 32) | ++count;
-    if (2 * (std::size_t)count > slots.size()) grow();
-  }
-
-  void grow() {
-    slots.assign(slots.size() * 2, 0);
-    const std::size_t mask = slots.size() - 1;
-    for (u32 i = 0; i < count; i++) {
-      const u64 hash = hash_of(row(i));
-      std::size_t at = hash & mask;
-      while (slots[at] != 0) at = (at + 1) & mask;
-      slots[at] = (hash >> 32 << 32) | (i + 1);
-    }
+    index.add(hash, count++, is, [&](u32 i) { return hash_of(row(i)); });
   }
 };
 
@@ -97,9 +177,9 @@ static u64 last_of(u32 width) {
   return used == 0 ? ~0ull : (1ull << (8 * used)) - 1;
 }
 
-static u32 close(u32 size, u32 generators, u32 width) {
+template <class Index> static u32 close(u32 size, u32 generators, u32 width) {
   const std::vector<u8> table = sums(size);
-  Rows rows(width);
+  Rows<Index> rows(width);
   std::vector<u8> out(rows.stride, 0);
   for (u32 j = 0; j < generators; j++) {
     for (u32 i = 0; i < width; i++) out[i] = i % generators == j;
@@ -116,8 +196,8 @@ static u32 close(u32 size, u32 generators, u32 width) {
   return rows.count;
 }
 
-static u32 fill(u32 count, u32 times) {
-  Rows rows(8);
+template <class Index> static u32 fill(u32 count, u32 times) {
+  Rows<Index> rows(8);
   for (u32 i = 0; i < count; i++) {
     const u64 v = (u64)i * 0x9E3779B9ull;
     rows.add((const u8*)&v);
@@ -133,9 +213,9 @@ static u32 fill(u32 count, u32 times) {
   return found;
 }
 
-static u32 apply_often(u32 size, u32 width, u32 times) {
+template <class Index> static u32 apply_often(u32 size, u32 width, u32 times) {
   const std::vector<u8> table = sums(size);
-  Rows rows(width);
+  Rows<Index> rows(width);
   std::vector<u8> out(rows.stride, 0);
   for (u32 j = 0; j < 2; j++) {
     for (u32 i = 0; i < width; i++) out[i] = i % 2 == j;
@@ -147,13 +227,21 @@ static u32 apply_often(u32 size, u32 width, u32 times) {
   return out[0];
 }
 
-int main() {
+template <class Index> static int run() {
   char task[16];
   u32 first = 0, second = 0, third = 0;
   if (std::scanf("%15s %u %u %u", task, &first, &second, &third) < 3) return 1;
   u32 answer = 0;
-  if (std::strcmp(task, "close") == 0) answer = close(first, second, third);
-  if (std::strcmp(task, "fill") == 0) answer = fill(first, second);
-  if (std::strcmp(task, "apply") == 0) answer = apply_often(first, second, third);
+  if (std::strcmp(task, "close") == 0) answer = close<Index>(first, second, third);
+  if (std::strcmp(task, "fill") == 0) answer = fill<Index>(first, second);
+  if (std::strcmp(task, "apply") == 0) answer = apply_often<Index>(first, second, third);
   std::printf("%u\n", answer);
+  return 0;
+}
+
+int main(int count, char** words) {
+  if (count != 2) return 1;
+  if (std::strcmp(words[1], "table") == 0) return run<Table>();
+  if (std::strcmp(words[1], "buckets") == 0) return run<Buckets>();
+  return 1;
 }

@@ -1,19 +1,19 @@
 #!/usr/bin/env bash
-# Times the rows of crates/bench_rows beside the same loops in C++ (bench/rows.cpp): the least processor
-# time of three runs each, taken in turn, and the ratio of the two. A `close` is counted in tuples, a `fill`
-# in pushes and look-ups, an `apply` in calls.
+# Times the rows of crates/bench_rows beside the same loops in C++ (bench/rows.cpp), once with an open table
+# and once with the same buckets: the least processor time of three runs each, taken in turn, and the ratios.
+# A `close` is counted in tuples, a `fill` in pushes and look-ups, an `apply` in calls.
 set -euo pipefail
 cd "$(dirname "$0")/.."
 (cd crates/bench_rows && rt run >/dev/null)
-ours=crates/bench_rows/out/bench_rows
-theirs=$(mktemp)
-trap 'rm -f "$theirs"' EXIT
-g++ -O2 -march=x86-64-v2 -o "$theirs" bench/rows.cpp
+program=crates/bench_rows/out/bench_rows
+peer=$(mktemp)
+trap 'rm -f "$peer"' EXIT
+g++ -O2 -march=x86-64-v2 -o "$peer" bench/rows.cpp
 
-# Processor seconds of a program on an input.
+# Processor seconds of a command on an input, which comes first.
 seconds() {
     local TIMEFORMAT=%U
-    { time "$1" <<<"$2" >/dev/null; } 2>&1
+    { time "${@:2}" <<<"$1" >/dev/null; } 2>&1
 }
 
 least() {
@@ -22,13 +22,14 @@ least() {
 
 # A line of the table, for an input and how many steps it has.
 compare() {
-    local input=$1 steps=$2 a="" b=""
+    local input=$1 steps=$2 ours="" table="" buckets=""
     for _ in 1 2 3; do
-        b=$(least "$b" "$(seconds "$theirs" "$input")")
-        a=$(least "$a" "$(seconds "$ours" "$input")")
+        ours=$(least "$ours" "$(seconds "$input" "$program")")
+        table=$(least "$table" "$(seconds "$input" "$peer" table)")
+        buckets=$(least "$buckets" "$(seconds "$input" "$peer" buckets)")
     done
-    awk -v i="$input" -v n="$steps" -v a="$a" -v b="$b" \
-        'BEGIN { printf "%-18s %12d steps %8.1f ns %8.1f ns in C++   x%.2f\n", i, n, a / n * 1e9, b / n * 1e9, a / b }'
+    awk -v i="$input" -v n="$steps" -v a="$ours" -v t="$table" -v b="$buckets" \
+        'BEGIN { n /= 1e9; printf "%-18s %8.1f ns  table %8.1f ns x%.2f  buckets %8.1f ns x%.2f\n", i, a / n, t / n, a / t, b / n, a / b }'
 }
 
 compare "close 10 4 8" 100010000
