@@ -59,7 +59,7 @@ struct Entry { u32 tag, row; };
 
 // As many entries as in a bucket of crates/ua_rows, and always room for one more.
 struct Bucket {
-  static constexpr u64 inside = 14;
+  static constexpr u64 inside = 12;
   u64 capacity = inside;
   union { Entry entries[inside]; Entry* heap; };
   u64 len = 0;
