@@ -7,3 +7,4 @@ mod Walking
 mod Choices
 mod Numbers
 mod OptionValues
+mod SessionLaws

@@ -8,8 +8,9 @@ ghost use Rattle.ua_shell.specs.Operands.{Fits};
 ghost use Rattle.ua_shell.specs.CgCommand.{cg_errors, pairs_of, CgReply};
 ghost use Rattle.ua_shell.specs.Refusals.{first_refusal};
 
-use crate::operands::{find_algebra, first_other_length, first_vector_above};
+use crate::operands::{first_other_length, first_vector_above};
 use crate::refusals::{Refusal, refusal_reply};
+use crate::session::Session;
 use std::alloc::{AllocError, Global};
 use ua_cong::cg;
 use ua_script::{Items, Word};
@@ -18,7 +19,7 @@ use ua_table::{Algebra, Elem};
 
 /// The algebra of a `cg`, or the first of its errors.
 fn checked<'a>(
-    session: &'a [Algebra],
+    session: &'a Session<'_>,
     algebra: &Word,
     pairs: &[Items],
 ) -> Result<&'a Algebra, Refusal>
@@ -26,7 +27,7 @@ fn checked<'a>(
     ensures none { IfOk result (λ a. cg_errors session.now (record { algebra = algebra.now; pairs = pairs.now }) ≡ []) }
     ensures first { IfErr result (λ r. first_refusal (cg_errors session.now (record { algebra = algebra.now; pairs = pairs.now })) ≡ Some r) }
 {
-    let Some(known) = find_algebra(session, algebra.name.text()) else {
+    let Some(known) = session.find(algebra.name.text()) else {
         return Err(Refusal::Unknown(algebra.place));
     };
     if let Some(place) = first_vector_above(known.size(), pairs) {
@@ -55,7 +56,7 @@ fn pairs(alloc: Global, size: u32, vectors: &[Items]) -> Result<Vec<(Elem, Elem)
 /// The reply to `cg`: the first of its errors, or the congruence that the pairs generate.
 pub fn answer_cg(
     alloc: Global,
-    session: &[Algebra],
+    session: &Session<'_>,
     word: &Word,
     vectors: &[Items],
 ) -> Result<Vec<u8>, AllocError>

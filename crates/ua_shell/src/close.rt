@@ -13,8 +13,9 @@ ghost use Rattle.ua_shell.specs.CloseCommand.{close_errors, closure_text, IsPerm
 ghost use Rattle.ua_shell.specs.Findings.{MayFind, size_text, found_text};
 ghost use Rattle.ua_shell.specs.Refusals.{first_refusal};
 
-use crate::operands::{elements, find_algebra, first_other_length, first_vector_above};
+use crate::operands::{elements, first_other_length, first_vector_above};
 use crate::refusals::{Refusal, refusal_reply};
+use crate::session::Session;
 use crate::texts::{push_counted, push_rows};
 use std::alloc::{AllocError, Global};
 use std::thread::Threads;
@@ -32,7 +33,7 @@ enum Found {
 
 /// The algebra of a `close`, or the first of its errors.
 fn checked<'a>(
-    session: &'a [Algebra],
+    session: &'a Session<'_>,
     algebra: &Word,
     width: Number,
     gens: &[Items],
@@ -41,7 +42,7 @@ fn checked<'a>(
     ensures none { IfOk result (λ a. close_errors session.now (record { algebra = algebra.now; width = width; gens = gens.now }) ≡ []) }
     ensures first { IfErr result (λ r. first_refusal (close_errors session.now (record { algebra = algebra.now; width = width; gens = gens.now })) ≡ Some r) }
 {
-    let Some(known) = find_algebra(session, algebra.name.text()) else {
+    let Some(known) = session.find(algebra.name.text()) else {
         return Err(Refusal::Unknown(algebra.place));
     };
     if width.value == 0 {
@@ -210,7 +211,7 @@ fn found_reply(
 pub fn answer_close<R: Threads + Sync, G: Gate>(
     rt: &R,
     alloc: Global,
-    session: &[Algebra],
+    session: &Session<'_>,
     run: &Run<G>,
     word: &Word,
     width: Number,

@@ -6,8 +6,8 @@ ghost use Rattle.ua_shell.specs.Sessions.{lookup, bounds_of};
 ghost use Rattle.ua_shell.specs.ConCommand.{con_errors, parts_text, numbered_text, pairs_text, irreducibles_text, lattice_text, ConReply};
 ghost use Rattle.ua_shell.specs.Refusals.{first_refusal};
 
-use crate::operands::find_algebra;
 use crate::refusals::{Refusal, refusal_reply};
+use crate::session::Session;
 use crate::texts::{push_counted, push_more, push_number};
 use std::alloc::{AllocError, Global};
 use std::thread::Threads;
@@ -17,12 +17,12 @@ use ua_script::Word;
 use ua_table::{Algebra, Gate, Run};
 
 /// The algebra of a `con`, or its error.
-fn checked<'a>(session: &'a [Algebra], algebra: &Word) -> Result<&'a Algebra, Refusal>
+fn checked<'a>(session: &'a Session<'_>, algebra: &Word) -> Result<&'a Algebra, Refusal>
     ensures known { IfOk result (λ a. lookup session.now algebra.now.name ≡ Some a.now) }
     ensures none { IfOk result (λ a. con_errors session.now algebra.now ≡ []) }
     ensures first { IfErr result (λ r. first_refusal (con_errors session.now algebra.now) ≡ Some r) }
 {
-    match find_algebra(session, algebra.name.text()) {
+    match session.find(algebra.name.text()) {
         Some(known) => Ok(known),
         None => Err(Refusal::Unknown(algebra.place)),
     }
@@ -113,7 +113,7 @@ fn lattice_reply(alloc: Global, budget: u32, lattice: &Lattice) -> Result<Vec<u8
 pub fn answer_con<R: Threads + Sync, G: Gate>(
     rt: &R,
     alloc: Global,
-    session: &[Algebra],
+    session: &Session<'_>,
     run: &Run<G>,
     word: &Word,
 ) -> Result<Vec<u8>, AllocError>

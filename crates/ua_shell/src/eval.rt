@@ -10,8 +10,9 @@ ghost use Rattle.ua_shell.specs.Operands.{values_of};
 ghost use Rattle.ua_shell.specs.EvalCommand.{eval_errors, EvalReply};
 ghost use Rattle.ua_shell.specs.Refusals.{first_refusal};
 
-use crate::operands::{elements, find_algebra, first_above};
+use crate::operands::{elements, first_above};
 use crate::refusals::{Refusal, refusal_reply};
+use crate::session::Session;
 use crate::texts::push_number;
 use std::alloc::{AllocError, Global};
 use ua_script::{Items, Number, Word};
@@ -20,7 +21,7 @@ use ua_term::{TermFault, Written, eval};
 
 /// The algebra of an `eval`, or the first of its errors.
 fn checked<'a>(
-    session: &'a [Algebra],
+    session: &'a Session<'_>,
     algebra: &Word,
     term: &Written,
     args: &Items,
@@ -29,7 +30,7 @@ fn checked<'a>(
     ensures none { IfOk result (λ a. eval_errors session.now (record { algebra = algebra.now; term = term.now; args = args.now }) ≡ []) }
     ensures first { IfErr result (λ r. first_refusal (eval_errors session.now (record { algebra = algebra.now; term = term.now; args = args.now })) ≡ Some r) }
 {
-    let Some(known) = find_algebra(session, algebra.name.text()) else {
+    let Some(known) = session.find(algebra.name.text()) else {
         return Err(Refusal::Unknown(algebra.place));
     };
     if let Some(place) = term.first_unknown(known) {
@@ -72,7 +73,7 @@ fn value(
 /// The reply to `eval`: the first of its errors, or the value.
 pub fn answer_eval(
     alloc: Global,
-    session: &[Algebra],
+    session: &Session<'_>,
     word: &Word,
     term: &Written,
     args: &Items,

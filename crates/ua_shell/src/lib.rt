@@ -10,6 +10,7 @@ mod operands;
 mod refusals;
 mod run_call;
 mod serve;
+mod session;
 mod status;
 #[cfg(test)]
 mod tests;

@@ -9,10 +9,9 @@ ghost use Rattle.ua_shell.specs.MemberCommand.{member_errors, steps_text, answer
 ghost use Rattle.ua_shell.specs.Refusals.{first_refusal};
 
 use crate::close::{vectors, wide_power};
-use crate::operands::{
-    elements, find_algebra, first_above, first_other_length, first_vector_above,
-};
+use crate::operands::{elements, first_above, first_other_length, first_vector_above};
 use crate::refusals::{Refusal, refusal_reply};
+use crate::session::Session;
 use crate::texts::{push_counted, push_number, push_origin, push_rows};
 use std::alloc::{AllocError, Global};
 use std::thread::Threads;
@@ -22,7 +21,7 @@ use ua_table::{Algebra, Frame, Gate, Origin, Run};
 
 /// The algebra of a `member`, or the first of its errors.
 fn checked<'a>(
-    session: &'a [Algebra],
+    session: &'a Session<'_>,
     algebra: &Word,
     width: Number,
     gens: &[Items],
@@ -32,7 +31,7 @@ fn checked<'a>(
     ensures none { IfOk result (λ a. member_errors session.now (record { algebra = algebra.now; width = width; gens = gens.now; target = target.now }) ≡ []) }
     ensures first { IfErr result (λ r. first_refusal (member_errors session.now (record { algebra = algebra.now; width = width; gens = gens.now; target = target.now })) ≡ Some r) }
 {
-    let Some(known) = find_algebra(session, algebra.name.text()) else {
+    let Some(known) = session.find(algebra.name.text()) else {
         return Err(Refusal::Unknown(algebra.place));
     };
     if width.value == 0 {
@@ -122,7 +121,7 @@ fn answer_reply(
 pub fn answer_member<R: Threads + Sync, G: Gate>(
     rt: &R,
     alloc: Global,
-    session: &[Algebra],
+    session: &Session<'_>,
     run: &Run<G>,
     word: &Word,
     width: Number,

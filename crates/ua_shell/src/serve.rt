@@ -12,11 +12,12 @@ use crate::close::answer_close;
 use crate::con::answer_con;
 use crate::eval::answer_eval;
 use crate::member::answer_member;
+use crate::session::Session;
 use std::alloc::{AllocError, Global};
 use std::thread::Threads;
 use ua_io::{Sink, write_all};
 use ua_script::{Command, Item, Mode, Provable};
-use ua_table::{Algebra, Gate, Run};
+use ua_table::{Gate, Run};
 
 /// How the items of a script were served.
 #[derive(Clone, Copy, Debug, PartialEq, Eq)]
@@ -30,7 +31,7 @@ pub enum Served {
 fn answer<R: Threads + Sync, G: Gate>(
     rt: &R,
     alloc: Global,
-    session: &[Algebra],
+    session: &Session<'_>,
     run: &Run<G>,
     command: &Command,
 ) -> Result<Vec<u8>, AllocError>
@@ -86,14 +87,6 @@ fn answer<R: Threads + Sync, G: Gate>(
     }
 }
 
-/// A block's algebra joins the session.
-fn introduce(alloc: Global, session: &mut Vec<Algebra>, algebra: &Algebra) -> Result<(), AllocError>
-    ensures { OnOk result (session.new.items ≡ session.old.items ++ algebra.now ∷ []) }
-{
-    session.push(algebra.copy(alloc)?)?;
-    Ok(())
-}
-
 /// Answers each command in order. Each reply is written as one piece, and nothing more after a fault.
 pub fn serve<R: Threads + Sync, K: Sink, G: Gate>(
     rt: &R,
@@ -105,11 +98,11 @@ pub fn serve<R: Threads + Sync, K: Sink, G: Gate>(
     requires { AllByRecursion IsServed items.now }
     ensures { Serves K.written K.faults (bounds_of run.now.budget run.now.workers) items.now sink.old sink.new result }
 {
-    let mut session = Vec::new(alloc);
+    let mut session = Session::new(alloc);
     for item in items {
         match item {
             Item::Block(algebra) => {
-                let Ok(()) = introduce(alloc, &mut session, algebra) else {
+                let Ok(()) = session.introduce(algebra) else {
                     return Served::OutOfMemory;
                 };
             }
