@@ -73,19 +73,20 @@ def dicyclic(variables):
     return script(12, [(2, times)], projections(12, variables))
 
 
-def transformations(points):
-    """All maps on so many points, as the orbit of their list under a cycle, a transposition and a merging."""
-    cycle = (1, lambda a: (a + 1) % points)
-    swap = (1, lambda a: 1 - a if a < 2 else a)
-    merge = (1, lambda a: 0 if a < 2 else a)
-    return script(points, [cycle, swap, merge], [range(points)])
+def permutations(points):
+    """A cycle of all points and a transposition, which generate the symmetric group."""
+    return [(1, lambda a: (a + 1) % points), (1, lambda a: 1 - a if a < 2 else a)]
 
 
 def orbit(points):
-    """The symmetric group as the orbit of a list of all points, under a cycle and a transposition."""
-    cycle = (1, lambda a: (a + 1) % points)
-    swap = (1, lambda a: 1 - a if a < 2 else a)
-    return script(points, [cycle, swap], [range(points)])
+    """The symmetric group as the orbit of a list of all points."""
+    return script(points, permutations(points), [range(points)])
+
+
+def transformations(points):
+    """All maps on so many points as the orbit of their list, where one more operation merges two points."""
+    merge = (1, lambda a: 0 if a < 2 else a)
+    return script(points, permutations(points) + [merge], [range(points)])
 
 
 def field(modulus, variables):
