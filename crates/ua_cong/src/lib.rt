@@ -7,6 +7,3 @@ mod pairs;
 pub use closing::cg;
 pub use pairs::principals;
 pub use ua_prod::{Clash, is_congruence};
-
-#[cfg(test)]
-mod tests;

@@ -1,5 +1,5 @@
 -- A source and a sink in memory: what they still have to give or have taken, and what one call changes.
-use Rattle.std.specs.Prelude.{◌≡◌, ◌⊎◌, ℕ, ◌+◌, ◌-◌, ◌^◌, ◌<◌, min, List, length, Contains}
+use Rattle.std.specs.Prelude.{◌≡◌, ◌⊎◌, ℕ, ◌+◌, ◌-◌, ◌^◌, ◌<◌, min, List, length, Result, Ok, Err, Contains}
 
 -- a source in memory: the bytes not yet given, the most that one call gives, the calls that fail, how many calls there were, and how many failed
 pub record Supply : Type 0 where
@@ -40,3 +40,13 @@ SupplyFails s = Contains s.fails s.calls
 -- the call of this number is one of those that fail, or there is a byte to write and no room for it
 abbrev pub StoreFails : Store → List ℕ → Type 0
 StoreFails s piece = Contains s.fails s.calls ⊎ ((s.room ≡ 0) × (0 < length piece))
+
+-- the count of faults goes on by an error, and stands still without one
+abbrev pub IsCounted : {T E : Type 0} → ℕ → ℕ → Result T E → Type 0
+IsCounted before after (Ok x) = after ≡ before
+IsCounted before after (Err e) = after ≡ counted_on before
+
+-- the room is as before, less what was taken
+abbrev pub IsRoomLeft : {E : Type 0} → ℕ → ℕ → Result ℕ E → Type 0
+IsRoomLeft before after (Ok n) = after + n ≡ before
+IsRoomLeft before after (Err e) = after ≡ before

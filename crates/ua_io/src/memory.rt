@@ -3,7 +3,7 @@
 ghost use Rattle.std.specs.Prelude.{◌≡◌, ◌<◌, ◌≤◌, ◌↔◌, Some, [], min, length, vec_len, IfOk, IsErr, IsTrue, Contains};
 ghost use Rattle.std.specs.Io.KnownBytes.{ReadConsumes, WriteAppends};
 ghost use Rattle.ua_io.specs.Faults.{Rose, HasCause};
-ghost use Rattle.ua_io.specs.Memory.{SupplyFails, StoreFails, IsNextSupply, IsNextStore};
+ghost use Rattle.ua_io.specs.Memory.{SupplyFails, StoreFails, IsNextSupply, IsNextStore, IsCounted, IsRoomLeft};
 
 use crate::{Failed, Sink, Source};
 use std::marker::Model;
@@ -71,6 +71,7 @@ impl Source for MemSource {
         ensures fails { IsErr result ↔ SupplyFails self.old }
         ensures count { IfOk result (λ n. n ≡ min (min (length buf.old) (length self.old.left)) self.old.most) }
         ensures next { IsNextSupply self.old self.new }
+        ensures counted { IsCounted self.old.faults self.new.faults result }
     {
         let call = self.calls;
         self.calls = call.saturating_add(1);
@@ -160,6 +161,8 @@ impl Sink for MemSink {
         ensures fails { IsErr result ↔ StoreFails self.old piece.now }
         ensures count { IfOk result (λ n. n ≡ min (min (length piece.now) self.old.room) self.old.most) }
         ensures next { IsNextStore self.old self.new }
+        ensures counted { IsCounted self.old.faults self.new.faults result }
+        ensures room { IsRoomLeft self.old.room self.new.room result }
     {
         let call = self.calls;
         self.calls = call.saturating_add(1);

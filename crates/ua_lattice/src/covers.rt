@@ -7,6 +7,7 @@ ghost use Rattle.ua_part.specs.Partitions.{Partition, IsPartition};
 ghost use Rattle.ua_lattice.specs.Lattices.{IsCongruenceList, AreCovers};
 ghost use Rattle.ua_lattice.specs.Joins.{HasJoins, IsSpannedLattice};
 ghost use Rattle.ua_lattice.specs.Places.{at, AreOrdered, AreJoinPushed, AreJoinPlaces, pairs_from};
+ghost use Rattle.ua_table.specs.declared.limits.TheConstants.{SIZE};
 
 use crate::joiner::{Joiner, lies_below};
 use crate::least::keep_least;
@@ -21,7 +22,7 @@ fn rows_of(alloc: Global, joiner: &mut Joiner, size: u32, list: &[Part]) -> Resu
     requires sizes { AllByRecursion (λ (p : Partition). length p ≡ size) list.now }
     requires count { length list.now < 2 ^ 32 }
     requires joiner { length joiner.old.row.items ≡ size }
-    requires few { size ≤ 256 }
+    requires few { size ≤ SIZE }
     ensures joiner { length joiner.new.row.items ≡ length joiner.old.row.items }
     ensures width { IfOk result (λ rows. rows.width ≡ size) }
     ensures rows { IfOk result (λ rows. rows.items ≡ list.now) }
@@ -47,7 +48,7 @@ fn push_join(
     requires joins { HasJoins rows.now.items generator.now rows.now.items }
     requires width { rows.now.width ≡ length generator.now }
     requires joiner { length joiner.old.row.items ≡ length generator.now }
-    requires few { length generator.now ≤ 256 }
+    requires few { length generator.now ≤ SIZE }
     ensures joiner { length joiner.new.row.items ≡ length joiner.old.row.items }
     ensures pushed { OnOk result (AreJoinPushed rows.now.items i generator.now places.old.items places.new.items) }
 {
@@ -76,7 +77,7 @@ fn push_joins(
     requires joins { AllByRecursion (λ q. HasJoins rows.now.items q rows.now.items) generators.now }
     requires sizes { AllByRecursion (λ (q : Partition). length q ≡ rows.now.width) generators.now }
     requires joiner { length joiner.old.row.items ≡ rows.now.width }
-    requires few { rows.now.width ≤ 256 }
+    requires few { rows.now.width ≤ SIZE }
     requires empty { length places.old.items ≡ 0 }
     ensures joiner { length joiner.new.row.items ≡ length joiner.old.row.items }
     ensures places { OnOk result (AreJoinPlaces rows.now.items generators.now i places.new.items) }
@@ -100,7 +101,7 @@ fn joins_above(
     requires joins { AllByRecursion (λ q. HasJoins rows.now.items q rows.now.items) generators.now }
     requires sizes { AllByRecursion (λ (q : Partition). length q ≡ rows.now.width) generators.now }
     requires joiner { length joiner.old.row.items ≡ rows.now.width }
-    requires few { rows.now.width ≤ 256 }
+    requires few { rows.now.width ≤ SIZE }
     ensures joiner { length joiner.new.row.items ≡ length joiner.old.row.items }
     ensures places { OnOk result (AreJoinPlaces rows.now.items generators.now i places.new.items) }
     ensures in_order { OnOk result (IsStrictlyIncreasing places.new.items) }

@@ -2,6 +2,7 @@
 
 ghost use Rattle.std.specs.Prelude.{◌≡◌, ◌≤◌, ℕ, ◌<◌, ◌↔◌, length, slice_index, slice_index_or, vec_len, IfOk, IsTrue};
 ghost use Rattle.ua_part.specs.Partitions.{IsPartition, IsPart, LiesBelow, IsJoin};
+ghost use Rattle.ua_table.specs.declared.limits.TheConstants.{SIZE};
 
 use std::alloc::{AllocError, Global};
 use ua_part::{DisjointSets, Part};
@@ -28,7 +29,7 @@ impl Joiner {
     /// Makes the row a partition.
     pub fn copy(&mut self, part: &Part)
         requires size { length part.now ≡ length self.old.row.items }
-        requires few { length part.now ≤ 256 }
+        requires few { length part.now ≤ SIZE }
         ensures { self.new.row.items ≡ part.now }
     {
         part.write_row(self.row.as_mut_slice());
@@ -39,7 +40,7 @@ impl Joiner {
         requires partition { IsPartition row.now }
         requires row { length row.now ≡ length self.old.row.items }
         requires part { length part.now ≡ length self.old.row.items }
-        requires few { length part.now ≤ 256 }
+        requires few { length part.now ≤ SIZE }
         ensures size { length self.new.row.items ≡ length self.old.row.items }
         ensures join { IsJoin row.now part.now self.new.row.items }
     {

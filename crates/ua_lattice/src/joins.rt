@@ -6,6 +6,7 @@ ghost use Rattle.ua_table.specs.Tables.{IsAlgebraTable};
 ghost use Rattle.ua_part.specs.Partitions.{IsPartition, identity_on};
 ghost use Rattle.ua_prod.specs.Congruences.{IsCongruence};
 ghost use Rattle.ua_lattice.specs.Joins.{IsEntered, IsJoinEntered, GoesOnWithJoins, HasJoins, IsSpannedLattice, AreAmong};
+ghost use Rattle.ua_table.specs.declared.limits.TheConstants.{SIZE};
 
 use crate::joiner::{Joiner, lies_below};
 use std::alloc::{AllocError, Global};
@@ -48,7 +49,7 @@ fn enter_join(rows: &mut Rows, joiner: &mut Joiner, i: u32, part: &Part) -> Resu
     requires partition { IsPartition (slice_index_or rows.old.items i []) }
     requires width { rows.old.width ≡ length part.now }
     requires joiner { length joiner.old.row.items ≡ length part.now }
-    requires few { length part.now ≤ 256 }
+    requires few { length part.now ≤ SIZE }
     ensures width { rows.new.width ≡ rows.old.width }
     ensures joiner { length joiner.new.row.items ≡ length joiner.old.row.items }
     ensures entered { OnOk result (IsJoinEntered rows.old.items (slice_index_or rows.old.items i []) part.now rows.new.items) }
@@ -73,7 +74,7 @@ fn enter_joins(
     requires partitions { AllByRecursion IsPartition rows.old.items }
     requires width { rows.old.width ≡ length part.now }
     requires joiner { length joiner.old.row.items ≡ length part.now }
-    requires few { length part.now ≤ 256 }
+    requires few { length part.now ≤ SIZE }
     ensures width { rows.new.width ≡ rows.old.width }
     ensures joiner { length joiner.new.row.items ≡ length joiner.old.row.items }
     ensures joins { OnOk result (GoesOnWithJoins rows.old.items part.now rows.new.items) }

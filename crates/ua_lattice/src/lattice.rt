@@ -10,6 +10,7 @@ ghost use Rattle.ua_lattice.specs.Joins.{AreAmong};
 ghost use Rattle.ua_lattice.specs.Places.{at};
 ghost use Rattle.ua_lattice.specs.Distinct.{parts_of};
 ghost use Rattle.ua_lattice.specs.Answers.{IsLatticeOf};
+ghost use Rattle.ua_table.specs.declared.limits.TheConstants.{SIZE};
 
 use crate::covers::covers_of;
 use crate::irreducibles::irreducibles_of;
@@ -57,7 +58,7 @@ fn distinct(
     requires sizes { AllByRecursion (λ (p : Partition). length p ≡ size) (parts_of list.now) }
     requires count { length list.now < u32.MAX }
     requires joiner { length joiner.old.row.items ≡ size }
-    requires few { size ≤ 256 }
+    requires few { size ≤ SIZE }
     ensures joiner { length joiner.new.row.items ≡ length joiner.old.row.items }
     ensures all { IfOk result (λ rows. AreAmong (parts_of list.now) rows.items) }
     ensures only { IfOk result (λ rows. AreAmong rows.items (parts_of list.now)) }

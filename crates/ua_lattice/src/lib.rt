@@ -11,6 +11,3 @@ mod least;
 mod ordering;
 
 pub use lattice::{Lattice, congruences};
-
-#[cfg(test)]
-mod tests;

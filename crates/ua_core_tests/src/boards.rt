@@ -1,0 +1,110 @@
+//! A board on one thread, and two threads that put a record at one place.
+
+ghost use Rattle.std.specs.Prelude.{◌≡◌, ◌<◌, ◌≤◌, [], ◌∷◌, length, IfOk};
+ghost use Rattle.ua_log.specs.Rule.{MayStand};
+ghost use Rattle.ua_log.specs.Seats.{first_seat};
+ghost use Rattle.ua_log.specs.Told.{PutTells};
+
+use ua_log::{Board, Claim, Put, Seat};
+use std::alloc::Global;
+use std::test::Fail;
+use std::thread;
+use std::thread::Threads;
+use ua_table::{Origin, Shape};
+
+const FIRST: Origin = Origin::Gen { index: 0 };
+
+const SECOND: Origin = Origin::Gen { index: 1 };
+
+const SQUARE: Origin = Origin::Op {
+    op: 0,
+    args: [0, 0, 0, 0],
+};
+
+/// A board with one binary operation and two generators, for ten records.
+fn start(alloc: Global) -> Result<(Board, Seat), Fail>
+    ensures board { IfOk result (λ made. made.0.plan ≡ record { shape = 2 ∷ []; gens = 2; budget = 10 }) }
+    ensures seat { IfOk result (λ made. made.1 ≡ first_seat made.0) }
+{
+    let shape = Shape::new(vec![in alloc; 2u8]?);
+    let made = Board::start(alloc, &shape, 2, 10)?;
+    Ok(made)
+}
+
+/// What threads share.
+fn shared<T: Sync>(_: &T) {}
+
+/// What one thread hands to another.
+fn handed<T: Send>(x: T) -> T
+    ensures { result ≡ x }
+{
+    x
+}
+
+#[test]
+fn two_seats(rt: HostRuntime) -> Result<(), Fail> {
+    let (board, mut first) = start(rt.alloc())?;
+    shared(&board);
+    let board = handed(board);
+    assert_eq!(rt; board.budget(), 10);
+    assert_eq!(rt; board.put(&mut first, FIRST), Put::Here(0));
+    let mut second = handed(board.split(&mut first));
+    assert_eq!(rt; board.recall(&mut second, 0), FIRST);
+    assert_eq!(rt; board.put(&mut first, SECOND), Put::Here(1));
+    assert_eq!(rt; board.put(&mut second, SQUARE), Put::Taken(SECOND));
+    assert_eq!(rt; board.look(&mut second), None);
+    assert_eq!(rt; Board::seen(&second), 2);
+    assert_eq!(rt; board.claim(&mut second), Claim::Unit(0));
+    assert_eq!(rt; board.claim(&mut first), Claim::Unit(1));
+    assert_eq!(rt; board.claim(&mut first), Claim::Unit(2));
+    assert_eq!(rt; board.claim(&mut first), Claim::Unit(3));
+    assert_eq!(rt; board.claim(&mut first), Claim::Idle(4));
+    board.halt(&mut second);
+    assert_eq!(rt; board.claim(&mut first), Claim::Halted);
+    board.join(&mut first, second);
+    let log = board.close(first);
+    assert_eq!(rt; log.len(), 2);
+    assert_eq!(rt; log.origin(0), FIRST);
+    assert_eq!(rt; log.origin(1), SECOND);
+    assert_eq!(rt; log.claims(), 4);
+    assert!(rt; log.halted());
+    Ok(())
+}
+
+#[test]
+fn one_sees_what_another_put(rt: HostRuntime) -> Result<(), Fail> {
+    let (board, mut first) = start(rt.alloc())?;
+    let mut second = board.split(&mut first);
+    assert_eq!(rt; board.put(&mut first, SECOND), Put::Here(0));
+    assert_eq!(rt; board.look(&mut second), Some(SECOND));
+    Ok(())
+}
+
+/// Two threads put different records at one place.
+fn race<R: Threads + Sync>(rt: &R, board: &Board, one: &mut Seat, two: &mut Seat) -> (Put, Put)
+    requires homes { (one.old.home ≡ board.now) × (two.old.home ≡ board.now) }
+    requires room { (length one.old.own.seen < board.now.plan.budget) × (length two.old.own.seen < board.now.plan.budget) }
+    requires gens { 1 < board.now.plan.gens }
+    ensures one { PutTells board.now.plan (Origin.Gen 0) one.old result.0 one.new }
+    ensures two { PutTells board.now.plan (Origin.Gen 1) two.old result.1 two.new }
+{
+    thread::join_mut(
+        rt,
+        &mut || board.put(one, FIRST),
+        &mut || { board.put(two, SECOND) },
+    )
+}
+
+#[test]
+fn one_place_one_record(rt: HostRuntime) -> Result<(), Fail> {
+    let (board, mut first) = start(rt.alloc())?;
+    let mut second = board.split(&mut first);
+    let (one, two) = race(&rt, &board, &mut first, &mut second);
+    if one == Put::Here(0) {
+        assert_eq!(rt; two, Put::Taken(FIRST));
+    } else {
+        assert_eq!(rt; one, Put::Taken(SECOND));
+        assert_eq!(rt; two, Put::Here(0));
+    }
+    Ok(())
+}
