@@ -3,7 +3,7 @@ use Rattle.std.specs.Prelude.{◌≡◌, ℕ, List, Result, Ok, Err}
 use Rattle.ua_table.specs.Algebras.{Vector, Product}
 use Rattle.ua_close.specs.declared.close.Closure.{Closure}
 use Rattle.ua_close.specs.declared.close.CloseError.{CloseError}
-use Rattle.ua_close.specs.declared.goals.Goal.{Goal}
+use Rattle.ua_work.specs.declared.goals.Goal.{Goal}
 use Rattle.ua_close.specs.declared.memberships.Answer.{Answer}
 use Rattle.ua_close.specs.declared.reaches.Reach.{Reach}
 use Rattle.ua_close.specs.declared.sizes.Size.{Size}
