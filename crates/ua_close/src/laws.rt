@@ -1,7 +1,9 @@
-//! Laws of the steps on a board: each function does nothing, and its contract states them.
+//! Laws of closures, and of the steps on a board: each function does nothing, and its contract states them.
 
-ghost use Rattle.std.specs.Prelude.{List};
-ghost use Rattle.ua_table.specs.Algebras.{Vector, Product};
+ghost use Rattle.std.specs.Prelude.{ℕ, List, length};
+ghost use Rattle.ua_table.specs.Algebras.{Vector, Product, arities};
+ghost use Rattle.ua_table.specs.Numbering.{Fits};
+ghost use Rattle.ua_close.specs.Answers.{IsWide};
 ghost use Rattle.ua_log.specs.declared.views.Plan.{Plan};
 ghost use Rattle.ua_work.specs.Harvests.{IsPlanOf};
 ghost use Rattle.ua_close.specs.Steps.{LoadFound, LoadEmpty, LoadBelow, PutWon, PutLost, LoadIdle, LoadKnow, ClaimWon, ClaimLost, HaltSet, SeatSplit, SeatJoin, SeatsAreViews, StartIsRead, GatheredIsRead};
@@ -31,4 +33,9 @@ pub fn readings()
     ensures seats { SeatsAreViews }
     ensures start { StartIsRead }
     ensures gathered { GatheredIsRead }
+{}
+
+/// The records of a closure that is not too wide fit in their numbering.
+pub fn narrow()
+    ensures { (p : Product) (gens : List Vector) (b : ℕ) → ¬ IsWide p gens b → Fits (arities p) (length gens) b }
 {}
