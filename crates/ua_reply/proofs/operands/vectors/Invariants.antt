@@ -1,0 +1,11 @@
+use Rattle.std.proofs.Common.{◌≡◌, take}
+use Rattle.std.specs.List.{AllByRecursion}
+use Rattle.ua_table.specs.Algebras.{IsVector}
+use Rattle.ua_reply.specs.Operands.{vectors_of, power_of}
+use Rattle.ua_reply.proofs.operands.vectors.Given as goal
+
+abbrev pub invariant-loop-v : goal.invariant-loop-v
+invariant-loop-v l = record {
+  width : l.list.width ≡ l.width;
+  items : l.list.items ≡ vectors_of (take l.v-index l.vs);
+}

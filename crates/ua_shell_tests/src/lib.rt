@@ -1,0 +1,2 @@
+//! Whole runs.
+#![tactic(auto)]
