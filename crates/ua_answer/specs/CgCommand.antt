@@ -1,20 +1,13 @@
 -- The command `cg`: where its operands fail, and what it is answered.
-use Rattle.std.specs.Prelude.{ℕ, List, map, slice_index, Some}
+use Rattle.std.specs.Prelude.{ℕ, List, Some}
 use Rattle.ua_part.specs.Blocks.{partition_text}
 use Rattle.ua_prod.specs.Congruences.{IsCg}
 use Rattle.ua_script.specs.declared.script.Word.{Word}
 use Rattle.ua_script.specs.declared.script.Items.{Items}
 use Rattle.ua_reply.specs.declared.known.Known.{Known}
-use Rattle.ua_reply.specs.Operands.{values_of, vectors_in}
+use Rattle.ua_reply.specs.Operands.{vectors_in, pairs_of}
 use Rattle.ua_reply.specs.Replies.{Says, AnsweredOn}
 use Rattle.ua_reply.specs.Texts.{line}
-
--- the pair that is written
-abbrev pub pair_of : Items → ℕ × ℕ
-pair_of v = (slice_index (values_of v.values) 0, slice_index (values_of v.values) 1)
-
-abbrev pub pairs_of : List Items → List (ℕ × ℕ)
-pairs_of vs = map pair_of vs
 
 -- the congruence that the pairs generate
 abbrev pub CgAnswer : Known → List (ℕ × ℕ) → List ℕ → Type 0

@@ -1,5 +1,6 @@
 -- What a command may be answered: a case for each form that is built, in tables as those of the grammar.
 use Rattle.std.specs.Prelude.{◌≡◌, ℕ, ◌≤◌, false, List, length}
+use Rattle.ua_table.specs.declared.limits.TheConstants.{SCRIPT}
 use Rattle.ua_script.specs.declared.script.Mode.{Mode}
 use Rattle.ua_script.specs.declared.script.Mode.TheVariants.{Plain}
 use Rattle.ua_script.specs.declared.script.Provable.{Provable}
@@ -16,8 +17,8 @@ use Rattle.ua_answer.specs.ConCommand.{ConReply}
 
 -- the forms that can be certified and are built, with no more vectors than a script has bytes
 abbrev pub IsProvableBuilt : Provable → Mode → Type 0
-IsProvableBuilt (Close w width gens) m = length gens ≤ 16777216
-IsProvableBuilt (Member w width gens target) Plain = length gens ≤ 16777216
+IsProvableBuilt (Close w width gens) m = length gens ≤ SCRIPT
+IsProvableBuilt (Member w width gens target) Plain = length gens ≤ SCRIPT
 IsProvableBuilt _ _ = ⊥
 
 -- the commands that are built

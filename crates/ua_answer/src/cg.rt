@@ -1,37 +1,15 @@
 //! The command `cg`.
 
-ghost use Rattle.std.specs.Prelude.{◌≡◌, Some, IfOk};
-ghost use Rattle.std.specs.List.{AllByRecursion};
-ghost use Rattle.ua_cong.specs.Closings.{AreElements};
-ghost use Rattle.ua_part.specs.Blocks.{partition_text};
-ghost use Rattle.ua_reply.specs.Checks.{Passes};
-ghost use Rattle.ua_reply.specs.Operands.{vectors_in};
-ghost use Rattle.ua_reply.specs.Texts.{line};
-ghost use Rattle.ua_answer.specs.CgCommand.{pairs_of, CgReply};
+ghost use Rattle.std.specs.Prelude.{IfOk};
+ghost use Rattle.ua_answer.specs.CgCommand.{CgReply};
 
 use crate::context::Context;
-use std::alloc::{AllocError, Global};
+use std::alloc::AllocError;
 use std::thread::Threads;
 use ua_cong::cg;
-use ua_reply::{Known, Refusal, push_part, refusal_reply, vectors_in};
+use ua_reply::{Refusal, pairs, push_part, refusal_reply, vectors_in};
 use ua_script::{Items, Word};
-use ua_table::{Elem, Gate};
-
-/// The pairs that are written.
-fn pairs(alloc: Global, known: &Known, vectors: &[Items]) -> Result<Vec<(Elem, Elem)>, AllocError>
-    requires { Passes (vectors_in known.now 2 vectors.now) }
-    ensures pairs { IfOk result (λ list. list.items ≡ pairs_of vectors.now) }
-    ensures elements { IfOk result (λ list. AllByRecursion (AreElements known.now.algebra) list.items) }
-{
-    // Each number is below the size, which fits an element.
-    let _size = known.algebra.size();
-    let mut pairs = Vec::with_capacity(alloc, vectors.len())?;
-    for v in vectors {
-        let values = v.values.as_slice();
-        pairs.push((values[0].value as Elem, values[1].value as Elem))?;
-    }
-    Ok(pairs)
-}
+use ua_table::Gate;
 
 /// The reply to `cg`: the first of its errors, or the congruence that the pairs generate.
 pub fn answer_cg<R: Threads + Sync, G: Gate>(

@@ -1,11 +1,11 @@
 //! The command `close`.
 
-ghost use Rattle.std.specs.Prelude.{◌<◌, ◌≤◌, length, IfOk};
+ghost use Rattle.std.specs.Prelude.{◌≤◌, length, IfOk};
 ghost use Rattle.ua_table.specs.declared.limits.TheConstants.{SCRIPT};
 ghost use Rattle.ua_close.specs.Permitted.{MayClose, MayCount};
 ghost use Rattle.ua_reply.specs.Sessions.{bounds_of};
 ghost use Rattle.ua_reply.specs.Checks.{Passes};
-ghost use Rattle.ua_reply.specs.Operands.{vectors_of, power_of, vectors_in};
+ghost use Rattle.ua_reply.specs.Operands.{vectors_of, power_of, positive, vectors_in};
 ghost use Rattle.ua_answer.specs.CloseCommand.{MayCloseLeast, CloseAnswer, CloseReply};
 
 use crate::context::Context;
@@ -22,15 +22,15 @@ use ua_table::Gate;
 fn closure<R: Threads + Sync, G: Gate>(
     context: &Context<R, G>,
     known: &Known,
-    width: u32,
+    width: Number,
     gens: &[Items],
 ) -> Result<Closure, CloseError>
-    requires coordinates { 0 < width }
-    requires passed { Passes (vectors_in known.now width gens.now) }
+    requires width { Passes (positive width) }
+    requires gens { Passes (vectors_in known.now width.value gens.now) }
     requires few { length gens.now ≤ SCRIPT }
-    ensures { MayClose (power_of known.now width) (vectors_of gens.now) context.now.run.now.budget context.now.run.now.workers result }
+    ensures { MayClose (power_of known.now width.value) (vectors_of gens.now) context.now.run.now.budget context.now.run.now.workers result }
 {
-    let vectors = vectors(context.alloc, known, width, gens)?;
+    let vectors = vectors(context.alloc, known, width.value, gens)?;
     let frame = power(context.alloc, known, width, &vectors, context.run.budget)?;
     close_set(context.rt, context.alloc, &frame, &vectors, context.run)
 }
@@ -39,15 +39,15 @@ fn closure<R: Threads + Sync, G: Gate>(
 fn least_closure<R: Threads + Sync, G: Gate>(
     context: &Context<R, G>,
     known: &Known,
-    width: u32,
+    width: Number,
     gens: &[Items],
 ) -> Result<Closure, CloseError>
-    requires coordinates { 0 < width }
-    requires passed { Passes (vectors_in known.now width gens.now) }
+    requires width { Passes (positive width) }
+    requires gens { Passes (vectors_in known.now width.value gens.now) }
     requires few { length gens.now ≤ SCRIPT }
-    ensures { MayCloseLeast (power_of known.now width) (vectors_of gens.now) context.now.run.now.budget context.now.run.now.workers result }
+    ensures { MayCloseLeast (power_of known.now width.value) (vectors_of gens.now) context.now.run.now.budget context.now.run.now.workers result }
 {
-    let vectors = vectors(context.alloc, known, width, gens)?;
+    let vectors = vectors(context.alloc, known, width.value, gens)?;
     let frame = power(context.alloc, known, width, &vectors, context.run.budget)?;
     match close_set(context.rt, context.alloc, &frame, &vectors, context.run)? {
         Closure::Closed(rows) => {
@@ -62,15 +62,15 @@ fn least_closure<R: Threads + Sync, G: Gate>(
 fn size<R: Threads + Sync, G: Gate>(
     context: &Context<R, G>,
     known: &Known,
-    width: u32,
+    width: Number,
     gens: &[Items],
 ) -> Result<Size, CloseError>
-    requires coordinates { 0 < width }
-    requires passed { Passes (vectors_in known.now width gens.now) }
+    requires width { Passes (positive width) }
+    requires gens { Passes (vectors_in known.now width.value gens.now) }
     requires few { length gens.now ≤ SCRIPT }
-    ensures { MayCount (power_of known.now width) (vectors_of gens.now) context.now.run.now.budget context.now.run.now.workers result }
+    ensures { MayCount (power_of known.now width.value) (vectors_of gens.now) context.now.run.now.budget context.now.run.now.workers result }
 {
-    let vectors = vectors(context.alloc, known, width, gens)?;
+    let vectors = vectors(context.alloc, known, width.value, gens)?;
     let frame = power(context.alloc, known, width, &vectors, context.run.budget)?;
     subuniverse_size(context.rt, context.alloc, &frame, &vectors, context.run)
 }
@@ -79,14 +79,14 @@ fn size<R: Threads + Sync, G: Gate>(
 fn close_known<R: Threads + Sync, G: Gate>(
     context: &Context<R, G>,
     known: &Known,
-    width: u32,
+    width: Number,
     gens: &[Items],
     mode: Mode,
 ) -> Result<Vec<u8>, AllocError>
-    requires coordinates { 0 < width }
-    requires passed { Passes (vectors_in known.now width gens.now) }
+    requires width { Passes (positive width) }
+    requires gens { Passes (vectors_in known.now width.value gens.now) }
     requires few { length gens.now ≤ SCRIPT }
-    ensures { IfOk result (λ v. CloseAnswer known.now (bounds_of context.now.run.now.budget context.now.run.now.workers) width (vectors_of gens.now) mode v.items) }
+    ensures { IfOk result (λ v. CloseAnswer known.now (bounds_of context.now.run.now.budget context.now.run.now.workers) width.value (vectors_of gens.now) mode v.items) }
 {
     let alloc = context.alloc;
     let budget = context.run.budget;
@@ -117,5 +117,5 @@ pub fn answer_close<R: Threads + Sync, G: Gate>(
     if let Some(refusal) = errors.refusal() {
         return refusal_reply(context.alloc, refusal);
     }
-    close_known(context, known, width.value, gens, mode)
+    close_known(context, known, width, gens, mode)
 }

@@ -1,11 +1,11 @@
 //! The command `member`.
 
-ghost use Rattle.std.specs.Prelude.{◌<◌, ◌≤◌, length, IfOk};
+ghost use Rattle.std.specs.Prelude.{◌≤◌, length, IfOk};
 ghost use Rattle.ua_table.specs.declared.limits.TheConstants.{SCRIPT};
 ghost use Rattle.ua_close.specs.Permitted.{MayMember};
 ghost use Rattle.ua_reply.specs.Sessions.{bounds_of};
 ghost use Rattle.ua_reply.specs.Checks.{Passes};
-ghost use Rattle.ua_reply.specs.Operands.{values_of, vectors_of, power_of, vector_in, vectors_in};
+ghost use Rattle.ua_reply.specs.Operands.{values_of, vectors_of, power_of, positive, vector_in, vectors_in};
 ghost use Rattle.ua_answer.specs.MemberCommand.{MemberReply};
 
 use crate::context::Context;
@@ -23,18 +23,18 @@ use ua_table::Gate;
 fn membership<R: Threads + Sync, G: Gate>(
     context: &Context<R, G>,
     known: &Known,
-    width: u32,
+    width: Number,
     gens: &[Items],
     target: &Items,
 ) -> Result<Answer, CloseError>
-    requires coordinates { 0 < width }
-    requires gens { Passes (vectors_in known.now width gens.now) }
-    requires target { Passes (vector_in known.now width target.now) }
+    requires width { Passes (positive width) }
+    requires gens { Passes (vectors_in known.now width.value gens.now) }
+    requires target { Passes (vector_in known.now width.value target.now) }
     requires few { length gens.now ≤ SCRIPT }
-    ensures { MayMember (power_of known.now width) (vectors_of gens.now) (values_of target.now.values) context.now.run.now.budget context.now.run.now.workers result }
+    ensures { MayMember (power_of known.now width.value) (vectors_of gens.now) (values_of target.now.values) context.now.run.now.budget context.now.run.now.workers result }
 {
-    let vectors = vectors(context.alloc, known, width, gens)?;
-    let target = vector(context.alloc, known, width, target)?;
+    let vectors = vectors(context.alloc, known, width.value, gens)?;
+    let target = vector(context.alloc, known, width.value, target)?;
     let frame = power(context.alloc, known, width, &vectors, context.run.budget)?;
     member(context.rt, context.alloc, &frame, &vectors, &target, context.run)
 }
@@ -59,6 +59,6 @@ pub fn answer_member<R: Threads + Sync, G: Gate>(
     if let Some(refusal) = errors.refusal() {
         return refusal_reply(context.alloc, refusal);
     }
-    let answer = membership(context, known, width.value, gens, target);
+    let answer = membership(context, known, width, gens, target);
     member_reply(context.alloc, known, context.run.budget, &answer)
 }

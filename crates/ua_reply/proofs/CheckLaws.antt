@@ -1,10 +1,10 @@
 -- The first places of joined checks, and their parts.
-use Rattle.std.proofs.Common.{◌≡◌, List, [], ◌∷◌, ◌++◌, map, Option, None, Some, refl, sym, ap, ◌∙◌, append_assoc, append-nil}
-use Rattle.std.specs.Option.{option_or, IfNone}
+use Rattle.std.proofs.Common.{◌≡◌, List, [], ◌∷◌, ◌++◌, Option, refl, ◌∙◌, append_assoc, append-nil}
+use Rattle.std.specs.Option.{option_or}
 use Rattle.ua_text.specs.declared.tokens.Place.{Place}
 use Rattle.ua_term.specs.Meanings.{first_place}
 use Rattle.ua_reply.specs.declared.checks.FirstErrors.{FirstErrors}
-use Rattle.ua_reply.specs.Checks.{Checks, passed, ◌and◌, Passes, AreFirst, first_error}
+use Rattle.ua_reply.specs.Checks.{Checks, passed, ◌and◌, Passes, AreFirst}
 
 first_both : (xs ys : List Place) → option_or (first_place xs) (first_place ys) ≡ first_place (xs ++ ys)
 first_both [] ys = refl

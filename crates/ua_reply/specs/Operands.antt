@@ -1,5 +1,5 @@
 -- The operands that commands share: the values that are written, and the places where they fail.
-use Rattle.std.specs.Prelude.{ℕ, ◌==◌, nat_lt, not, List, [], ◌∷◌, length, map, filter, replicate}
+use Rattle.std.specs.Prelude.{ℕ, ◌<◌, ◌==◌, nat_lt, not, List, [], ◌∷◌, length, map, filter, replicate, slice_index}
 use Rattle.ua_table.specs.Algebras.{Vector, Product}
 use Rattle.ua_term.specs.Phrases.{Phrase}
 use Rattle.ua_term.specs.Meanings.{unknown_operations, variables_from, misshapen}
@@ -15,6 +15,17 @@ values_of ns = map (λ (n : Number). n.value) ns
 -- the vectors that are written
 abbrev pub vectors_of : List Items → List Vector
 vectors_of vs = map (λ (v : Items). values_of v.values) vs
+
+-- the pair that is written
+abbrev pub pair_of : Items → ℕ × ℕ
+pair_of v = (slice_index (values_of v.values) 0, slice_index (values_of v.values) 1)
+
+abbrev pub pairs_of : List Items → List (ℕ × ℕ)
+pairs_of vs = map pair_of vs
+
+-- both are elements
+abbrev pub IsPairIn : Known → ℕ × ℕ → Type 0
+IsPairIn k x = (x.0 < k.algebra.size) × (x.1 < k.algebra.size)
 
 -- the power of the algebra with so many coordinates
 abbrev pub power_of : Known → ℕ → Product

@@ -51,10 +51,12 @@ impl FirstErrors {
                 ..
             } => Some(Refusal::Unknown(place)),
             FirstErrors {
-                range: Some(place), ..
+                range: Some(place),
+                ..
             } => Some(Refusal::Range(place)),
             FirstErrors {
-                shape: Some(place), ..
+                shape: Some(place),
+                ..
             } => Some(Refusal::Shape(place)),
             _ => None,
         }

@@ -13,7 +13,7 @@ pub use checks::FirstErrors;
 pub use closures::{closure_reply, member_reply, size_reply};
 pub use known::Known;
 pub use operands::{
-    elements, elements_in, positive, power, term_in, vector, vector_in, vectors, vectors_in,
+    elements, elements_in, pairs, positive, power, term_in, vector, vector_in, vectors, vectors_in,
 };
 pub use refusals::{Refusal, refusal_reply};
 pub use session::Session;

@@ -1,13 +1,14 @@
 //! The operands that commands share: the values that are written, and where they fail.
 
-ghost use Rattle.std.specs.Prelude.{◌≡◌, ◌<◌, ◌≤◌, length, IfOk, IfErr};
+ghost use Rattle.std.specs.Prelude.{◌≡◌, ◌<◌, ◌≤◌, ◌*◌, length, IfOk, IfErr};
 ghost use Rattle.std.specs.List.{AllByRecursion};
 ghost use Rattle.ua_table.specs.declared.limits.TheConstants.{BUDGET};
-ghost use Rattle.ua_table.specs.Algebras.{IsVector};
+ghost use Rattle.ua_table.specs.Algebras.{IsVector, arities_of};
+ghost use Rattle.ua_table.specs.Numbering.{records};
 ghost use Rattle.ua_term.specs.Meanings.{first_place};
 ghost use Rattle.ua_close.specs.Answers.{IsCause};
 ghost use Rattle.ua_reply.specs.Checks.{AreFirst, Passes};
-ghost use Rattle.ua_reply.specs.Operands.{values_of, vectors_of, power_of, positive, elements_in, length_in, vector_in, vectors_in, term_in};
+ghost use Rattle.ua_reply.specs.Operands.{values_of, vectors_of, power_of, positive, elements_in, length_in, vector_in, vectors_in, term_in, pair_of, pairs_of, IsPairIn};
 
 use crate::checks::FirstErrors;
 use crate::known::Known;
@@ -93,11 +94,7 @@ pub fn term_in(known: &Known, count: usize, term: &Written) -> FirstErrors
 }
 
 /// The elements that are written.
-pub fn elements(
-    alloc: Global,
-    known: &Known,
-    values: &[Number],
-) -> Result<Vec<Elem>, AllocError>
+pub fn elements(alloc: Global, known: &Known, values: &[Number]) -> Result<Vec<Elem>, AllocError>
     requires passed { Passes (elements_in known.now values.now) }
     ensures values { IfOk result (λ v. v.items ≡ values_of values.now) }
     ensures below { IfOk result (λ v. AllByRecursion (λ x. x < known.now.algebra.size) v.items) }
@@ -112,12 +109,7 @@ pub fn elements(
 }
 
 /// The vector that is written.
-pub fn vector(
-    alloc: Global,
-    known: &Known,
-    width: u32,
-    v: &Items,
-) -> Result<Vec<Elem>, AllocError>
+pub fn vector(alloc: Global, known: &Known, width: u32, v: &Items) -> Result<Vec<Elem>, AllocError>
     requires passed { Passes (vector_in known.now width v.now) }
     ensures values { IfOk result (λ row. row.items ≡ values_of v.now.values) }
     ensures admitted { IfOk result (λ row. IsVector (power_of known.now width) row.items) }
@@ -145,29 +137,67 @@ pub fn vectors(
     Ok(list)
 }
 
-/// The power of an algebra, or why it is too wide for its vectors to be closed.
-pub fn power<'a>(
-    alloc: Global,
-    known: &'a Known,
-    width: u32,
-    gens: &Vectors,
-    budget: u32,
-) -> Result<Frame<'a>, CloseError>
-    requires coordinates { 0 < width }
-    requires some { 1 ≤ budget }
-    requires small { budget ≤ BUDGET }
-    ensures ok { IfOk result (λ frame. frame ≡ power_of known.now width) }
-    ensures cause { IfErr result (IsCause (power_of known.now width) gens.now.items budget) }
+/// The pair that is written.
+fn pair(known: &Known, v: &Items) -> (Elem, Elem)
+    requires { Passes (vector_in known.now 2 v.now) }
+    ensures { result ≡ pair_of v.now }
 {
-    if let Ok(frame) = Frame::power(&known.algebra, width) {
-        return Ok(frame);
+    // Each number is below the size, which fits an element.
+    let _size = known.algebra.size();
+    let values = v.values.as_slice();
+    (values[0].value as Elem, values[1].value as Elem)
+}
+
+/// The pairs that are written.
+pub fn pairs(alloc: Global, known: &Known, vs: &[Items]) -> Result<Vec<(Elem, Elem)>, AllocError>
+    requires passed { Passes (vectors_in known.now 2 vs.now) }
+    ensures pairs { IfOk result (λ list. list.items ≡ pairs_of vs.now) }
+    ensures below { IfOk result (λ list. AllByRecursion (IsPairIn known.now) list.items) }
+{
+    let mut list = Vec::with_capacity(alloc, vs.len())?;
+    for v in vs {
+        list.push(pair(known, v))?;
     }
+    Ok(list)
+}
+
+/// The error for a power with more coordinates than a frame has.
+fn wide_power(
+    alloc: Global,
+    known: &Known,
+    width: u32,
+    gens: u32,
+    budget: u32,
+) -> Result<CloseError, AllocError>
+    requires { budget ≤ BUDGET }
+    ensures { IfOk result (λ e. e ≡ CloseError.Wide (records (arities_of known.now.algebra) gens budget) (budget * width)) }
+{
     let Ok(line) = Frame::power(&known.algebra, 1) else {
         unreachable!()
     };
     let shape = line.shape(alloc)?;
-    Err(CloseError::Wide {
-        records: shape.records(gens.len(), budget),
+    Ok(CloseError::Wide {
+        records: shape.records(gens, budget),
         cells: u128::from(budget) * u128::from(width),
     })
+}
+
+/// The power of an algebra, or why it is too wide for its vectors to be closed.
+pub fn power<'a>(
+    alloc: Global,
+    known: &'a Known,
+    width: Number,
+    gens: &Vectors,
+    budget: u32,
+) -> Result<Frame<'a>, CloseError>
+    requires passed { Passes (positive width) }
+    requires some { 1 ≤ budget }
+    requires small { budget ≤ BUDGET }
+    ensures ok { IfOk result (λ frame. frame ≡ power_of known.now width.value) }
+    ensures cause { IfErr result (IsCause (power_of known.now width.value) gens.now.items budget) }
+{
+    match Frame::power(&known.algebra, width.value) {
+        Ok(frame) => Ok(frame),
+        Err(_) => Err(wide_power(alloc, known, width.value, gens.len(), budget)?),
+    }
 }

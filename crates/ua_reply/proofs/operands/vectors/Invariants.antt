@@ -1,7 +1,5 @@
 use Rattle.std.proofs.Common.{◌≡◌, take}
-use Rattle.std.specs.List.{AllByRecursion}
-use Rattle.ua_table.specs.Algebras.{IsVector}
-use Rattle.ua_reply.specs.Operands.{vectors_of, power_of}
+use Rattle.ua_reply.specs.Operands.{vectors_of}
 use Rattle.ua_reply.proofs.operands.vectors.Given as goal
 
 abbrev pub invariant-loop-v : goal.invariant-loop-v
