@@ -93,7 +93,12 @@ fn close_known<R: Threads + Sync, G: Gate>(
     match mode {
         Mode::Plain => closure_reply(alloc, known, budget, &closure(context, known, width, gens)),
         Mode::Least => {
-            closure_reply(alloc, known, budget, &least_closure(context, known, width, gens))
+            closure_reply(
+                alloc,
+                known,
+                budget,
+                &least_closure(context, known, width, gens),
+            )
         }
         Mode::Count => size_reply(alloc, budget, size(context, known, width, gens)),
     }

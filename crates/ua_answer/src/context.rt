@@ -7,9 +7,10 @@ use ua_table::{Gate, Run};
 
 /// What every command is answered with: the runtime, memory, what the script has introduced before it, and
 /// the bounds of the run.
-pub struct Context<'a, R: Threads + Sync, G: Gate> {
+#[derive(Drop)]
+pub struct Context<'a, 's, 'g, R: Threads + Sync, G: Gate> {
     pub rt: &'a R,
     pub alloc: Global,
-    pub session: &'a Session<'a>,
-    pub run: &'a Run<'a, G>,
+    pub session: &'a Session<'s>,
+    pub run: &'a Run<'g, G>,
 }

@@ -16,12 +16,7 @@ use ua_table::{Elem, Gate};
 use ua_term::{TermFault, Written, eval};
 
 /// The value of a term at elements.
-fn value(
-    alloc: Global,
-    known: &Known,
-    term: &Written,
-    args: &[Number],
-) -> Result<Elem, AllocError>
+fn value(alloc: Global, known: &Known, term: &Written, args: &[Number]) -> Result<Elem, AllocError>
     requires term { Passes (term_in known.now (length args.now) term.now) }
     requires args { Passes (elements_in known.now args.now) }
     ensures { IfOk result (λ v. v ≡ eval known.now.algebra (values_of args.now) (tree_in known.now.algebra term.now)) }

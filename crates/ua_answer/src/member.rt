@@ -36,7 +36,14 @@ fn membership<R: Threads + Sync, G: Gate>(
     let vectors = vectors(context.alloc, known, width.value, gens)?;
     let target = vector(context.alloc, known, width.value, target)?;
     let frame = power(context.alloc, known, width, &vectors, context.run.budget)?;
-    member(context.rt, context.alloc, &frame, &vectors, &target, context.run)
+    member(
+        context.rt,
+        context.alloc,
+        &frame,
+        &vectors,
+        &target,
+        context.run,
+    )
 }
 
 /// The reply to `member`: the first of its errors, or whether the target is generated.
