@@ -2,9 +2,9 @@
 
 ghost use Rattle.std.specs.Prelude.{◌≡◌, IfOk};
 
-use ua_table::{Algebra, AlgebraError, Elem, Name, NameError, OpTable, TableError, Vectors};
 use std::alloc::Global;
 use std::test::Fail;
+use ua_table::{Algebra, AlgebraError, Elem, Name, NameError, OpTable, TableError, Vectors};
 
 /// Why there is no such operation, if there is none.
 fn table_error(
@@ -77,13 +77,7 @@ fn names(rt: HostRuntime) -> Result<(), Fail> {
 #[test]
 fn operations_refused_in_order(rt: HostRuntime) -> Result<(), Fail> {
     for (name, size, arity, values, error) in [
-        (
-            b"f".as_slice(),
-            0,
-            9,
-            [].as_slice(),
-            Some(TableError::Size),
-        ),
+        (b"f".as_slice(), 0, 9, [].as_slice(), Some(TableError::Size)),
         (b"f", 256, 0, &[0], Some(TableError::Size)),
         (b"f", 2, 25, &[], Some(TableError::Size)),
         (b"f", 255, 255, &[], Some(TableError::Size)),
