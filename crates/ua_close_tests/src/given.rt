@@ -72,6 +72,7 @@ pub(crate) fn generators(
     for v in vectors {
         assert!(rt; gens.len() < 100);
         assert!(rt; frame.admits(v));
+        assert!(rt; v.len() == gens.width() as usize);
         gens.add(v)?;
     }
     Ok(gens)
