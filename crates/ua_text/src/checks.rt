@@ -140,4 +140,3 @@ pub fn version_of(text: &[u8]) -> u8
 {
     number_value(text).unwrap_or(1).min(2) as u8
 }
-

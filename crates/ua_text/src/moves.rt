@@ -133,12 +133,7 @@ fn push_unless(stack: &mut Stack, ended: bool, symbol: Symbol) -> Result<(), All
 }
 
 /// Pushes the numbers of a group, and the groups behind it.
-fn push_group(
-    stack: &mut Stack,
-    groups: Symbol,
-    close: u8,
-    closes: Role,
-) -> Result<(), AllocError>
+fn push_group(stack: &mut Stack, groups: Symbol, close: u8, closes: Role) -> Result<(), AllocError>
     ensures { OnOk result (stack.new ≡ Symbol.Loop Role.Inner Test.Number close closes ∷ groups ∷ stack.old) }
 {
     stack.push(groups)?;

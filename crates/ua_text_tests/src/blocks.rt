@@ -88,7 +88,12 @@ fn names_of_elements(rt: HostRuntime) -> Result<(), Fail> {
     assert_eq!(rt; ops[1].values(), [1].as_slice());
     let unnamed = read(rt.alloc(), M)?;
     let printed = print_algebra(rt.alloc(), &unnamed)?;
-    assert!(rt; named(rt.alloc(), printed.as_slice())?.names.as_slice().is_empty());
+    assert!(rt;
+        named(rt.alloc(), printed.as_slice())?
+            .names
+            .as_slice()
+            .is_empty()
+    );
     Ok(())
 }
 
