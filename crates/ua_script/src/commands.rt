@@ -23,6 +23,7 @@ ghost use Rattle.ua_script.specs.Reading.{IsShort, IsShortVector, begins_item, I
 use crate::readers::{amount, mode, vector, vectors, word};
 use crate::script::{Command, Mode, Provable};
 use std::alloc::Global;
+use ua_table::limits::NESTING;
 use ua_term::term;
 use ua_text::{Miss, Tokens, exact, next};
 
@@ -79,7 +80,7 @@ fn eval(alloc: Global, tokens: &mut Tokens<'_>) -> Result<Command, Miss>
     ensures source { source_of tokens.new ≡ source_of tokens.old }
 {
     let algebra = word(alloc, tokens)?;
-    let term = term(alloc, tokens, 64)?;
+    let term = term(alloc, tokens, NESTING as u8)?;
     let args = vector(alloc, tokens)?;
     Ok(Command::Eval {
         algebra,

@@ -3,6 +3,7 @@
 use std::alloc::Global;
 use std::test::Fail;
 use ua_table::Algebra;
+use ua_table::limits::SCRIPT;
 use ua_text::calls::tokens;
 use ua_text::{Block, ReadFault, TokenKind, print_algebra, read_algebra, read_block};
 
@@ -10,7 +11,7 @@ const M: &[u8] = b"algebra M size 2\nop meet 2 = 0 0 0 1\nend\n";
 
 /// The algebra whose block the text begins with.
 fn read(alloc: Global, text: &[u8]) -> Result<Algebra, Fail> {
-    if text.len() > 16_777_216 {
+    if text.len() > SCRIPT {
         return Err(Fail::from("too long"));
     }
     match read_algebra(alloc, &mut tokens(text)) {
@@ -65,7 +66,7 @@ fn tokens_are_slices_at_their_places(rt: HostRuntime) -> Result<(), Fail> {
 
 /// The block of version 2 that the text begins with.
 fn named(alloc: Global, text: &[u8]) -> Result<Block, Fail> {
-    if text.len() > 16_777_216 {
+    if text.len() > SCRIPT {
         return Err(Fail::from("too long"));
     }
     match read_block(alloc, &mut tokens(text), 2) {

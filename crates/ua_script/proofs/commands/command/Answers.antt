@@ -1,8 +1,7 @@
-use Rattle.std.proofs.Common.{rules, ◌≡◌, ◌++◌, [], Some, None, sym, ◌∙◌, ap, subst}
+use Rattle.std.proofs.Common.{rules, ◌≡◌, ◌++◌, [], Some, sym, ◌∙◌, ap, subst}
 use Rattle.ua_text.specs.Tokens.{tokens_left}
 use Rattle.ua_text.specs.Signs.{Front}
 use Rattle.ua_text.specs.Reading.{Gives}
-use Rattle.ua_script.specs.declared.commands.FirstWord.{FirstWord}
 use Rattle.ua_script.specs.declared.commands.FirstWord.TheVariants as firsts
 use Rattle.ua_script.specs.Reading.{first_words, found_first}
 use Rattle.ua_script.proofs.ItemLemmas.{begun, its_word, behind_word, IsForm, form_of, close_front, member_front, eval_front, cg_front, con_front}

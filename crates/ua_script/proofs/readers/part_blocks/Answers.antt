@@ -1,4 +1,4 @@
-use Rattle.std.proofs.Common.{rules, ◌≡◌, true, false, List, ◌++◌, refl, ◌∙◌, append_assoc, arith}
+use Rattle.std.proofs.Common.{rules, List, ◌++◌, refl, ◌∙◌, append_assoc, arith}
 use Rattle.ua_text.specs.declared.symbols.Role.TheVariants as roles
 use Rattle.ua_text.specs.Tokens.{tokens_left}
 use Rattle.ua_script.specs.declared.script.Number.{Number}
