@@ -3,15 +3,18 @@
 
 An example is a file NAME.ua here with its reply in NAME.out, or a fenced block marked `script` in a document with
 the next block, marked `reply`. The program runs with one worker, and with the words in NAME.args, one on a line, or behind
-the mark `script`.
+the mark `script`. Each way to end without all replies is tried too, with its status and its line on standard error, but
+for want of memory.
 
 usage: check.py PROGRAM
 """
 
+import os
 import pathlib
 import re
 import subprocess
 import sys
+import tempfile
 
 HERE = pathlib.Path(__file__).resolve().parent
 DOCUMENTS = ["README.md", "docs/LANGUAGE.md"]
@@ -41,6 +44,35 @@ def is_as_expected(program, words, script, reply):
     return (run.stdout, run.returncode) == (reply, 0)
 
 
+def endings():
+    """Words, what standard input reads, a file for standard output or None, and the status and line wanted."""
+    usage = b"usage: uacalc [--workers 1..16] [--budget 1..1000000] [--generate NUMBER]\n"
+    with tempfile.TemporaryFile() as script, tempfile.TemporaryFile() as fault, tempfile.TemporaryFile() as blanks:
+        script.write(b"algebra E size 2 end con E")
+        fault.write(b"algebra E size 2 end\ncon")
+        blanks.write(b" " * (2**24 + 1))
+        for file in (script, fault, blanks):
+            file.flush()
+        yield ["--workers", "0"], script, None, 2, usage
+        yield [], fault, None, 5, b"syntax 2:4 end\n"
+        yield [], blanks, None, 7, b"too long\n"
+        if os.path.exists("/dev/full"):
+            yield [], script, "/dev/full", 4, b"write fault\n"
+        directory = os.open(HERE, os.O_RDONLY)
+        yield [], directory, None, 3, b"read fault\n"
+        os.close(directory)
+
+
+def ends_so(program, words, source, sink, status, line):
+    """Whether the program ends with this status and line, and writes nothing."""
+    if not isinstance(source, int):
+        source.seek(0)
+    with open(sink or os.devnull, "wb") as out:
+        target = out if sink else subprocess.PIPE
+        run = subprocess.run([program, *words], stdin=source, stdout=target, stderr=subprocess.PIPE, check=False)
+    return (run.stdout or b"", run.stderr, run.returncode) == (b"", line, status)
+
+
 def main():
     if len(sys.argv) != 2:
         sys.exit(__doc__)
@@ -51,6 +83,11 @@ def main():
         if not is_as_expected(sys.argv[1], *example):
             wrong += 1
             print(f"{name}: another reply")
+    for words, source, sink, status, line in endings():
+        count += 1
+        if not ends_so(sys.argv[1], words, source, sink, status, line):
+            wrong += 1
+            print(f"status {status}: another ending")
     print(f"examples: {count - wrong} as expected, {wrong} not", flush=True)
     tools = subprocess.run([sys.executable, HERE.parent / "tools" / "check.py", sys.argv[1]], check=False)
     sys.exit(1 if wrong or tools.returncode else 0)

@@ -5,11 +5,11 @@ ghost use Rattle.ua_log.specs.Rule.{MayStand};
 ghost use Rattle.ua_log.specs.Seats.{first_seat};
 ghost use Rattle.ua_log.specs.Told.{PutTells};
 
-use ua_log::{Board, Claim, Put, Seat};
 use std::alloc::Global;
 use std::test::Fail;
 use std::thread;
 use std::thread::Threads;
+use ua_log::{Board, Claim, Put, Seat};
 use ua_table::{Origin, Shape};
 
 const FIRST: Origin = Origin::Gen { index: 0 };

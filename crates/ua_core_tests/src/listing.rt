@@ -2,10 +2,10 @@
 
 ghost use Rattle.std.specs.Prelude.{◌≡◌, IfOk};
 
-use ua_rows::Rows;
 use std::alloc::Global;
 use std::process::Abort;
 use std::test::Fail;
+use ua_rows::Rows;
 use ua_table::Elem;
 
 /// The vector of a number: its digits in base 251.

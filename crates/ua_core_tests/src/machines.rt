@@ -4,11 +4,11 @@ ghost use Rattle.std.specs.Prelude.{IfOk};
 ghost use Rattle.std.specs.List.{AllByRecursion};
 ghost use Rattle.ua_table.specs.Algebras.{IsVector};
 
-use ua_core::EventKind::{Claim, Finish, Halt, Idle, Join, Know, Look, Put, Split};
-use ua_core::{Event, EventKind, ReplayError, State, is_still, replay};
 use std::alloc::Global;
 use std::process::Abort;
 use std::test::Fail;
+use ua_core::EventKind::{Claim, Finish, Halt, Idle, Join, Know, Look, Put, Split};
+use ua_core::{Event, EventKind, ReplayError, State, is_still, replay};
 use ua_table::{Algebra, Elem, Frame, Name, OpTable, Origin, Vectors};
 
 const FIRST: EventKind = Put(Origin::Gen { index: 0 });

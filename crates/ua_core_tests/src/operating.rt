@@ -4,10 +4,10 @@ ghost use Rattle.std.specs.Prelude.{◌≡◌, ◌<◌, length, IfOk};
 ghost use Rattle.std.specs.List.{AllByRecursion};
 ghost use Rattle.ua_table.specs.Algebras.{IsVector};
 
-use ua_rows::{Operations, Rows, Scratch, apply};
 use std::alloc::Global;
 use std::process::Abort;
 use std::test::Fail;
+use ua_rows::{Operations, Rows, Scratch, apply};
 use ua_table::{Algebra, Elem, Frame, Name, OpTable};
 
 /// The sum of so many numbers below a size, which are the digits of a number, and of how many they are.

@@ -1,7 +1,7 @@
 //! Vectors entered with the hash that a scratch keeps.
 
-use ua_rows::{Rows, Scratch};
 use std::test::Fail;
+use ua_rows::{Rows, Scratch};
 
 #[test]
 fn a_scratch_is_entered_and_found(rt: HostRuntime) -> Result<(), Fail> {

@@ -1,9 +1,9 @@
 //! Congruences and clashes of the sum modulo 4, and of an operation without arguments beside it.
 
-use ua_prod::{Clash, is_congruence};
 use std::alloc::Global;
 use std::test::Fail;
 use ua_part::Part;
+use ua_prod::{Clash, is_congruence};
 use ua_table::{Algebra, Name, OpTable};
 
 /// The sum modulo 4, and the last element as a constant.

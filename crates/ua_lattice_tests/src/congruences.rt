@@ -1,8 +1,8 @@
 //! Generated and principal congruences of the symmetric group on three letters.
 
-use ua_cong::{cg, is_congruence, principals};
 use std::alloc::Global;
 use std::test::Fail;
+use ua_cong::{cg, is_congruence, principals};
 use ua_table::{Algebra, Name, OpTable};
 
 /// The symmetric group on three letters: the rotations are 0, 1, 2.

@@ -1,10 +1,10 @@
 //! Lattices of congruences of small algebras.
 
-use ua_lattice::{Lattice, congruences};
 use std::alloc::Global;
 use std::process::Abort;
 use std::test::Fail;
 use std::thread::Threads;
+use ua_lattice::{Lattice, congruences};
 use ua_part::Part;
 use ua_table::{Algebra, Elem, FreeGate, Name, OpTable, Run};
 

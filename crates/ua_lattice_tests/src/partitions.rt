@@ -1,8 +1,8 @@
 //! Partitions by labels and by blocks, their lattice, and disjoint sets.
 
-use ua_part::{DisjointSets, Part, PartError};
 use std::alloc::Global;
 use std::test::Fail;
+use ua_part::{DisjointSets, Part, PartError};
 
 fn blocks(alloc: Global, members: &[&[u32]]) -> Result<Vec<Vec<u32>>, Fail> {
     let mut list = Vec::new(alloc);

@@ -1,10 +1,2 @@
-mod Rows
-mod Checks
-mod Findings
 mod Serving
 mod Built
-mod Walking
-mod Choices
-mod Numbers
-mod OptionValues
-mod SessionLaws

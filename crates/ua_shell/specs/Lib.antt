@@ -1,17 +1,4 @@
-pub mod Texts
-pub mod Sessions
-pub mod Refusals
-pub mod Operands
-pub mod CloseCommand
-pub mod Findings
-pub mod MemberCommand
-pub mod EvalCommand
-pub mod CgCommand
-pub mod ConCommand
-pub mod Replies
 pub mod Outputs
 pub mod Served
 pub mod Codes
-pub mod Words
-pub mod Options
 pub mod Runs

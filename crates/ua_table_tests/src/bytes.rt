@@ -1,11 +1,11 @@
 //! Pieces, faults in mid-stream, and a reader and a writer of std.
 
+use std::io::{self, Read, Write};
+use std::test::Fail;
 use ua_io::{
     MemSink, MemSource, ReadError, Sink, Source, StdSink, StdSource, WriteFault, read_all,
     write_all,
 };
-use std::io::{self, Read, Write};
-use std::test::Fail;
 
 #[test]
 fn pieces_join(rt: HostRuntime) -> Result<(), Fail> {

@@ -1,8 +1,8 @@
 //! Powers and products of several algebras.
 
-use ua_table::{Algebra, Frame, FrameError, Name, OpTable};
 use std::alloc::Global;
 use std::test::Fail;
+use ua_table::{Algebra, Frame, FrameError, Name, OpTable};
 
 /// The algebra of this size whose one operation, of this name, has so many arguments and the value 0.
 fn zero(alloc: Global, size: u32, op: &[u8], arity: u8, values: usize) -> Result<Algebra, Fail> {

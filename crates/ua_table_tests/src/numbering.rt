@@ -3,9 +3,9 @@
 ghost use Rattle.std.specs.Prelude.{◌≡◌, ◌<◌, ◌≤◌, ◌*◌, length, sum, IfOk};
 ghost use Rattle.ua_table.specs.Numbering.{IsShape};
 
-use ua_table::{Origin, Shape, Slice, Unit};
 use std::alloc::Global;
 use std::test::Fail;
+use ua_table::{Origin, Shape, Slice, Unit};
 
 fn shape(alloc: Global, arities: &[u8]) -> Result<Shape, Fail>
     requires { IsShape arities.now }

@@ -1,8 +1,8 @@
 //! Runs and gates.
 
-use ua_table::{Algebra, Frame, FreeGate, Gate, Name, Run, Vectors};
 use std::sync::atomic::{AtomicU64, Ordering};
 use std::test::Fail;
+use ua_table::{Algebra, Frame, FreeGate, Gate, Name, Run, Vectors};
 
 /// A gate that counts how often it was passed.
 #[derive(Drop)]

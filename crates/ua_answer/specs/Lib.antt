@@ -1,0 +1,6 @@
+pub mod CloseCommand
+pub mod MemberCommand
+pub mod EvalCommand
+pub mod CgCommand
+pub mod ConCommand
+pub mod Replies

@@ -1,0 +1,175 @@
+-- The least listing, from a whole search and the order of its rows.
+use Rattle.std.proofs.Common.{◌≡◌, ◌↔◌, inl, ⊎_elim, ℕ, suc, ◌<◌, List, [], ◌∷◌, length, get_or, refl, sym, ap, ◌∙◌, subst, arith}
+use Rattle.std.specs.Prelude.{Contains, slice_index, slice_index_or}
+use Rattle.std.specs.List.{AllByRecursion}
+use Rattle.std.proofs.lemmas.Bool.{cases_lt}
+use Rattle.std.proofs.lemmas.List.{length-map, get_or-map}
+use Rattle.ua_table.specs.declared.origins.Origin.{Origin}
+use Rattle.ua_table.specs.declared.origins.Origin.TheVariants.{Gen, Op}
+use Rattle.ua_table.specs.Algebras.{Vector, Product, IsProduct, IsVector, IsIncreasing, arities}
+use Rattle.ua_table.specs.Counting.{EachOnceBelow}
+use Rattle.ua_table.specs.Terms.{Tree, Generator, Application, Trees, none, more, count_of, IsTerm, AreTerms, term_value, term_values}
+use Rattle.ua_table.specs.Generated.{Sg}
+use Rattle.ua_table.specs.Listings.{Row, vectors_of, ranks_of, IsMadeFrom, IsClosedListing}
+use Rattle.ua_table.specs.Numbering.{IsShape}
+use Rattle.ua_table.specs.Orders.{IsHeight, IsFirstOrigin, IsLeast}
+use Rattle.ua_table.specs.Origins.{IsOrigin, arguments_of, origin_value}
+use Rattle.ua_table.proofs.ApplyLemmas.{IsVector-apply}
+use Rattle.ua_table.proofs.Lists.{found, get_or-slice_get, any_default, all_at, all_from_contains, All-slice_get}
+use Rattle.ua_listing.specs.Arrangements.{origins_of}
+use Rattle.ua_listing.specs.Leasts.{ComesBefore, AreByHeight}
+use Rattle.ua_listing.specs.Rankings.{ArePositions}
+use Rattle.ua_listing.specs.Searches.{height_in, origin_in, IsWholeSearch}
+use Rattle.ua_listing.specs.declared.searches.Search.{Search}
+use Rattle.ua_table.proofs.Members.{zip_by_index}
+use Rattle.ua_listing.proofs.HeightLaws.{is_height, is_first, arguments_lower}
+use Rattle.ua_listing.proofs.RearrangeLaws.{IsRankOf, rank_of, inverse_once, increasing_different}
+
+-- ---- members are vectors of the product
+
+module _ (p : Product) (gens : List Vector) (product : IsProduct p) (admitted : AllByRecursion (IsVector p) gens) where
+  length-values : (ts : Trees) → length (term_values p gens ts) ≡ count_of ts
+  length-values none = refl
+  length-values (more t ts) = let r = length-values ts in omega (arith, r)
+
+  mutual
+    term_vector : (t : Tree) → IsTerm (arities p) (length gens) t → IsVector p (term_value p gens t)
+    term_vector (Generator i) h = let there = found gens i h in subst (IsVector p) (sym (get_or-slice_get gens i there.0 [] there.1)) (All-slice_get (IsVector p) gens i there.0 admitted there.1)
+    term_vector (Application f ts) h = IsVector-apply p f (term_values p gens ts) product h.0 (length-values ts ∙ h.1) (term_vectors ts h.2)
+
+    term_vectors : (ts : Trees) → AreTerms (arities p) (length gens) ts → AllByRecursion (IsVector p) (term_values p gens ts)
+    term_vectors none h = tt
+    term_vectors (more t ts) h = (term_vector t h.0, term_vectors ts h.1)
+
+  pub closed_vectors : (b : ℕ) (rows : List Row) → IsClosedListing p gens b rows → AllByRecursion (IsVector p) (vectors_of rows)
+  closed_vectors b rows closed = all_from_contains (IsVector p) (vectors_of rows) (λ v c. let g = (closed.exact v).0 c in subst (IsVector p) g.value (term_vector g.term g.is_term))
+
+-- ---- which comes first
+
+never_both : (heights : List ℕ) (i j : ℕ) → ComesBefore heights i j → ComesBefore heights j i → ⊥
+never_both heights i j a b = ⊎_elim
+    (λ l. ⊎_elim (λ m. omega (arith, l, m)) (λ m. let e = m.0 in omega (arith, l, e)) b)
+    (λ l. ⊎_elim (λ m. let e = l.0 in omega (arith, e, m)) (λ m. let x = l.1 in let y = m.1 in omega (arith, x, y)) b)
+    a
+
+module _ (n : ℕ) (heights places ranks : List ℕ) (by : AreByHeight heights places) (all : length heights ≡ n) (positions : ArePositions places ranks) where
+  once : EachOnceBelow n places
+  once = subst (λ m. EachOnceBelow m places) all by.once
+
+  count : length places ≡ n
+  count = by.count ∙ all
+
+  rank_is : (i : ℕ) → i < n → IsRankOf n places ranks once count positions i
+  rank_is i h = rank_of n places ranks once count positions i h
+
+  ranked_before : (i j : ℕ) → i < n → j < n → slice_index ranks i < slice_index ranks j → ComesBefore heights i j
+  ranked_before i j hi hj low =
+      let ri = rank_is i hi in
+      let rj = rank_is j hj in
+      subst (λ (x : ℕ × ℕ). ComesBefore heights x.0 x.1) (λ k. (ri.back k, rj.back k)) (by.ascending (slice_index ranks i) (slice_index ranks j) low (let l = rj.low in let c = count in omega (arith, l, c)))
+
+  itself : (i : ℕ) → ComesBefore heights i i → ⊥
+  itself i a = ⊎_elim (λ l. omega (arith, l)) (λ l. let x = l.1 in omega (arith, x)) a
+
+  before_ranked : (i j : ℕ) → i < n → j < n → ComesBefore heights i j → slice_index ranks i < slice_index ranks j
+  before_ranked i j hi hj a = ⊎_elim
+      (λ l. l)
+      (λ ge. ⊎_elim
+      (λ l. absurd (never_both heights i j a (ranked_before j i hj hi l)))
+      (λ le.
+      let same : slice_index ranks i ≡ slice_index ranks j = omega (arith, ge, le) in
+      let equal : i ≡ j = sym (rank_is i hi).back ∙ ap (slice_index places) same ∙ (rank_is j hj).back in
+      absurd (itself i (subst (ComesBefore heights i) (sym equal) a)))
+      (cases_lt (slice_index ranks j) (slice_index ranks i)))
+      (cases_lt (slice_index ranks i) (slice_index ranks j))
+
+  pub rank_order : (i j : ℕ) → i < n → j < n → slice_index ranks i < slice_index ranks j ↔ ComesBefore heights i j
+  rank_order i j hi hj = (ranked_before i j hi hj, before_ranked i j hi hj)
+
+  pub ranks_once : EachOnceBelow n ranks
+  ranks_once = inverse_once n places ranks once count positions
+
+-- ---- the least listing
+
+some_row : Row
+some_row = record { vector = []; rank = 0; origin = Gen 0 }
+
+pub all_by_index : {X : Type 0} (P : X → Type 0) (xs : List X) (d : X) → ((i : ℕ) → i < length xs → P (get_or xs i d)) → AllByRecursion P xs
+all_by_index P [] d h = tt
+all_by_index P (x ∷ xs) d h = (h 0 (omega arith), all_by_index P xs d (λ i l. h (suc i) (omega (arith, l))))
+
+module _ (p : Product) (gens : List Vector) (b : ℕ) (old new : List Row) (s : Search) (places : List ℕ) (closed : IsClosedListing p gens b old) (shape : IsShape (arities p)) (whole : IsWholeSearch p gens (vectors_of old) s)
+    (by : AreByHeight s.heights.items places) (vectors : vectors_of new ≡ vectors_of old) (positions : ArePositions places (ranks_of new)) (origins : origins_of new ≡ s.origins.items) where
+  new_count : length new ≡ length (vectors_of old)
+  new_count = sym (length-map new (λ (r : Row). r.vector)) ∙ ap (length {A = Vector}) vectors
+
+  heights_count : length s.heights.items ≡ length (vectors_of old)
+  heights_count = whole.search.heights_count
+
+  inc : IsIncreasing (vectors_of old)
+  inc = closed.listing.increasing
+
+  vector_at : (i : ℕ) (d : Row) → i < length new → (get_or new i d).vector ≡ slice_index_or (vectors_of old) i []
+  vector_at i d h = sym (get_or-map (λ (r : Row). r.vector) new i d [] h) ∙ ap (λ (l : List Vector). get_or l i []) vectors
+
+  origin_at : (i : ℕ) (d : Row) → i < length new → (get_or new i d).origin ≡ origin_in s i
+  origin_at i d h = sym (get_or-map (λ (r : Row). r.origin) new i d (Gen 0) h) ∙ ap (λ (l : List Origin). get_or l i (Gen 0)) origins
+
+  rank_at : (i : ℕ) (d : Row) → i < length new → (get_or new i d).rank ≡ slice_index (ranks_of new) i
+  rank_at i d h = sym (get_or-map (λ (r : Row). r.rank) new i d 0 h)
+
+  height_at : (i x : ℕ) → i < length (vectors_of old) → get_or s.heights.items i x ≡ height_in s i
+  height_at i x h = any_default s.heights.items i x 0 (let c = heights_count in omega (arith, c, h))
+
+  tall : (i : ℕ) → i < length (vectors_of old) → IsHeight p gens (slice_index_or (vectors_of old) i []) (height_in s i)
+  tall i h = is_height p gens (vectors_of old) s whole shape (increasing_different (vectors_of old) inc) closed.exact i h
+
+  first : (i : ℕ) → i < length (vectors_of old) → IsFirstOrigin p gens (vectors_of old) s.heights.items (slice_index_or (vectors_of old) i []) (height_in s i) (origin_in s i)
+  first i h = is_first p gens (vectors_of old) s whole shape (increasing_different (vectors_of old) inc) closed.exact i h
+
+  order : (i j : ℕ) → i < length (vectors_of old) → j < length (vectors_of old) → slice_index (ranks_of new) i < slice_index (ranks_of new) j ↔ ComesBefore s.heights.items i j
+  order i j hi hj = rank_order (length (vectors_of old)) s.heights.items places (ranks_of new) by heights_count positions i j hi hj
+
+  arguments_low : (o : Origin) → IsOrigin (arities p) (length gens) (length (vectors_of old)) o → AllByRecursion (λ a. a < length (vectors_of old)) (arguments_of (arities p) o)
+  arguments_low (Gen i) valid = tt
+  arguments_low (Op f args) valid = valid.earlier
+
+  arguments_earlier : (i : ℕ) → i < length (vectors_of old) → AllByRecursion (λ a. slice_index (ranks_of new) a < slice_index (ranks_of new) i) (arguments_of (arities p) (origin_in s i))
+  arguments_earlier i h =
+      let lower = arguments_lower p gens (vectors_of old) s whole shape (increasing_different (vectors_of old) inc) closed.exact i h in
+      let within = arguments_low (origin_in s i) (first i h).origin in
+      all_from_contains (λ a. slice_index (ranks_of new) a < slice_index (ranks_of new) i) (arguments_of (arities p) (origin_in s i)) (λ a c.
+      (order a i (all_at (λ a. a < length (vectors_of old)) (arguments_of (arities p) (origin_in s i)) a within c) h).1
+      (inl (all_at (λ a. height_in s a < height_in s i) (arguments_of (arities p) (origin_in s i)) a lower c)))
+
+  low_in : (i : ℕ) → i < length new → i < length (vectors_of old)
+  low_in i h = let c = new_count in omega (arith, h, c)
+
+  made : (i : ℕ) → i < length new → IsMadeFrom p gens new (get_or new i some_row)
+  made i h =
+      let f = first i (low_in i h) in
+      record {
+        origin = subst (λ (x : ℕ × Origin). IsOrigin (arities p) (length gens) x.0 x.1) (λ k. (sym new_count k, sym (origin_at i some_row h) k)) f.origin;
+        earlier = subst (λ (x : ℕ × Origin). AllByRecursion (λ a. slice_index (ranks_of new) a < x.0) (arguments_of (arities p) x.1)) (λ k. (sym (rank_at i some_row h) k, sym (origin_at i some_row h) k)) (arguments_earlier i (low_in i h));
+        value = (λ k. origin_value p gens (vectors k) (origin_at i some_row h k)) ∙ f.value ∙ sym (vector_at i some_row h);
+      }
+
+  pub least_listing : IsLeast p gens b new
+  least_listing = record {
+    closed = record {
+      listing = record {
+        increasing = subst IsIncreasing (sym vectors) inc;
+        ranks = subst (λ m. EachOnceBelow m (ranks_of new)) (sym new_count) (ranks_once (length (vectors_of old)) s.heights.items places (ranks_of new) by heights_count positions);
+        origins = all_by_index (IsMadeFrom p gens new) new some_row made;
+      };
+      within = let c = new_count in let o = length-map old (λ (r : Row). r.vector) in let w = closed.within in omega (arith, c, o, w);
+      exact = λ v. subst (λ (l : List Vector). Contains l v ↔ Sg p gens v) (sym vectors) (closed.exact v);
+    };
+    heights = s.heights.items;
+    are_heights = zip_by_index (λ (r : Row) h. IsHeight p gens r.vector h) new s.heights.items (heights_count ∙ sym new_count)
+        (λ i r h low. subst (λ (x : Vector × ℕ). IsHeight p gens x.0 x.1) (λ k. (sym (vector_at i r low) k, sym (height_at i h (low_in i low)) k)) (tall i (low_in i low)));
+    origins = zip_by_index (λ (r : Row) h. IsFirstOrigin p gens (vectors_of new) s.heights.items r.vector h r.origin) new s.heights.items (heights_count ∙ sym new_count)
+        (λ i r h low. subst (λ (x : List Vector × Vector × ℕ × Origin). IsFirstOrigin p gens x.0 s.heights.items x.1 x.2 x.3)
+        (λ k. (sym vectors k, sym (vector_at i r low) k, sym (height_at i h (low_in i low)) k, sym (origin_at i r low) k)) (first i (low_in i low)));
+    ranks = λ i j hi hj. order i j (low_in i hi) (low_in j hj);
+  }

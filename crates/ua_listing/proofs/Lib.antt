@@ -1,0 +1,11 @@
+pub mod RankingLaws
+pub mod ArrangementLaws
+pub mod ArrangingLaws
+pub mod RecordsLaws
+pub mod MarkLaws
+pub mod SearchLaws
+pub mod VisitLaws
+pub mod HeightLaws
+pub mod RearrangeLaws
+pub mod HighLaws
+pub mod LeastLaws

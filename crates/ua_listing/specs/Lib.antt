@@ -1,0 +1,4 @@
+pub mod Rankings
+pub mod Arrangements
+pub mod Searches
+pub mod Leasts

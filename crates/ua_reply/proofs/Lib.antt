@@ -1,0 +1,4 @@
+mod CheckLaws
+mod OperandLaws
+mod Rows
+mod SessionLaws

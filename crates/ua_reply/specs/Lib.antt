@@ -1,0 +1,7 @@
+pub mod Sessions
+pub mod Texts
+pub mod Refusals
+pub mod Checks
+pub mod Operands
+pub mod Closures
+pub mod Replies

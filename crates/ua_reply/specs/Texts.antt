@@ -1,0 +1,53 @@
+-- The text of numbers, places, vectors, rows and steps.
+use Rattle.std.specs.Prelude.{ℕ, suc, List, [], ◌∷◌, ◌++◌, Option, None, Some, codes, slice_get, slice_index, take}
+use Rattle.std.specs.List.{flat_map}
+use Rattle.std.specs.Fmt.{decimal}
+use Rattle.ua_table.specs.declared.origins.Origin.{Origin}
+use Rattle.ua_table.specs.declared.origins.Origin.TheVariants.{Gen, Op}
+use Rattle.ua_table.specs.Algebras.{Vector, Operation, arities_of}
+use Rattle.ua_table.specs.Listings.{Row}
+use Rattle.ua_part.specs.Blocks.{more_numbers, spaced}
+use Rattle.ua_text.specs.declared.tokens.Place.{Place}
+use Rattle.ua_reply.specs.declared.known.Known.{Known}
+
+-- a text and an LF
+abbrev pub line : List ℕ → List ℕ
+line text = text ++ 10 ∷ []
+
+-- each on a line of its own
+abbrev pub lines : {X : Type 0} → (X → List ℕ) → List X → List ℕ
+lines text xs = flat_map (λ x. line (text x)) xs
+
+-- each behind its number, on a line of its own; the first has number n
+abbrev pub numbered : {X : Type 0} → (X → List ℕ) → ℕ → List X → List ℕ
+numbered text n [] = []
+numbered text n (x ∷ xs) = line (decimal n ++ 32 ∷ text x) ++ numbered text (suc n) xs
+
+-- a word and a number
+abbrev pub counted : List ℕ → ℕ → List ℕ
+counted word n = word ++ 32 ∷ decimal n
+
+-- 4:14
+abbrev pub place_text : Place → List ℕ
+place_text p = decimal p.line ++ 58 ∷ decimal p.column
+
+-- [0 1]
+abbrev pub vector_text : Vector → List ℕ
+vector_text v = codes "[" ++ spaced v ++ codes "]"
+
+abbrev pub name_of : Option Operation → List ℕ
+name_of None = []
+name_of (Some o) = o.name
+
+-- meet 2 1: the name of operation f, and as many of the places as it has arguments
+abbrev pub application_text : Known → ℕ → List ℕ → List ℕ
+application_text k f places = name_of (slice_get k.algebra.operations f) ++ more_numbers (take (slice_index (arities_of k.algebra) f) places)
+
+-- gen 0, or meet 2 1
+abbrev pub origin_text : Known → Origin → List ℕ
+origin_text k (Gen index) = counted (codes "gen") index
+origin_text k (Op f places) = application_text k f places
+
+-- [0 0] 2 meet 2 1
+abbrev pub row_text : Known → Row → List ℕ
+row_text k r = vector_text r.vector ++ 32 ∷ decimal r.rank ++ 32 ∷ origin_text k r.origin

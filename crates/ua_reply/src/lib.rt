@@ -1,0 +1,22 @@
+//! What replies are made of: the session, the operands and their checks, refusals, and texts.
+#![tactic(auto)]
+
+mod checks;
+mod closures;
+mod known;
+mod operands;
+mod refusals;
+mod session;
+mod texts;
+
+pub use checks::FirstErrors;
+pub use closures::{closure_reply, member_reply, size_reply};
+pub use known::Known;
+pub use operands::{
+    elements, elements_in, pairs, positive, power, term_in, vector, vector_in, vectors, vectors_in,
+};
+pub use refusals::{Refusal, refusal_reply};
+pub use session::Session;
+pub use texts::{
+    push_counted, push_more, push_origin, push_part, push_place, push_rows, push_steps, push_vector,
+};

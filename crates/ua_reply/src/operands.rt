@@ -1,0 +1,203 @@
+//! The operands that commands share: the values that are written, and where they fail.
+
+ghost use Rattle.std.specs.Prelude.{◌≡◌, ◌<◌, ◌≤◌, ◌*◌, length, IfOk, IfErr};
+ghost use Rattle.std.specs.List.{AllByRecursion};
+ghost use Rattle.ua_table.specs.declared.limits.TheConstants.{BUDGET};
+ghost use Rattle.ua_table.specs.Algebras.{IsVector, arities_of};
+ghost use Rattle.ua_table.specs.Numbering.{records};
+ghost use Rattle.ua_term.specs.Meanings.{first_place};
+ghost use Rattle.ua_close.specs.Answers.{IsCause};
+ghost use Rattle.ua_reply.specs.Checks.{AreFirst, Passes};
+ghost use Rattle.ua_reply.specs.Operands.{values_of, vectors_of, power_of, positive, elements_in, length_in, vector_in, vectors_in, term_in, pair_of, pairs_of, IsPairIn};
+
+use crate::checks::FirstErrors;
+use crate::known::Known;
+use std::alloc::{AllocError, Global};
+use ua_close::CloseError;
+use ua_script::{Items, Number};
+use ua_table::limits::BUDGET;
+use ua_table::{Elem, Frame, Vectors};
+use ua_term::Written;
+use ua_text::Place;
+
+/// Whether a width is above 0.
+pub fn positive(width: Number) -> FirstErrors
+    ensures { AreFirst (positive width) result }
+{
+    let mut errors = FirstErrors::none();
+    if width.value == 0 {
+        errors.range = Some(width.place);
+    }
+    errors
+}
+
+/// The first number that is no element.
+fn first_beyond(known: &Known, values: &[Number]) -> Option<Place>
+    ensures { result ≡ first_place (elements_in known.now values.now).range }
+{
+    let size = known.algebra.size();
+    for n in values {
+        if n.value >= size {
+            return Some(n.place);
+        }
+    }
+    None
+}
+
+/// Whether each number is an element.
+pub fn elements_in(known: &Known, values: &[Number]) -> FirstErrors
+    ensures { AreFirst (elements_in known.now values.now) result }
+{
+    let mut errors = FirstErrors::none();
+    errors.range = first_beyond(known, values);
+    errors
+}
+
+/// Whether a vector has so many entries.
+fn length_is(width: u32, v: &Items) -> FirstErrors
+    ensures { AreFirst (length_in width v.now) result }
+{
+    let mut errors = FirstErrors::none();
+    if v.values.as_slice().len() != width as usize {
+        errors.shape = Some(v.place);
+    }
+    errors
+}
+
+/// Whether a vector has so many entries, each an element.
+pub fn vector_in(known: &Known, width: u32, v: &Items) -> FirstErrors
+    ensures { AreFirst (vector_in known.now width v.now) result }
+{
+    elements_in(known, v.values.as_slice()).and(length_is(width, v))
+}
+
+/// Whether each vector has so many entries, each an element.
+pub fn vectors_in(known: &Known, width: u32, vs: &[Items]) -> FirstErrors
+    ensures { AreFirst (vectors_in known.now width vs.now) result }
+{
+    let mut errors = FirstErrors::none();
+    for v in vs {
+        errors = errors.and(vector_in(known, width, v));
+    }
+    errors
+}
+
+/// Whether a term has a value at so many elements.
+pub fn term_in(known: &Known, count: usize, term: &Written) -> FirstErrors
+    ensures { AreFirst (term_in known.now count term.now) result }
+{
+    FirstErrors {
+        unknown: term.first_unknown(&known.algebra),
+        range: term.first_variable_from(count),
+        shape: term.first_misshapen(&known.algebra),
+    }
+}
+
+/// The elements that are written.
+pub fn elements(alloc: Global, known: &Known, values: &[Number]) -> Result<Vec<Elem>, AllocError>
+    requires passed { Passes (elements_in known.now values.now) }
+    ensures values { IfOk result (λ v. v.items ≡ values_of values.now) }
+    ensures below { IfOk result (λ v. AllByRecursion (λ x. x < known.now.algebra.size) v.items) }
+{
+    // Each number is below the size, which fits an element.
+    let _size = known.algebra.size();
+    let mut items = Vec::with_capacity(alloc, values.len())?;
+    for n in values {
+        items.push(n.value as Elem)?;
+    }
+    Ok(items)
+}
+
+/// The vector that is written.
+pub fn vector(alloc: Global, known: &Known, width: u32, v: &Items) -> Result<Vec<Elem>, AllocError>
+    requires passed { Passes (vector_in known.now width v.now) }
+    ensures values { IfOk result (λ row. row.items ≡ values_of v.now.values) }
+    ensures admitted { IfOk result (λ row. IsVector (power_of known.now width) row.items) }
+{
+    elements(alloc, known, v.values.as_slice())
+}
+
+/// The vectors that are written.
+pub fn vectors(
+    alloc: Global,
+    known: &Known,
+    width: u32,
+    vs: &[Items],
+) -> Result<Vectors, AllocError>
+    requires passed { Passes (vectors_in known.now width vs.now) }
+    requires few { length vs.now < u32.MAX }
+    ensures values { IfOk result (λ list. list ≡ record { width = width; items = vectors_of vs.now }) }
+    ensures admitted { IfOk result (λ list. AllByRecursion (IsVector (power_of known.now width)) list.items) }
+{
+    let mut list = Vectors::new(alloc, width);
+    for v in vs {
+        let row = vector(alloc, known, width, v)?;
+        list.add(&row)?;
+    }
+    Ok(list)
+}
+
+/// The pair that is written.
+fn pair(known: &Known, v: &Items) -> (Elem, Elem)
+    requires { Passes (vector_in known.now 2 v.now) }
+    ensures { result ≡ pair_of v.now }
+{
+    // Each number is below the size, which fits an element.
+    let _size = known.algebra.size();
+    let values = v.values.as_slice();
+    (values[0].value as Elem, values[1].value as Elem)
+}
+
+/// The pairs that are written.
+pub fn pairs(alloc: Global, known: &Known, vs: &[Items]) -> Result<Vec<(Elem, Elem)>, AllocError>
+    requires passed { Passes (vectors_in known.now 2 vs.now) }
+    ensures pairs { IfOk result (λ list. list.items ≡ pairs_of vs.now) }
+    ensures below { IfOk result (λ list. AllByRecursion (IsPairIn known.now) list.items) }
+{
+    let mut list = Vec::with_capacity(alloc, vs.len())?;
+    for v in vs {
+        list.push(pair(known, v))?;
+    }
+    Ok(list)
+}
+
+/// The error for a power with more coordinates than a frame has.
+fn wide_power(
+    alloc: Global,
+    known: &Known,
+    width: u32,
+    gens: u32,
+    budget: u32,
+) -> Result<CloseError, AllocError>
+    requires { budget ≤ BUDGET }
+    ensures { IfOk result (λ e. e ≡ CloseError.Wide (records (arities_of known.now.algebra) gens budget) (budget * width)) }
+{
+    let Ok(line) = Frame::power(&known.algebra, 1) else {
+        unreachable!()
+    };
+    let shape = line.shape(alloc)?;
+    Ok(CloseError::Wide {
+        records: shape.records(gens, budget),
+        cells: u128::from(budget) * u128::from(width),
+    })
+}
+
+/// The power of an algebra, or why it is too wide for its vectors to be closed.
+pub fn power<'a>(
+    alloc: Global,
+    known: &'a Known,
+    width: Number,
+    gens: &Vectors,
+    budget: u32,
+) -> Result<Frame<'a>, CloseError>
+    requires passed { Passes (positive width) }
+    requires some { 1 ≤ budget }
+    requires small { budget ≤ BUDGET }
+    ensures ok { IfOk result (λ frame. frame ≡ power_of known.now width.value) }
+    ensures cause { IfErr result (IsCause (power_of known.now width.value) gens.now.items budget) }
+{
+    match Frame::power(&known.algebra, width.value) {
+        Ok(frame) => Ok(frame),
+        Err(_) => Err(wide_power(alloc, known, width.value, gens.len(), budget)?),
+    }
+}

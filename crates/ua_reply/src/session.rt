@@ -1,0 +1,71 @@
+//! What a script has introduced, found by name.
+
+ghost use Rattle.std.specs.Prelude.{◌≡◌, ◌++◌, [], ◌∷◌, option_copied, OnOk, OnErr};
+ghost use Rattle.ua_reply.specs.Sessions.{lookup};
+
+use crate::known::Known;
+use indexmap::IndexMap;
+use std::alloc::{AllocError, Global};
+use std::marker::Model;
+use ua_table::Algebra;
+
+/// What a script has introduced so far, in order. A look-up by name takes constant time on the average.
+///
+/// To a contract it is the list of what it knows.
+#[derive(Drop)]
+pub struct Session<'a> {
+    alloc: Global,
+    knowns: Vec<Known>,
+    /// The first place of each name.
+    places: IndexMap<&'a [u8], usize>,
+}
+
+impl<'a> Model for Session<'a> {
+    ghost use Rattle.std.specs.Prelude.{nat_eq, List};
+    ghost use Rattle.std.specs.Cmp.Lexicographic.{pointwise};
+    ghost use Rattle.indexmap.specs.IndexMap.{get_by};
+    ghost use Rattle.ua_reply.specs.declared.known.Known.{Known};
+    ghost use Rattle.ua_reply.specs.Sessions.{ArePlaces};
+
+    ghost Value = { List Known };
+
+    ghost view = { λ a. a.knowns.items };
+
+    ghost invariant = { λ a. ArePlaces a.knowns.items (λ t. get_by (λ k. pointwise nat_eq t k.now) a.places) };
+}
+
+impl<'a> Session<'a> {
+    /// The session that knows nothing. It takes no memory.
+    pub fn new(alloc: Global) -> Session<'a>
+        ensures { result ≡ [] }
+    {
+        Session {
+            alloc,
+            knowns: Vec::new(alloc),
+            places: IndexMap::new(alloc),
+        }
+    }
+
+    /// What the session knows of this name.
+    pub fn find(&self, name: &[u8]) -> Option<&Known>
+        ensures { option_copied result ≡ lookup self.now name.now }
+    {
+        let place = self.places.get(name)?;
+        Some(&self.knowns[*place])
+    }
+
+    /// A copy of an algebra joins the session. After want of memory the session is as it was.
+    pub fn introduce(&mut self, algebra: &'a Algebra) -> Result<(), AllocError>
+        ensures ok { OnOk result (self.new ≡ self.old ++ (record { algebra = algebra.now }) ∷ []) }
+        ensures err { OnErr result (self.new ≡ self.old) }
+    {
+        let copy = algebra.copy(self.alloc)?;
+        self.knowns.reserve(1)?;
+        let name = algebra.name().text();
+        if self.places.get(name).is_none() {
+            self.places.insert(name, self.knowns.len())?;
+        }
+        self.knowns.push(Known { algebra: copy }).unwrap();
+        Ok(())
+    }
+}

@@ -1,0 +1,154 @@
+//! The text of numbers, places, vectors, partitions, rows and steps.
+
+ghost use Rattle.std.specs.Prelude.{◌≡◌, ◌++◌, OnOk};
+ghost use Rattle.ua_part.specs.Blocks.{more_numbers, partition_text};
+ghost use Rattle.ua_reply.specs.Texts.{line, lines, numbered, counted, vector_text, place_text, application_text, origin_text, row_text};
+
+use crate::known::Known;
+use std::alloc::AllocError;
+use ua_close::Listing;
+use ua_part::{Part, push_number};
+use ua_table::{Elem, Origin};
+use ua_text::Place;
+
+/// Appends a word and a number, on a line.
+pub fn push_counted(out: &mut Vec<u8>, word: &[u8], n: u128) -> Result<(), AllocError>
+    ensures { OnOk result (out.new.items ≡ out.old.items ++ line (counted word.now n)) }
+{
+    out.extend_from_slice(word)?;
+    out.push(b' ')?;
+    push_number(out, n)?;
+    out.push(b'\n')?;
+    Ok(())
+}
+
+/// Appends each number behind a blank.
+pub fn push_more(out: &mut Vec<u8>, ns: &[u32]) -> Result<(), AllocError>
+    ensures { OnOk result (out.new.items ≡ out.old.items ++ more_numbers ns.now) }
+{
+    for n in ns {
+        out.push(b' ')?;
+        push_number(out, u128::from(*n))?;
+    }
+    Ok(())
+}
+
+/// Appends each element behind a blank.
+fn push_more_elements(out: &mut Vec<u8>, v: &[Elem]) -> Result<(), AllocError>
+    ensures { OnOk result (out.new.items ≡ out.old.items ++ more_numbers v.now) }
+{
+    for x in v {
+        out.push(b' ')?;
+        push_number(out, u128::from(*x))?;
+    }
+    Ok(())
+}
+
+/// Appends a vector in brackets.
+pub fn push_vector(out: &mut Vec<u8>, v: &[Elem]) -> Result<(), AllocError>
+    ensures { OnOk result (out.new.items ≡ out.old.items ++ vector_text v.now) }
+{
+    out.push(b'[')?;
+    if let Some((first, others)) = v.split_first() {
+        push_number(out, u128::from(*first))?;
+        push_more_elements(out, others)?;
+    }
+    out.push(b']')?;
+    Ok(())
+}
+
+/// Appends a place, as `4:14`.
+pub fn push_place(out: &mut Vec<u8>, place: Place) -> Result<(), AllocError>
+    ensures { OnOk result (out.new.items ≡ out.old.items ++ place_text place) }
+{
+    push_number(out, u128::from(place.line))?;
+    out.push(b':')?;
+    push_number(out, u128::from(place.column))
+}
+
+/// Appends a partition.
+pub fn push_part(out: &mut Vec<u8>, part: &Part) -> Result<(), AllocError>
+    ensures { OnOk result (out.new.items ≡ out.old.items ++ partition_text part.now) }
+{
+    let alloc = *out.allocator();
+    let text = part.print(alloc)?;
+    out.extend_from_slice(&text)
+}
+
+/// Appends an operation's name, and as many of the places as it has arguments.
+fn push_application(
+    out: &mut Vec<u8>,
+    known: &Known,
+    op: u32,
+    args: &[u32; 4],
+) -> Result<(), AllocError>
+    ensures { OnOk result (out.new.items ≡ out.old.items ++ application_text known.now op args.now) }
+{
+    let Some(table) = known.algebra.ops().get(op as usize) else {
+        return Ok(());
+    };
+    out.extend_from_slice(table.name().text())?;
+    push_more(out, &args[..table.arity() as usize])?;
+    Ok(())
+}
+
+/// Appends where a row comes from: `gen 0`, or `meet 2 1`.
+pub fn push_origin(out: &mut Vec<u8>, known: &Known, origin: &Origin) -> Result<(), AllocError>
+    ensures { OnOk result (out.new.items ≡ out.old.items ++ origin_text known.now origin.now) }
+{
+    match origin {
+        Origin::Gen { index } => {
+            out.extend_from_slice(b"gen ")?;
+            push_number(out, u128::from(*index))
+        }
+        Origin::Op { op, args } => push_application(out, known, *op, args),
+    }
+}
+
+/// Appends each step behind its number, on a line of its own.
+pub fn push_steps(out: &mut Vec<u8>, known: &Known, steps: &[Origin]) -> Result<(), AllocError>
+    ensures { OnOk result (out.new.items ≡ out.old.items ++ numbered (origin_text known.now) 0 steps.now) }
+{
+    for i in 0..steps.len() {
+        push_number(out, i as u128)?;
+        out.push(b' ')?;
+        push_origin(out, known, &steps[i])?;
+        out.push(b'\n')?;
+    }
+    Ok(())
+}
+
+/// Appends a row, on a line of its own.
+fn push_row(
+    out: &mut Vec<u8>,
+    known: &Known,
+    vector: &[Elem],
+    rank: u32,
+    origin: &Origin,
+) -> Result<(), AllocError>
+    ensures { OnOk result (out.new.items ≡ out.old.items ++ line (row_text known.now (record { vector = vector.now; rank = rank; origin = origin.now }))) }
+{
+    push_vector(out, vector)?;
+    out.push(b' ')?;
+    push_number(out, u128::from(rank))?;
+    out.push(b' ')?;
+    push_origin(out, known, origin)?;
+    out.push(b'\n')?;
+    Ok(())
+}
+
+/// Appends each row of the listing, on a line of its own.
+pub fn push_rows(out: &mut Vec<u8>, known: &Known, listing: &Listing) -> Result<(), AllocError>
+    ensures { OnOk result (out.new.items ≡ out.old.items ++ lines (row_text known.now) listing.now) }
+{
+    for i in 0..listing.len() {
+        push_row(
+            out,
+            known,
+            listing.row(i),
+            listing.rank(i),
+            &listing.origin(i),
+        )?;
+    }
+    Ok(())
+}

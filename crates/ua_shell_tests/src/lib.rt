@@ -1,0 +1,5 @@
+//! Whole runs.
+#![tactic(auto)]
+
+#[cfg(test)]
+mod runs;

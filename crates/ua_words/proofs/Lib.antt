@@ -1,0 +1,4 @@
+mod Walking
+mod Choices
+mod Numbers
+mod OptionValues

@@ -1,0 +1,121 @@
+-- What the matches of a parse say of the words, and what the settings need of the options.
+use Rattle.std.proofs.Common.{◌≡◌, ◌∙◌, ◌⊎◌, inl, inr, ℕ, true, false, List, [], ◌∷◌, map, option_map, string_bytes, String, Global, codes, Option, Some, None, refl, sym, ap, subst, lit<}
+use Rattle.std.specs.List.{AllByRecursion, list_any}
+use Rattle.std.specs.Option.{IfSome}
+use Rattle.std.specs.Str.{bytes_eq}
+use Rattle.clap.specs.Kinds.{IsAmong}
+use Rattle.clap.specs.Walk.{Text, first_of, rows_of}
+use Rattle.clap.specs.Simple.{App, is_simple, matches_of}
+use Rattle.clap.specs.Faults.{fault_of, is_simple_and_free}
+use Rattle.clap.specs.Matches.{first_value}
+use Rattle.clap.specs.declared.error.kind.ErrorKind.{ErrorKind}
+use Rattle.clap.specs.declared.error.kind.ErrorKind.TheVariants as kind
+use Rattle.clap.specs.declared.parser.matches.Found.{Found}
+use Rattle.clap.proofs.WalkLemmas.{first_value-rows, list_any-map}
+use Rattle.ua_table.specs.declared.limits.TheConstants.{BUDGET, WORKERS}
+use Rattle.ua_words.specs.declared.words.TheConstants.{USUAL_WORKERS, USUAL_BUDGET}
+use Rattle.ua_words.specs.declared.words.Values.{Values}
+use Rattle.ua_words.specs.Words.{OptionName, Workers, Budget, name_text, Choice, EachOnce, IsNumber, value_of, Asks, AreAccepted}
+use Rattle.ua_words.specs.Options.{AreValues, GiveValues, HasValues, IsPlain, KeepsValues, options_app}
+use Rattle.ua_words.proofs.Choices.{given_passes, is_simple_app, is_simple_options, passing_gives, plain_dashless_words}
+use Rattle.ua_words.proofs.Numbers.{number_plain}
+use Rattle.ua_words.proofs.Walking.{HaveNoDashes}
+
+pub no_dashes : (words : List (String Global)) → false ≡ list_any (λ word. bytes_eq (string_bytes word) (codes "--")) words → HaveNoDashes (map string_bytes words)
+no_dashes words e = sym (list_any-map (λ text. bytes_eq text (codes "--")) string_bytes words) ∙ sym e
+
+-- with a word `--` there are no plain options
+pub dashes_refused : (words : List (String Global)) → true ≡ list_any (λ word. bytes_eq (string_bytes word) (codes "--")) words → KeepsValues (map string_bytes words) None
+dashes_refused words e choices give plain =
+    let none = plain_dashless_words (map string_bytes words) choices give plain in
+    let some = sym (list_any-map (λ text. bytes_eq text (codes "--")) string_bytes words) ∙ sym e in
+    let bad : true ≡ false = sym some ∙ none in
+    cc
+
+-- the values that the getters read of the matches of a parse
+pub record Matched (words : List Text) (values : Values) : Type 0 where
+  pub app : App
+  pub app_is : app ≡ options_app
+  pub found : Found
+  pub clean : is_simple_and_free app ≡ true → fault_of app words ≡ []
+  pub rows : is_simple app ≡ true → rows_of found ≡ matches_of app words
+  pub workers : option_map (λ text. text.now) values.workers ≡ first_value found (codes "workers")
+  pub budget : option_map (λ text. text.now) values.budget ≡ first_value found (codes "budget")
+
+row_values : (words : List Text) (values : Values) (choices : List Choice) → Matched words values
+    → ((n : OptionName) → first_of (name_text n) (matches_of options_app words) ≡ value_of n choices) → AreValues choices values
+row_values words values choices m are =
+    let rows : rows_of m.found ≡ matches_of options_app words = m.rows (ap is_simple m.app_is ∙ is_simple_options) ∙ ap (λ (a : App). matches_of a words) m.app_is in
+    record {
+      workers = m.workers ∙ (first_value-rows m.found (codes "workers") ∙ (ap (first_of (codes "workers")) rows ∙ are Workers));
+      budget = m.budget ∙ (first_value-rows m.found (codes "budget") ∙ (ap (first_of (codes "budget")) rows ∙ are Budget));
+    }
+
+pub matched_given : (words : List Text) (values : Values) → HaveNoDashes words → Matched words values → GiveValues words values
+matched_given words values none m =
+    let clean : fault_of options_app words ≡ [] = sym (ap (λ (a : App). fault_of a words) m.app_is) ∙ m.clean (ap is_simple_and_free m.app_is ∙ is_simple_app) in
+    let g = passing_gives words none clean in
+    record { choices = g.choices; given = g.given; values_are = row_values words values g.choices m g.values }
+
+pub matched_kept : (words : List Text) (values : Values) → Matched words values → KeepsValues words (Some values)
+matched_kept words values m choices give plain = row_values words values choices m (given_passes words choices give plain).1
+
+-- a parse that fails, and not for want of memory, has no plain options
+pub failed_refused : (app : App) (words : List Text) (k : ErrorKind) → app ≡ options_app → (is_simple_and_free app ≡ true → (k ≡ kind.OutOfMemory) ⊎ IsAmong k (fault_of app words))
+    → (k ≡ kind.OutOfMemory → ⊥) → KeepsValues words None
+failed_refused app words k app_is kinds memory choices give plain =
+    elim (kinds (ap is_simple_and_free app_is ∙ is_simple_app)) [
+      | inl none ↦ memory none
+      | inr among ↦ subst (IsAmong k) (ap (λ (a : App). fault_of a words) app_is ∙ (given_passes words choices give plain).0) among
+    ]
+
+-- ---- settings
+
+plain_choices : (choices : List Choice) → EachOnce choices → (w b : ℕ) → IsNumber USUAL_WORKERS WORKERS (value_of Workers choices) w → IsNumber USUAL_BUDGET BUDGET (value_of Budget choices) b → AllByRecursion IsPlain choices
+plain_choices [] once w b ws bs = tt
+plain_choices (c ∷ choices) once w b ws bs = by_name c.name refl (plain_choices choices once.1)
+  where
+    by_name : (n : OptionName) → c.name ≡ n
+        → ((v d : ℕ) → IsNumber USUAL_WORKERS WORKERS (value_of Workers choices) v → IsNumber USUAL_BUDGET BUDGET (value_of Budget choices) d → AllByRecursion IsPlain choices) → AllByRecursion IsPlain (c ∷ choices)
+    by_name Workers e rest =
+        let own : IsNumber USUAL_WORKERS WORKERS (Some c.value) w = rw e at ws in
+        let others : IsNumber USUAL_BUDGET BUDGET (value_of Budget choices) b = rw e at bs in
+        let none : value_of Workers choices ≡ None = rw e at once.0 in
+        (number_plain USUAL_WORKERS WORKERS c.value w (lit< tt) own, rest USUAL_WORKERS b (rw none refl) others)
+    by_name Budget e rest =
+        let own : IsNumber USUAL_BUDGET BUDGET (Some c.value) b = rw e at bs in
+        let others : IsNumber USUAL_WORKERS WORKERS (value_of Workers choices) w = rw e at ws in
+        let none : value_of Budget choices ≡ None = rw e at once.0 in
+        (number_plain USUAL_BUDGET BUDGET c.value b (lit< tt) own, rest w USUAL_BUDGET others (rw none refl))
+
+pub accepted_values : (words : List Text) (found : Option Values) → KeepsValues words found → (a : AreAccepted words) → HasValues a.asked.choices found
+accepted_values words found kept a = kept a.asked.choices a.asked.given (plain_choices a.asked.choices a.asked.given.once a.settings.workers a.settings.budget a.asked.workers a.asked.budget)
+
+pub nothing_kept : (words : List Text) (found : Option Values) → KeepsValues words found → found ≡ None → AreAccepted words → ⊥
+nothing_kept words found kept none a = subst (HasValues a.asked.choices) none (accepted_values words found kept a)
+
+pub kept_values : (words : List Text) (found : Option Values) (values : Values) → KeepsValues words found → found ≡ Some values → (a : AreAccepted words) → AreValues a.asked.choices values
+kept_values words found values kept some a = subst (HasValues a.asked.choices) some (accepted_values words found kept a)
+
+pub no_workers : (words : List Text) (found : Option Values) (values : Values) → KeepsValues words found → found ≡ Some values
+    → ((n : ℕ) → IsNumber USUAL_WORKERS WORKERS (option_map (λ text. text.now) values.workers) n → ⊥) → AreAccepted words → ⊥
+no_workers words found values kept some none a =
+    let v = kept_values words found values kept some a in
+    none a.settings.workers (rw v.workers a.asked.workers)
+
+pub no_budget : (words : List Text) (found : Option Values) (values : Values) → KeepsValues words found → found ≡ Some values
+    → ((n : ℕ) → IsNumber USUAL_BUDGET BUDGET (option_map (λ text. text.now) values.budget) n → ⊥) → AreAccepted words → ⊥
+no_budget words found values kept some none a =
+    let v = kept_values words found values kept some a in
+    none a.settings.budget (rw v.budget a.asked.budget)
+
+pub given_asked : (words : List Text) (found : Option Values) (values : Values) (workers budget : ℕ) → IfSome found (GiveValues words) → found ≡ Some values → IsNumber USUAL_WORKERS WORKERS (option_map (λ text. text.now) values.workers) workers
+    → IsNumber USUAL_BUDGET BUDGET (option_map (λ text. text.now) values.budget) budget → Asks words (record { workers = workers; budget = budget })
+given_asked words found values workers budget given some w b =
+    let g : GiveValues words values = subst (λ (o : Option Values). IfSome o (GiveValues words)) some given in
+    record {
+      choices = g.choices;
+      given = g.given;
+      workers = subst (λ (value : Option (List ℕ)). IsNumber USUAL_WORKERS WORKERS value workers) g.values_are.workers w;
+      budget = subst (λ (value : Option (List ℕ)). IsNumber USUAL_BUDGET BUDGET value budget) g.values_are.budget b;
+    }

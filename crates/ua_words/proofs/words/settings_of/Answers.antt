@@ -1,0 +1,19 @@
+use Rattle.std.proofs.Common.{map, string_bytes}
+use Rattle.ua_words.proofs.OptionValues.{given_asked, no_budget, no_workers, nothing_kept}
+use Rattle.ua_words.proofs.words.settings_of.Goals as goal
+
+pub returns-in_default-clause-refused : goal.returns-in_default-clause-refused
+returns-in_default-clause-refused c = nothing_kept (map string_bytes c.args.words.now) c.in_ok-values.field-0 c.in_ok-values.ensures.kept c.in_default.is
+
+pub returns-in_default-number-clause-refused : goal.returns-in_default-number-clause-refused
+returns-in_default-number-clause-refused c =
+    no_workers (map string_bytes c.args.words.now) c.in_ok-values.field-0 c.in-Some.values c.in_ok-values.ensures.kept c.in-Some.is c.in_default-number.ensures.none
+
+pub returns-in_default-number-2-clause-refused : goal.returns-in_default-number-2-clause-refused
+returns-in_default-number-2-clause-refused c =
+    no_budget (map string_bytes c.args.words.now) c.in_ok-values.field-0 c.in-Some.values c.in_ok-values.ensures.kept c.in-Some.is c.in_default-number-2.ensures.none
+
+pub returns-clause-asks : goal.returns-clause-asks
+returns-clause-asks c =
+    given_asked (map string_bytes c.args.words.now) c.in_ok-values.field-0 c.in-Some.values c.in-Some-number.workers c.in-Some-number-2.budget c.in_ok-values.ensures.given c.in-Some.is
+    c.in-Some-number.ensures.is c.in-Some-number-2.ensures.is

@@ -1,0 +1,6 @@
+//! The words of the command line.
+#![tactic(auto)]
+
+mod words;
+
+pub use words::{Settings, USUAL_BUDGET, USUAL_WORKERS, settings_of};

@@ -1,0 +1,14 @@
+pub mod Turns
+pub mod Reaching
+pub mod Walks
+pub mod RowValues
+pub mod ReplicaLaws
+pub mod GoalLaws
+pub mod WorkLaws
+pub mod FinishLaws
+pub mod RunLaws
+pub mod HarvestLaws
+pub mod SerialLaws
+pub mod LoneLaws
+pub mod LoneSlices
+pub mod BeginLaws

@@ -1,0 +1,9 @@
+pub mod Values
+pub mod Goals
+pub mod Progress
+pub mod Serials
+pub mod Harvests
+pub mod Replicas
+pub mod Workings
+pub mod Walks
+pub mod Beginnings

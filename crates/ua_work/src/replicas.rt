@@ -1,0 +1,190 @@
+//! A worker's own copy of the records that its seat has seen.
+
+ghost use Rattle.std.specs.Prelude.{◌≡◌, ◌<◌, ◌≤◌, ◌++◌, ◌∷◌, [], ◌↔◌, length, map, take, slice_index, Contains, IfOk, OnOk, IsTrue, IsFalse};
+ghost use Rattle.std.specs.List.{AllByRecursion};
+ghost use Rattle.ua_table.specs.declared.origins.Origin.TheVariants.{Op};
+ghost use Rattle.ua_table.specs.Algebras.{IsVector};
+ghost use Rattle.ua_work.specs.Replicas.{values_in, value_in, IsOriginIn, IsReplica, HasRoom, SameClosure, SameRecords};
+
+use std::alloc::{AllocError, Global};
+use ua_rows::{Operations, Rows, Scratch};
+use ua_table::{Frame, Origin, Shape, Vectors};
+
+/// The different values of records, with a look-up, and what computes them.
+///
+/// No word of the board tells that a record of another seat is new. So each record has a row, and several
+/// may have the same one.
+#[derive(Drop)]
+pub(crate) struct Replica<'a> {
+    pub(crate) operations: Operations<'a>,
+    pub(crate) gens: &'a Vectors,
+    pub(crate) shape: Shape,
+    pub(crate) rows: Rows,
+    /// The row of each record.
+    pub(crate) places: Vec<u32>,
+    /// The value that was computed last.
+    pub(crate) scratch: Scratch,
+}
+
+/// Writes the rows of the records that the arguments name to the front. It answers no array, since that is
+/// copied whole before the rows are read one by one.
+#[inline(always)]
+fn name_rows(places: &[u32], args: &[u32], rows: &mut [u32; 4])
+    requires few { length args.now ≤ 4 }
+    requires named { AllByRecursion (λ a. a < length places.now) args.now }
+    ensures { take (length args.now) rows.new ≡ map (λ a. slice_index places.now a) args.now }
+{
+    for (j, a) in args.iter().enumerate() {
+        rows[j] = places[*a as usize];
+    }
+}
+
+impl<'a> Replica<'a> {
+    /// The replica of no record.
+    pub(crate) fn new(
+        alloc: Global,
+        frame: &'a Frame<'a>,
+        gens: &'a Vectors,
+    ) -> Result<Replica<'a>, AllocError>
+        requires { AllByRecursion (IsVector frame.now) gens.now.items }
+        ensures replica { IfOk result IsReplica }
+        ensures operations { IfOk result (λ r. r.operations ≡ frame.now) }
+        ensures gens { IfOk result (λ r. r.gens.now ≡ gens.now) }
+        ensures empty { IfOk result (λ r. r.places.items ≡ []) }
+    {
+        let width = frame.width();
+        Ok(Replica {
+            operations: Operations::new(alloc, frame)?,
+            gens,
+            shape: frame.shape(alloc)?,
+            rows: Rows::new(alloc, width),
+            places: Vec::new(alloc),
+            scratch: Scratch::new(alloc, width)?,
+        })
+    }
+
+    /// Makes room for one more record. After want of memory the replica is as it was.
+    pub(crate) fn reserve(&mut self) -> Result<(), AllocError>
+        requires { IsReplica self.old }
+        ensures replica { IsReplica self.new }
+        ensures same { SameRecords self.old self.new }
+        ensures scratch { self.new.scratch ≡ self.old.scratch }
+        ensures room { OnOk result (HasRoom self.new) }
+    {
+        self.places.reserve(1)?;
+        self.rows.reserve()?;
+        Ok(())
+    }
+
+    /// Writes the value of an operation at records into the scratch. It takes no memory.
+    #[inline(always)]
+    fn apply(&mut self, op: u32, args: &[u32; 4])
+        requires replica { IsReplica self.old }
+        requires origin { IsOriginIn self.old (Op op args.now) }
+        ensures replica { IsReplica self.new }
+        ensures same { self.new ≡ record self.old { scratch = self.new.scratch } }
+        ensures value { self.new.scratch ≡ value_in self.old (Op op args.now) }
+    {
+        let arity = usize::from(self.shape.arity(op));
+        let mut rows = [0; 4];
+        name_rows(self.places.as_slice(), &args[..arity], &mut rows);
+        self.operations
+            .apply(op, &self.rows, &rows[..arity], &mut self.scratch);
+    }
+
+    /// Writes the value of an origin into the scratch. It takes no memory.
+    fn compute(&mut self, o: &Origin)
+        requires replica { IsReplica self.old }
+        requires origin { IsOriginIn self.old o.now }
+        ensures replica { IsReplica self.new }
+        ensures same { self.new ≡ record self.old { scratch = self.new.scratch } }
+        ensures value { self.new.scratch ≡ value_in self.old o.now }
+    {
+        match o {
+            Origin::Gen { index } => self.scratch.copy_from(self.gens.get(*index)),
+            Origin::Op { op, args } => self.apply(*op, args),
+        }
+    }
+
+    /// Whether the scratch is the value of a record.
+    #[inline(always)]
+    fn has_scratch(&self) -> bool
+        requires { IsReplica self.now }
+        ensures { IsTrue result ↔ Contains (values_in self.now) self.now.scratch }
+    {
+        self.rows.find_scratch(&self.scratch).is_some()
+    }
+
+    /// Writes the value of an operation at records into the scratch, and answers whether it is the value
+    /// of a record. It takes no memory.
+    #[inline(always)]
+    pub(crate) fn has(&mut self, op: u32, args: &[u32; 4]) -> bool
+        requires replica { IsReplica self.old }
+        requires origin { IsOriginIn self.old (Op op args.now) }
+        ensures replica { IsReplica self.new }
+        ensures same { self.new ≡ record self.old { scratch = self.new.scratch } }
+        ensures value { self.new.scratch ≡ value_in self.old (Op op args.now) }
+        ensures has { IsTrue result ↔ Contains (values_in self.old) (value_in self.old (Op op args.now)) }
+    {
+        self.apply(op, args);
+        self.has_scratch()
+    }
+
+    /// Writes the value of an origin into the scratch, and answers whether it is the value of a record. It
+    /// takes no memory.
+    pub(crate) fn holds(&mut self, o: &Origin) -> bool
+        requires replica { IsReplica self.old }
+        requires origin { IsOriginIn self.old o.now }
+        ensures replica { IsReplica self.new }
+        ensures same { self.new ≡ record self.old { scratch = self.new.scratch } }
+        ensures value { self.new.scratch ≡ value_in self.old o.now }
+        ensures has { IsTrue result ↔ Contains (values_in self.old) (value_in self.old o.now) }
+    {
+        self.compute(o);
+        self.has_scratch()
+    }
+
+    /// Enters a record whose value is in the scratch and is the value of no record, and answers its row. It
+    /// takes no memory.
+    pub(crate) fn enter_new(&mut self) -> u32
+        requires replica { IsReplica self.old }
+        requires room { HasRoom self.old }
+        requires vector { IsVector self.old.operations self.old.scratch }
+        requires new { ¬ Contains (values_in self.old) self.old.scratch }
+        requires few { length self.old.rows.items < u32.MAX }
+        ensures row { result ≡ length self.old.rows.items }
+        ensures replica { IsReplica self.new }
+        ensures closure { SameClosure self.old self.new }
+        ensures values { values_in self.new ≡ values_in self.old ++ self.old.scratch ∷ [] }
+        ensures rows { self.new.rows.items ≡ self.old.rows.items ++ self.old.scratch ∷ [] }
+    {
+        let place = self.rows.push_scratch(&self.scratch);
+        self.places.push(place).unwrap();
+        place
+    }
+
+    /// Enters a record, and answers whether its value is a new row. It takes no memory.
+    pub(crate) fn enter(&mut self, o: &Origin) -> bool
+        requires replica { IsReplica self.old }
+        requires room { HasRoom self.old }
+        requires origin { IsOriginIn self.old o.now }
+        requires few { length self.old.rows.items < u32.MAX }
+        ensures replica { IsReplica self.new }
+        ensures closure { SameClosure self.old self.new }
+        ensures values { values_in self.new ≡ values_in self.old ++ value_in self.old o.now ∷ [] }
+        ensures new { IsTrue result → self.new.rows.items ≡ self.old.rows.items ++ value_in self.old o.now ∷ [] }
+        ensures old { IsFalse result → self.new.rows.items ≡ self.old.rows.items }
+    {
+        self.compute(o);
+        match self.rows.find_scratch(&self.scratch) {
+            Some(place) => {
+                self.places.push(place).unwrap();
+                false
+            }
+            None => {
+                self.enter_new();
+                true
+            }
+        }
+    }
+}
