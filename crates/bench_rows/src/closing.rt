@@ -6,6 +6,7 @@ ghost use Rattle.ua_table.specs.Algebras.{IsVector, arities};
 
 use std::alloc::{AllocError, Global};
 use ua_rows::{Operations, Rows, Scratch};
+use ua_table::limits::SIZE;
 use ua_table::{Algebra, Elem, Frame, Name, OpTable};
 
 /// The sums of all pairs of elements.
@@ -14,7 +15,7 @@ fn sums(alloc: Global, size: u32) -> Result<Vec<Elem>, AllocError> {
     for x in 0..size {
         for y in 0..size {
             let sum = (u64::from(x) + u64::from(y)) % u64::from(size);
-            values.push((sum % 256) as Elem)?;
+            values.push((sum % u64::from(SIZE)) as Elem)?;
         }
     }
     Ok(values)
@@ -22,7 +23,7 @@ fn sums(alloc: Global, size: u32) -> Result<Vec<Elem>, AllocError> {
 
 /// The numbers below a size under addition, where a table holds so many.
 pub(crate) fn group(alloc: Global, size: u32) -> Result<Option<Algebra>, AllocError> {
-    if size > 255 {
+    if size > SIZE {
         return Ok(None);
     }
     let (Ok(of), Ok(plus)) = (Name::new(alloc, b"Z"), Name::new(alloc, b"plus")) else {

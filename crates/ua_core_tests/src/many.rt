@@ -10,7 +10,8 @@ use ua_table::Elem;
 
 /// The vector of a number: different ones for different numbers.
 fn vector(number: u32) -> [Elem; 8] {
-    (u64::from(number) * 0x9E37_79B9).to_le_bytes()
+    let bytes = (u64::from(number) * 0x9E37_79B9).to_le_bytes();
+    bytes.map(|byte| Elem::from(byte))
 }
 
 /// The rows whose vectors are those of the numbers below a count, none of which is found before it is pushed.

@@ -7,6 +7,7 @@ use Rattle.std.proofs.lemmas.List.FromFn.{length-range_with_len, get_or-range_wi
 use Rattle.ua_table.specs.Algebras.{FiniteAlgebra}
 use Rattle.ua_table.proofs.Lists.{all_at, all_weaker, all_map, Contains-map, Contains-map_from, Contains-flat_map}
 use Rattle.ua_part.specs.Partitions.{Partition, IsPart}
+use Rattle.ua_table.specs.declared.limits.TheConstants.{SIZE}
 use Rattle.ua_prod.specs.Congruences.{IsCongruence, IsCg}
 use Rattle.ua_cong.specs.Closings.{IsPrincipal}
 use Rattle.ua_cong.specs.Principals.{pairs_with, pairs_below, ArePrincipals}
@@ -15,14 +16,14 @@ use Rattle.ua_lattice.specs.Distinct.{parts_of}
 
 -- ---- the pairs of elements
 
-few_together : (f : ℕ → List (ℕ × ℕ)) → ((x : ℕ) → length (f x) ≤ 255) → (xs : List ℕ) → length (flat_map f xs) ≤ length xs * 255
+few_together : (f : ℕ → List (ℕ × ℕ)) → ((x : ℕ) → length (f x) ≤ SIZE) → (xs : List ℕ) → length (flat_map f xs) ≤ length xs * SIZE
 few_together f each [] = omega arith
 few_together f each (x ∷ xs) =
     let n = length-append (f x) (flat_map f xs) in
     let rest = few_together f each xs in
     omega (arith, n, rest, each x)
 
-pub few_pairs : (n : ℕ) → n ≤ 255 → length (pairs_below n) ≤ 65025
+pub few_pairs : (n : ℕ) → n ≤ SIZE → length (pairs_below n) ≤ SIZE * SIZE
 few_pairs n small =
     let all = few_together (pairs_with n) (λ x.
     let long = length-map {B = ℕ × ℕ} (range_with_len (x + 1) (n - (x + 1))) (λ (y : ℕ). (x, y)) in
@@ -52,14 +53,14 @@ module _ (a : FiniteAlgebra) (list : List (ℕ × ℕ × Partition)) (h : ArePri
   pub parts_congruences : AllByRecursion (IsCongruence a) (parts_of list)
   parts_congruences = all_map (IsCongruence a) (λ (e : ℕ × ℕ × Partition). e.2) list (all_weaker (IsPrincipal a) (λ (e : ℕ × ℕ × Partition). IsCongruence a e.2) (λ e p. p.congruence) list h.principal)
 
-  pub parts_few : a.size ≤ 255 → length list ≤ 65025
+  pub parts_few : a.size ≤ SIZE → length list ≤ SIZE * SIZE
   parts_few small =
       let n = length-map {B = ℕ × ℕ} list (λ (e : ℕ × ℕ × Partition). (e.0, e.1)) in
       let is = ap length h.pairs in
       let few = few_pairs a.size small in
       omega (arith, n, is, few)
 
-pub congruence_part : (a : FiniteAlgebra) (p : Partition) → a.size ≤ 255 → IsCongruence a p → IsPart p
+pub congruence_part : (a : FiniteAlgebra) (p : Partition) → a.size ≤ SIZE → IsCongruence a p → IsPart p
 congruence_part a p small h = record { partition = h.partition; few = (let n = h.size in omega (arith, n, small)) }
 
 pub sizes_of : (a : FiniteAlgebra) (ps : List Partition) → AllByRecursion (IsCongruence a) ps → AllByRecursion (λ (p : Partition). length p ≡ a.size) ps

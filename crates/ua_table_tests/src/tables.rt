@@ -2,9 +2,9 @@
 
 ghost use Rattle.std.specs.Prelude.{◌≡◌, IfOk};
 
+use ua_table::{Algebra, AlgebraError, Elem, Name, NameError, OpTable, TableError, Vectors};
 use std::alloc::Global;
 use std::test::Fail;
-use ua_table::{Algebra, AlgebraError, Elem, Name, NameError, OpTable, TableError, Vectors};
 
 /// Why there is no such operation, if there is none.
 fn table_error(
@@ -77,8 +77,15 @@ fn names(rt: HostRuntime) -> Result<(), Fail> {
 #[test]
 fn operations_refused_in_order(rt: HostRuntime) -> Result<(), Fail> {
     for (name, size, arity, values, error) in [
-        (b"f".as_slice(), 0, 9, [].as_slice(), Some(TableError::Size)),
-        (b"f", 256, 0, &[0], Some(TableError::Size)),
+        (
+            b"f".as_slice(),
+            0,
+            9,
+            [].as_slice(),
+            Some(TableError::Size),
+        ),
+        (b"f", 1001, 0, &[0], Some(TableError::Size)),
+        (b"f", 1000, 4, &[], Some(TableError::Size)),
         (b"f", 2, 25, &[], Some(TableError::Size)),
         (b"f", 255, 255, &[], Some(TableError::Size)),
         (b"f", 2, 24, &[], Some(TableError::Arity)),
@@ -89,7 +96,7 @@ fn operations_refused_in_order(rt: HostRuntime) -> Result<(), Fail> {
         (b"x12", 2, 1, &[1, 0], Some(TableError::Reserved)),
         (b"x", 2, 1, &[1, 0], None),
         (b"x1y", 2, 1, &[1, 0], None),
-        (b"gens", 255, 0, &[254], None),
+        (b"gens", 1000, 0, &[999], None),
     ] {
         let answer = table_error(rt.alloc(), name, size, arity, values)?;
         assert_eq!(rt; answer, error, "{size} {arity} {values:?}");
@@ -118,12 +125,12 @@ fn algebras_refused_in_order(rt: HostRuntime) -> Result<(), Fail> {
     let repeated = [b"a".as_slice(), b"b", b"c", b"b", b"a"];
     for (size, op_size, names, error) in [
         (0, 1, &many[..0], Some(AlgebraError::Size)),
-        (256, 1, &many[..0], Some(AlgebraError::Size)),
+        (1001, 1, &many[..0], Some(AlgebraError::Size)),
         (3, 2, &many, Some(AlgebraError::Size)),
         (3, 3, &many, Some(AlgebraError::TooManyOps)),
         (3, 3, &repeated, Some(AlgebraError::DuplicateOp(3))),
         (3, 3, &repeated[..3], None),
-        (255, 1, &many[..0], None),
+        (1000, 1, &many[..0], None),
     ] {
         let ops = constants(rt.alloc(), names, op_size)?;
         assert_eq!(rt;

@@ -1,8 +1,10 @@
-//! Tests of texts: algebras, terms, steps and scripts.
+//! Tests of the text: tokens, blocks, terms, steps and scripts.
 #![tactic(auto)]
 
 #[cfg(test)]
 mod algebras;
+#[cfg(test)]
+mod blocks;
 #[cfg(test)]
 mod faults;
 #[cfg(test)]
@@ -15,3 +17,5 @@ mod steps;
 mod terms;
 #[cfg(test)]
 mod values;
+#[cfg(test)]
+mod versions;

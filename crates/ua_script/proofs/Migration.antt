@@ -1,0 +1,89 @@
+-- What is well formed in a version is well formed in version 2.
+use Rattle.std.proofs.Common.{inl, inr, ℕ, zero, suc, ◌<◌, get_or, length, List, [], ◌∷◌, refl, arith}
+use Rattle.std.specs.List.{AllByRecursion}
+use Rattle.ua_text.specs.declared.named.Block.{Block}
+use Rattle.ua_text.specs.Blocks.{IsBlock, MayName}
+use Rattle.ua_text.proofs.BlocksRead.{limited}
+use Rattle.ua_script.specs.declared.script.Entry.{Entry}
+use Rattle.ua_script.specs.declared.script.Entry.TheVariants as entries
+use Rattle.ua_script.specs.declared.script.Items.{Items}
+use Rattle.ua_script.specs.declared.script.Provable.{Provable}
+use Rattle.ua_script.specs.declared.script.Provable.TheVariants as provables
+use Rattle.ua_script.specs.declared.script.MakeForm.{MakeForm}
+use Rattle.ua_script.specs.declared.script.MakeForm.TheVariants as forms
+use Rattle.ua_script.specs.declared.script.Command.{Command}
+use Rattle.ua_script.specs.declared.script.Command.TheVariants as commands
+use Rattle.ua_script.specs.declared.script.Item.{Item}
+use Rattle.ua_script.specs.declared.script.Item.TheVariants as items
+use Rattle.ua_script.specs.declared.script.Script.{Script}
+use Rattle.ua_script.specs.Grammar.{IsEntry, IsVector, AreVectors, IsProvable, IsConstruction, IsCommand, IsItem, IsWellFormed, migrated}
+
+later_names : (version size : ℕ) (names : List (List ℕ)) → MayName version size names → MayName 2 size names
+later_names version size names (inl e) = inl e
+later_names version size names (inr m) = inr (refl, m.1)
+
+later_block : (version : ℕ) (b : Block) → IsBlock version b → IsBlock 2 b
+later_block version b h = let a = h.algebra in record {
+  algebra = record { inhabited = a.inhabited; small = limited version b.algebra.size a.small; few = a.few; each = a.each; names = a.names };
+  names = later_names version b.algebra.size b.names h.names;
+}
+
+later_entries : (version : ℕ) (es : List Entry) → AllByRecursion (IsEntry version) es → AllByRecursion (IsEntry 2) es
+later_entries version [] h = tt
+later_entries version (entries.Number n ∷ es) h = (tt, later_entries version es h.1)
+later_entries version (entries.Word w ∷ es) h = (refl, later_entries version es h.1)
+
+later_vector : (version : ℕ) (v : Items) → IsVector version v → IsVector 2 v
+later_vector version v h = later_entries version v.values h
+
+later_vectors : (version : ℕ) (vs : List Items) → AreVectors version vs → AreVectors 2 vs
+later_vectors version [] h = tt
+later_vectors version (v ∷ vs) h = (later_vector version v h.0, later_vectors version vs h.1)
+
+later_provable : (version : ℕ) (p : Provable) → IsProvable version p → IsProvable 2 p
+later_provable version (provables.Close a w gens) h = later_vectors version gens h
+later_provable version (provables.Member a w gens target) h = (later_vectors version gens h.0, later_vector version target h.1)
+later_provable version (provables.Cond a name) h = tt
+later_provable version (provables.Nu a k) h = tt
+later_provable version (provables.Jonsson a) h = tt
+later_provable version (provables.Hm a) h = tt
+
+later_construction : (version : ℕ) (m : MakeForm) → IsConstruction version m → IsConstruction 2 m
+later_construction version (forms.Product a b) h = tt
+later_construction version (forms.Quotient a p) h = h
+later_construction version (forms.Sub a v) h = later_vector version v h
+later_construction version (forms.Reduct a ops) h = h
+
+later_command : (version : ℕ) (c : Command) → IsCommand version c → IsCommand 2 c
+later_command version (commands.Ask what m cert) h = (h.0, later_provable version what h.1)
+later_command version (commands.Free a k m) h = tt
+later_command version (commands.Sub a set) h = later_vector version set h
+later_command version (commands.Ones a) h = tt
+later_command version (commands.Eval a t args) h = (h.0, later_vector version args h.1)
+later_command version (commands.Cg a pairs) h = later_vectors version pairs h
+later_command version (commands.Con a) h = tt
+later_command version (commands.Types a) h = tt
+later_command version (commands.Central a alpha beta delta) h = h
+later_command version (commands.Comm a alpha beta) h = h
+later_command version (commands.Series a kind) h = tt
+later_command version (commands.Holds a left right) h = h
+later_command version (commands.Hom a b gens images) h = (later_vector version gens h.0, later_vector version images h.1)
+later_command version (commands.Check a json) h = tt
+later_command version (commands.Make place name what) h = later_construction version what h
+
+later : (version : ℕ) (i : Item) → IsItem version i → IsItem 2 i
+later version (items.Block b) h = later_block version b h
+later version (items.Command c) h = later_command version c h
+
+all_later : (version : ℕ) (is : List Item) → AllByRecursion (IsItem version) is → AllByRecursion (IsItem 2) is
+all_later version [] h = tt
+all_later version (i ∷ is) h = (later version i h.0, all_later version is h.1)
+
+pub later_at : (version : ℕ) (is : List Item) (n : ℕ) (d : Item) → n < length is → AllByRecursion (IsItem version) is → IsItem 2 (get_or is n d)
+later_at version [] n d l h = absurd (omega arith)
+later_at version (i ∷ is) zero d l h = later version i h.0
+later_at version (i ∷ is) (suc n) d l h = later_at version is n d (omega arith) h.1
+
+-- The law: a migrated script is well formed.
+pub well_formed_later : (built : List (List ℕ)) (s : Script) → IsWellFormed built s → IsWellFormed built (migrated s)
+well_formed_later built s h = record { known = inr refl; spelled = h.spelled; each = all_later s.version s.items h.each; names = h.names }
