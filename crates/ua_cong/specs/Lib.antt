@@ -1,3 +1,4 @@
 pub mod Closings
 pub mod States
 pub mod Principals
+pub mod Known

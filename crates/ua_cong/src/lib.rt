@@ -2,8 +2,9 @@
 #![tactic(auto)]
 
 mod closing;
+mod known;
 mod pairs;
 
 pub use closing::cg;
-pub use pairs::principals;
+pub use pairs::{distinct_principals, principals};
 pub use ua_prod::{Clash, is_congruence};
