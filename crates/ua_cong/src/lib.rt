@@ -6,5 +6,6 @@ mod known;
 mod pairs;
 
 pub use closing::cg;
+pub use known::enter;
 pub use pairs::{distinct_principals, principals};
 pub use ua_prod::{Clash, is_congruence};
