@@ -1,12 +1,12 @@
 -- Rows that are entered, and principal congruences that become known.
-use Rattle.std.proofs.Common.{◌≡◌, ℕ, ◌+◌, ◌<◌, ◌≤◌, List, [], ◌∷◌, ◌++◌, length, refl, sym, ap, ◌∙◌, subst, arith, ⊎_elim, append-nil, length-append}
+use Rattle.std.proofs.Common.{◌≡◌, ℕ, ◌+◌, ◌≤◌, List, [], ◌∷◌, ◌++◌, length, refl, sym, ap, ◌∙◌, subst, arith, ⊎_elim, append-nil, length-append}
 use Rattle.std.specs.Prelude.{Some, slice_get, slice_index_or, Contains}
 use Rattle.std.specs.List.{AllByRecursion}
 use Rattle.std.proofs.lemmas.List.{get_or_append_left}
 use Rattle.std.proofs.lemmas.List.Elements.{Contains-push}
 use Rattle.std.proofs.lemmas.Option.{get_or_from_slice_get, slice_get_within}
 use Rattle.ua_table.specs.Algebras.{FiniteAlgebra}
-use Rattle.ua_table.proofs.Lists.{all_append, all_weaker, all_from_contains, Contains-slice_get, Contains-cases, Contains-none}
+use Rattle.ua_table.proofs.Lists.{all_append, all_weaker, all_from_contains, Contains-cases, Contains-none}
 use Rattle.ua_part.specs.Partitions.{Partition}
 use Rattle.ua_cong.specs.declared.known.Known.{Known}
 use Rattle.ua_cong.specs.Closings.{AreElements, IsPrincipal}
@@ -60,18 +60,20 @@ module _ (a : FiniteAlgebra) (old new : Known) (first second place : ℕ) (row :
     width = width ∙ known.width;
     pairs = subst (AllByRecursion (IsKnownPair a new.rows.items)) (sym pairs)
         (all_append (IsKnownPair a new.rows.items) old.pairs.items ((first, second, place) ∷ [])
-        (all_weaker (IsKnownPair a old.rows.items) (IsKnownPair a new.rows.items) kept_pair old.pairs.items known.pairs)
-        (record {
-          place = slice_get_within new.rows.items place row at;
-          principal = subst (λ (p : Partition). IsPrincipal a (first, second, p)) (sym (get_or_from_slice_get new.rows.items place row [] at)) principal;
-        }, tt));
+        (all_weaker (IsKnownPair a old.rows.items) (IsKnownPair a new.rows.items) kept_pair old.pairs.items known.pairs) (
+          record {
+            place = slice_get_within new.rows.items place row at;
+            principal = subst (λ (p : Partition). IsPrincipal a (first, second, p)) (sym (get_or_from_slice_get new.rows.items place row [] at)) principal;
+          },
+          tt,
+        ));
     rows = subst (AllByRecursion (IsPrincipalCongruence a)) (sym e.is)
         (all_append (IsPrincipalCongruence a) old.rows.items e.more known.rows
         (all_from_contains (IsPrincipalCongruence a) e.more (λ p c. record { pair = (first, second); elements = elements; principal = subst (λ (q : Partition). IsPrincipal a (first, second, q)) (sym (e.same p c)) principal })));
     few = (
-      let more = entry_few old.rows.items row new.rows.items e in
-      let few = known.few in
-      let long = length-append old.pairs.items ((first, second, place) ∷ []) in
-      let is = ap length pairs in
-      omega (arith, more, few, long, is));
+        let more = entry_few old.rows.items row new.rows.items e in
+        let few = known.few in
+        let long = length-append old.pairs.items ((first, second, place) ∷ []) in
+        let is = ap length pairs in
+        omega (arith, more, few, long, is));
   }

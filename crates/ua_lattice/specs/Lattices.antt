@@ -44,10 +44,6 @@ pub record AreIrreducible (pairs : List (ℕ × ℕ)) (places : List ℕ) : Type
   pub in_order : IsStrictlyIncreasing places
   pub all : (j : ℕ) → Contains places j ↔ (count_by (λ (pair : ℕ × ℕ). pair.1 == j) pairs ≡ 1)
 
--- each pair of elements has its principal congruence in the list
-abbrev pub HasPrincipals : FiniteAlgebra → List Partition → Type 0
-HasPrincipals a list = (x y : ℕ) → x < y → y < a.size → (k : Partition) × Contains list k × IsCg a ((x, y) ∷ []) k
-
 -- each two of the list have their join in it
 abbrev pub IsJoinClosed : List Partition → Type 0
 IsJoinClosed list = (p q : Partition) → Contains list p → Contains list q → (r : Partition) × Contains list r × IsJoin p q r

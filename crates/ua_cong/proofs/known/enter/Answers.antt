@@ -1,4 +1,3 @@
-use Rattle.std.proofs.Common.{sym}
 use Rattle.ua_table.proofs.Lists.{Contains-slice_get}
 use Rattle.ua_cong.proofs.EntryLaws.{entered_there, entered_new, pushed_at}
 use Rattle.ua_cong.proofs.known.enter.Goals as goal

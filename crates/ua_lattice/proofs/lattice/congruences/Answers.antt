@@ -6,6 +6,16 @@ use Rattle.ua_lattice.specs.Joins.{IsSpannedLattice, AreAmong}
 use Rattle.ua_lattice.proofs.WholeLaws.{arranged_length, exceeding_list, spanned_list, congruence_list, covers_within}
 use Rattle.ua_lattice.proofs.lattice.congruences.Goals as goal
 
+-- the principal congruences alone are more
+pub returns-then-len-budget : goal.returns-then-len-budget
+returns-then-len-budget g c =
+    let a = c.args.a.now in
+    let rows = c.in_ok-principals.principals.items in
+    let few = c.in_ok-principals.ensures.principals.few in
+    let more = c.if-len-budget.true in
+    let long = c.len.ensures.len in
+    exceeding_list rows c.in_ok-parts.parts.items c.in_ok-parts.ensures a c.args.run.now.budget (principal_congruences a rows c.in_ok-principals.ensures.principals.principal) (omega (arith, few, more, long))
+
 pub returns-then-not-whole : goal.returns-then-not-whole
 returns-then-not-whole g c =
     exceeding_list c.take_in_all.new.found.rows.items c.in_ok-list.list.items c.in_ok-list.ensures c.args.a.now c.args.run.now.budget c.in_ok-whole.ensures.congruences (c.in_ok-whole.ensures.exceeds c.if-not-whole.true)
