@@ -1,5 +1,5 @@
 -- The lattice of an algebra's congruences.
-use Rattle.std.specs.Prelude.{◌≡◌, ◌≢◌, ℕ, ◌+◌, ◌<◌, ◌≤◌, ◌==◌, ◌↔◌, List, [], ◌∷◌, ◌++◌, length, slice_index_or, Contains, count_by}
+use Rattle.std.specs.Prelude.{◌≡◌, ◌≢◌, ℕ, ◌+◌, ◌<◌, ◌≤◌, ◌==◌, ◌↔◌, List, [], ◌++◌, length, slice_index_or, Contains, count_by}
 use Rattle.std.specs.List.{AllByRecursion}
 use Rattle.std.specs.List.Sorted.{IsStrictlySortedBy, IsStrictlyIncreasing}
 use Rattle.std.specs.Cmp.Lexicographic.{slice_cmp}
@@ -8,7 +8,7 @@ use Rattle.std.specs.declared.cmp.Ordering.{Ordering}
 use Rattle.ua_table.specs.Algebras.{FiniteAlgebra}
 use Rattle.ua_part.specs.Partitions.{Partition, LiesBelow, IsJoin}
 use Rattle.ua_part.specs.Blocks.{block_count}
-use Rattle.ua_prod.specs.Congruences.{IsCongruence, IsCg}
+use Rattle.ua_prod.specs.Congruences.{IsCongruence}
 
 -- by number of blocks downwards, then by entries
 abbrev pub by_blocks : Partition → Partition → Ordering
