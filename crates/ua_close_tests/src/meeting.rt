@@ -80,7 +80,7 @@ fn two_workers_meet(rt: HostRuntime) -> Result<(), Fail> {
     assert!(rt; meeting.met.load(Ordering::SeqCst));
     assert_eq!(rt; list.len(), 8);
     for i in 0..list.len() {
-        let n = i as u8;
+        let n = i as Elem;
         assert_eq!(rt; list.row(i), [n / 4, n / 2 % 2, n % 2].as_slice());
     }
     Ok(())
@@ -96,7 +96,7 @@ fn same_vectors(rt: &impl Abort, one: &Listing, other: &Listing) {
 
 /// The values of a permutation that moves each element from one up to another to the next one, and the
 /// last to the first, and no others.
-fn cycle(alloc: Global, from: u8, to: u8) -> Result<Vec<Elem>, Fail>
+fn cycle(alloc: Global, from: Elem, to: Elem) -> Result<Vec<Elem>, Fail>
     requires { from < to }
 {
     let mut values = Vec::new(alloc);
