@@ -89,6 +89,12 @@ vectors_admitted k width vs h = all_admitted k width vs (each_passes (vector_in 
 
 -- ---- pairs
 
+-- the element at a place
+pub value_at : (k : Block) (es : List Entry) (i : ℕ) (e : Entry) → i < length es → e ≡ get_or es i e → value_of k e ≡ slice_index (map (value_of k) es) i
+value_at k [] i e h is = absurd (omega arith)
+value_at k (d ∷ es) zero e h is = ap (value_of k) is
+value_at k (d ∷ es) (suc i) e h is = value_at k es i e (omega arith) is
+
 pair_below : (k : Block) (es : List Entry) → length es ≡ 2 → AllByRecursion (λ x. x < k.algebra.size) (map (value_of k) es) → IsPairIn k (slice_index (map (value_of k) es) 0, slice_index (map (value_of k) es) 1)
 pair_below k [] e h = absurd (omega (arith, e))
 pair_below k (m ∷ []) e h = absurd (omega (arith, e))
