@@ -22,9 +22,10 @@ fn value(alloc: Global, known: &Known, term: &Written, args: &Items) -> Result<E
     requires args { Passes (elements_in known.now args.now.values) }
     ensures { IfOk result (λ v. v ≡ eval known.now.algebra (values_of known.now args.now) (tree_in known.now.algebra term.now)) }
 {
+    let algebra = known.algebra();
     let args = elements(alloc, known, args)?;
-    match term.resolve(alloc, known.algebra()) {
-        Ok(term) => Ok(eval(known.algebra(), &term, &args)),
+    match term.resolve(alloc, algebra) {
+        Ok(term) => Ok(eval(algebra, &term, &args)),
         Err(TermFault::OutOfMemory) => Err(AllocError),
         Err(_) => unreachable!(),
     }
