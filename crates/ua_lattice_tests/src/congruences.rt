@@ -63,6 +63,7 @@ fn different_ones(rt: HostRuntime) -> Result<(), Fail> {
     for workers in [1, 2, 16] {
         let rows = distinct_principals(&rt, alloc, &algebra, 100, workers)?;
         assert_eq!(rt; rows.len(), 2);
+        assert_eq!(rt; rows.width(), 6);
         assert!(rt; rows.find(&[0, 0, 0, 3, 3, 3]).is_some());
         assert!(rt; rows.find(&[0; 6]).is_some());
         let first = distinct_principals(&rt, alloc, &algebra, 1, workers)?;
