@@ -1,15 +1,18 @@
 #!/usr/bin/env python3
 """Times `con`, with one worker, on algebras of known congruence lattices: bench/congruences.py PROGRAM
 
-For each algebra the number of congruences that the program answers and its processor time are printed, and whether the
-number is the known one.
+For each algebra the number of congruences that the program answers, its processor time and its peak memory are printed,
+and whether the number is the known one.
 """
 
 import itertools
+import os
 import random
-import resource
 import subprocess
 import sys
+import tempfile
+
+BUDGET = 10000
 
 
 def block(size, operations):
@@ -65,6 +68,19 @@ def groupoid(size):
     return block(size, [(2, lambda a, b: table[a][b])]), 2
 
 
+def measured(program, text, *words):
+    """The first line of the reply, processor seconds, and peak MiB of a run."""
+    with tempfile.TemporaryFile() as source:
+        source.write(text.encode())
+        source.seek(0)
+        run = subprocess.Popen([program, *words], stdin=source, stdout=subprocess.PIPE)
+        head = run.stdout.read().partition(b"\n")[0].decode()
+        _, status, used = os.wait4(run.pid, 0)
+        run.returncode = os.waitstatus_to_exitcode(status)
+        run.stdout.close()
+    return head, used.ru_utime + used.ru_stime, used.ru_maxrss / 1024
+
+
 def main():
     if len(sys.argv) != 2:
         sys.exit(__doc__)
@@ -76,15 +92,14 @@ def main():
         ("elementary abelian group of 64", *elementary_abelian(64, 2825)),
         ("cycle of 255", *cycle(255, 8)),
         ("random operation on 200 elements", *groupoid(200)),
+        ("cycle of 997", *cycle(997, 2)),
+        ("chain of 300", *chain(300)),
     ]
     for name, algebra, known in workloads:
-        before = resource.getrusage(resource.RUSAGE_CHILDREN).ru_utime
-        command = [sys.argv[1], "--workers", "1"]
-        run = subprocess.run(command, input=f"{algebra}con A\n".encode(), stdout=subprocess.PIPE, check=True)
-        seconds = resource.getrusage(resource.RUSAGE_CHILDREN).ru_utime - before
-        head = run.stdout.split(b"\n", 1)[0].decode()
-        verdict = "as known" if head == f"congruences {known}" else f"NOT {known}"
-        print(f"{name:34} {head:18} {seconds:8.2f} s  {verdict}")
+        wanted = f"congruences {known}" if known <= BUDGET else f"exceeds {BUDGET}"
+        head, seconds, peak = measured(sys.argv[1], f"{algebra}con A\n", "--workers=1", f"--budget={BUDGET}")
+        verdict = "as known" if head == wanted else f"NOT {wanted}"
+        print(f"{name:34} {head:18} {seconds:8.2f} s {peak:6.0f} MiB  {verdict}", flush=True)
 
 
 if __name__ == "__main__":
