@@ -30,7 +30,7 @@ fn refuses_both<R: Threads + Abort + Sync>(
 ) -> Result<(), Fail> {
     refuses(rt, alloc, script, fault)?;
     let TextFault { line, column, kind } = fault;
-    let line = line + 1;
+    let line = line.saturating_add(1);
     let script = format!(in alloc; "version 2\n{script}")?;
     refuses(rt, alloc, &script, TextFault { line, column, kind })
 }
