@@ -1,11 +1,17 @@
 //! Laws of closures, and of the steps on a board: each function does nothing, and its contract states them.
 
-ghost use Rattle.std.specs.Prelude.{ℕ, List, length};
-ghost use Rattle.ua_table.specs.Algebras.{Vector, Product, arities};
+ghost use Rattle.std.specs.Prelude.{ℕ, ◌<◌, ◌≤◌, List, length};
+ghost use Rattle.std.specs.List.{AllByRecursion};
+ghost use Rattle.ua_table.specs.Algebras.{Vector, Product, IsProduct, IsVector, arities};
+ghost use Rattle.ua_table.specs.Generated.{HasMoreThan};
+ghost use Rattle.ua_table.specs.Listings.{Row, vectors_of, IsListing, IsClosedListing};
 ghost use Rattle.ua_table.specs.Numbering.{Fits};
 ghost use Rattle.ua_close.specs.Answers.{IsWide};
 ghost use Rattle.ua_log.specs.declared.views.Plan.{Plan};
+ghost use Rattle.ua_work.specs.declared.goals.Goal.{Goal};
+ghost use Rattle.ua_work.specs.Goals.{Meets};
 ghost use Rattle.ua_work.specs.Harvests.{IsPlanOf};
+ghost use Rattle.ua_close.specs.Kinds.{cardinality, HasAnswer, HasClosedListing};
 ghost use Rattle.ua_close.specs.Steps.{LoadFound, LoadEmpty, LoadBelow, PutWon, PutLost, LoadIdle, LoadKnow, ClaimWon, ClaimLost, HaltSet, SeatSplit, SeatJoin, SeatsAreViews, StartIsRead, GatheredIsRead};
 
 /// Each step on the words and views of a board is an event of its worker in the machine that is read of
@@ -33,6 +39,16 @@ pub fn readings()
     ensures seats { SeatsAreViews }
     ensures start { StartIsRead }
     ensures gathered { GatheredIsRead }
+{}
+
+/// For each budget there is a closed listing or an exceeding one; never both, as the laws of listings say. A
+/// subuniverse has no more members than the product has vectors: in width 1, than the algebra has elements.
+/// So a budget of as many has a closed listing. What some listing meets, each closed one meets.
+pub fn kinds()
+    ensures one { (p : Product) (gens : List Vector) (b : ℕ) → IsProduct p → AllByRecursion (IsVector p) gens → HasAnswer p gens b }
+    ensures few { (p : Product) (gens : List Vector) (b : ℕ) → IsProduct p → AllByRecursion (IsVector p) gens → HasMoreThan p gens b → b < cardinality p }
+    ensures closed { (p : Product) (gens : List Vector) (b : ℕ) → IsProduct p → AllByRecursion (IsVector p) gens → cardinality p ≤ b → HasClosedListing p gens b }
+    ensures goals { (p : Product) (gens : List Vector) (goal : Goal) (b : ℕ) (rows others : List Row) → IsListing p gens rows → Meets goal (vectors_of rows) → IsClosedListing p gens b others → Meets goal (vectors_of others) }
 {}
 
 /// The records of a closure that is not too wide fit in their numbering.

@@ -216,7 +216,8 @@ fn search_of(
 ) -> Result<Search, AllocError>
     requires admitted { AllByRecursion (IsVector frame.now) gens.now.items }
     requires closed { IsClosedWithin frame.now gens.now.items list.now }
-    ensures { IfOk result (IsWholeSearch frame.now gens.now.items (vectors_of list.now)) }
+    ensures search { IfOk result (IsWholeSearch frame.now gens.now.items (vectors_of list.now)) }
+    ensures shape { IfOk result (λ _. IsShape (arities frame.now)) }
 {
     let table = table_of(alloc, frame, gens, list)?;
     let mut scratch = Scratch::new(alloc, frame.width())?;
@@ -242,14 +243,7 @@ pub fn least(
     requires closed { IsClosedWithin frame.now gens.now.items list.now }
     ensures { IfOk result (λ least. (b : ℕ) → IsClosedListing frame.now gens.now.items b list.now → IsLeast frame.now gens.now.items b least) }
 {
-    let shape = frame.shape(alloc)?;
     let search = search_of(alloc, frame, gens, list)?;
     let places = by_height(alloc, search.heights.as_slice())?;
-    list.rearranged(
-        alloc,
-        &shape,
-        frame.width(),
-        places.as_slice(),
-        search.origins,
-    )
+    list.rearranged(alloc, frame.width(), places.as_slice(), search.origins)
 }

@@ -31,7 +31,8 @@ struct Index {
 /// Rows in order of their vectors, each with its rank and its origin, which names rows by position.
 #[derive(Drop, Debug)]
 pub struct Listing {
-    records: Records,
+    /// The vectors by rank.
+    rows: Rows,
     index: Index,
 }
 
@@ -41,12 +42,11 @@ impl Model for Listing {
 
     ghost Value = { List Row };
 
-    ghost use Rattle.ua_table.specs.Orders.{rows_of};
     ghost use Rattle.ua_listing.specs.Arrangements.{listed, IsIndex};
 
-    ghost view = { λ a. listed (rows_of a.records) a.index.ranks.items a.index.origins.items };
+    ghost view = { λ a. listed a.rows.items a.index.ranks.items a.index.origins.items };
 
-    ghost invariant = { λ a. IsIndex (rows_of a.records) a.index.ranks.items a.index.positions.items a.index.origins.items };
+    ghost invariant = { λ a. IsIndex a.rows.items a.index.ranks.items a.index.positions.items a.index.origins.items };
 }
 
 /// The positions of the first arguments, which are ranks, and the other arguments as they are.
@@ -130,27 +130,10 @@ pub fn listing_of(
 {
     let records = Records::new(rows, origins);
     let index = index_of(alloc, shape, &records)?;
-    Ok(Listing { records, index })
-}
-
-/// The origins at these positions, with ranks in place of positions.
-fn origins_by_rank(
-    alloc: Global,
-    shape: &Shape,
-    ranks: &[u32],
-    places: &[u32],
-    origins: &[Origin],
-) -> Result<Vec<Origin>, AllocError>
-    requires count { length origins.now ≡ length ranks.now }
-    requires origins { AllByRecursion (IsOriginOver shape.now (length ranks.now)) origins.now }
-    requires places { AllByRecursion (λ q. q < length ranks.now) places.now }
-    ensures { IfOk result (λ moved. length moved.items ≡ length places.now) }
-{
-    let mut moved_origins = Vec::with_capacity(alloc, places.len())?;
-    for place in places {
-        moved_origins.push(moved(shape, ranks, origins[*place as usize]))?;
-    }
-    Ok(moved_origins)
+    Ok(Listing {
+        rows: records.into_rows(),
+        index,
+    })
 }
 
 impl Listing {
@@ -158,7 +141,7 @@ impl Listing {
     pub fn len(&self) -> u32
         ensures { result ≡ length self.now }
     {
-        self.records.len()
+        self.rows.len()
     }
 
     /// The vector of row i, counted from 0 in the order of the vectors.
@@ -166,7 +149,7 @@ impl Listing {
         requires { i < length self.now }
         ensures { slice_get (vectors_of self.now) i ≡ Some result.now }
     {
-        self.records.row(self.index.ranks[i as usize])
+        self.rows.row(self.index.ranks[i as usize])
     }
 
     /// The rank of row i: how many rows were found before it.
@@ -198,7 +181,10 @@ impl Listing {
         ensures found { IfSome result (λ i. slice_get (vectors_of self.now) i ≡ Some v.now) }
         ensures absent { IfNone result (¬ Contains (vectors_of self.now) v.now) }
     {
-        let rank = self.records.find(v)?;
+        if v.len() != self.rows.width() as usize {
+            return None;
+        }
+        let rank = self.rows.find(v)?;
         Some(self.index.positions[rank as usize])
     }
 
@@ -227,7 +213,6 @@ impl Listing {
     pub(crate) fn rearranged(
         &self,
         alloc: Global,
-        shape: &Shape,
         width: u32,
         places: &[u32],
         origins: Vec<Origin>,
@@ -238,17 +223,15 @@ impl Listing {
         requires all { length places.now ≡ length self.now }
         requires few { length places.now < 2 ^ 32 }
         requires count { length origins.items ≡ length self.now }
-        requires origins { AllByRecursion (IsOriginOver shape.now (length self.now)) origins.items }
         ensures vectors { IfOk result (λ list. vectors_of list ≡ vectors_of self.now) }
         ensures ranks { IfOk result (λ list. ArePositions places.now (ranks_of list)) }
         ensures origins { IfOk result (λ list. origins_of list ≡ origins.items) }
     {
         let rows = self.rows_at(alloc, width, places)?;
         let ranks = positions_of(alloc, places)?;
-        let moved = origins_by_rank(alloc, shape, ranks.as_slice(), places, origins.as_slice())?;
         let positions = places.to_vec(alloc)?;
         Ok(Listing {
-            records: Records::new(rows, moved),
+            rows,
             index: Index {
                 ranks,
                 positions,

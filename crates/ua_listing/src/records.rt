@@ -61,14 +61,10 @@ impl Records {
         self.origins[i as usize]
     }
 
-    /// The rank of a vector.
-    pub(crate) fn find(&self, v: &[Elem]) -> Option<u32>
-        ensures found { IfSome result (λ i. slice_get (rows_of self.now) i ≡ Some v.now) }
-        ensures absent { IfNone result (¬ Contains (rows_of self.now) v.now) }
+    /// The vectors alone.
+    pub(crate) fn into_rows(self) -> Rows
+        ensures { result.items ≡ rows_of self }
     {
-        if v.len() != self.rows.width() as usize {
-            return None;
-        }
-        self.rows.find(v)
+        self.rows
     }
 }

@@ -21,26 +21,16 @@ with_three : {A E : Type 0} (r : Result A E) (P Q R S : A → Type 0) → ((x : 
 with_three (Ok x) P Q R S f p q t = f x p q t
 with_three (Err e) P Q R S f p q t = tt
 
--- the origins of a whole search are over the rows
-origins_over : (p : Product) (gens : List Vector) (old : List Row) (s : Search) (ks : List ℕ) → IsClosedWithin p gens old → IsWholeSearch p gens (vectors_of old) s → IsShape (arities p) → ks ≡ arities p → AllByRecursion (IsOriginOver ks (length old)) s.origins.items
-origins_over p gens old s ks closed whole shape e = all_by_index (IsOriginOver ks (length old)) s.origins.items (Gen 0) (λ i h.
-    let low : i < length (vectors_of old) = (let n = whole.search.origins_count in omega (arith, h, n)) in
-    let f = is_first p gens (vectors_of old) s whole shape (increasing_different (vectors_of old) closed.closed.listing.increasing) closed.closed.exact i low in
-    subst (λ (x : List ℕ × ℕ). IsOriginOver x.0 x.1 (slice_index_or s.origins.items i (Gen 0))) (λ k. (sym e k, length-map old (λ (r : Row). r.vector) k)) (record { generators = length gens; valid = f.origin }))
-
 pub rearranged-requires-clause-widths : goal.rearranged-requires-clause-widths
 rearranged-requires-clause-widths c =
     all_weaker (IsVector c.args.frame.now) (λ (v : Vector). length v ≡ c.width.result) (λ v h. sym (AllZip-length _ c.args.frame.now v h) ∙ sym c.width.ensures.width) (vectors_of c.args.list.now)
     (closed_vectors c.args.frame.now c.args.gens.now.items c.width.ensures.product c.requires.admitted c.requires.closed.budget c.args.list.now c.requires.closed.closed)
 
-pub rearranged-requires-clause-origins : goal.rearranged-requires-clause-origins
-rearranged-requires-clause-origins c = origins_over c.args.frame.now c.args.gens.now.items c.args.list.now c.in_ok-search.search c.in_ok-shape.shape c.requires.closed c.in_ok-search.ensures c.in_ok-shape.ensures.shape c.in_ok-shape.ensures.arities
-
 pub returns : goal.returns
 returns c =
     with_three c.rearranged.result _ _ _ _
     (λ new vectors ranks origins b closed.
-    least_listing c.args.frame.now c.args.gens.now.items b c.args.list.now new c.in_ok-search.search c.in_ok-places.places.items closed c.in_ok-shape.ensures.shape c.in_ok-search.ensures
+    least_listing c.args.frame.now c.args.gens.now.items b c.args.list.now new c.in_ok-search.search c.in_ok-places.places.items closed c.in_ok-search.ensures.shape c.in_ok-search.ensures.search
     (subst (λ (hs : List ℕ). AreByHeight hs c.in_ok-places.places.items) c.as_slice.ensures.value c.in_ok-places.ensures) vectors
     (subst (λ (ps : List ℕ). ArePositions ps (ranks_of new)) c.as_slice-2.ensures.value ranks) origins)
     c.rearranged.ensures.vectors c.rearranged.ensures.ranks c.rearranged.ensures.origins

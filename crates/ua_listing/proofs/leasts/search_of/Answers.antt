@@ -4,6 +4,7 @@ use Rattle.std.proofs.lemmas.List.{length-map, length-replicate}
 use Rattle.ua_table.specs.Algebras.{Vector, Product, arities}
 use Rattle.ua_table.specs.Counting.{total, one_if}
 use Rattle.ua_table.specs.Listings.{Row}
+use Rattle.ua_table.specs.Numbering.{IsShape}
 use Rattle.ua_table.specs.Slices.{bound}
 use Rattle.ua_table.specs.VectorLists.{VectorList}
 use Rattle.ua_table.proofs.Lists.{Contains-none}
@@ -54,10 +55,15 @@ visit_generators-requires-clause-search c =
     (c.len.ensures ∙ sym (length-map c.args.list.now (λ (r : Row). r.vector)) ∙ sym (ap (length {A = Vector}) c.in_ok-table.ensures.rows))
     s.order s.reached s.heights s.origins
 
-pub returns : goal.returns
-returns c =
+pub returns-clause-search : goal.returns-clause-search
+returns-clause-search c =
     let t = c.in_ok-table.table in
     let e = c.in_ok-table.ensures in
     subst (λ (x : Product × List Vector × List Vector). IsWholeSearch x.0 x.1 x.2 c.visit_rows.new.search) (λ i. (e.operations i, ap (λ (v : VectorList). v.items) e.gens i, e.rows i))
     (whole_from t c.visit_generators.new.search c.visit_constants.new.search c.visit_rows.new.search e.table c.in_ok-visit_generators.ensures.visited c.in_ok-visit_constants.ensures.goes_on.later c.in_ok-visit_constants.ensures.visited
     c.in_ok-visit_rows.ensures.later c.in_ok-visit_rows.ensures.search c.in_ok-visit_rows.ensures.visited)
+
+pub returns-clause-shape : goal.returns-clause-shape
+returns-clause-shape c =
+    let e = c.in_ok-table.ensures in
+    subst IsShape (e.table.shape ∙ ap arities e.operations) e.table.limits

@@ -8,19 +8,19 @@ use Rattle.ua_listing.proofs.ArrangementLaws.{length-listed, row_at-index, rank-
 use Rattle.ua_listing.proofs.listing.Listing.row.Goals as goal
 
 pub index-requires : goal.index-requires
-index-requires c = omega (arith, c.requires, ap length c.self.view_is, length-listed (rows_of c.self.inside.records) c.self.inside.index.ranks.items c.self.inside.index.origins.items c.self.invariant.origins)
+index-requires c = omega (arith, c.requires, ap length c.self.view_is, length-listed c.self.inside.rows.items c.self.inside.index.ranks.items c.self.inside.index.origins.items c.self.invariant.origins)
 
 pub row-requires : goal.row-requires
 row-requires c =
-    let low : c.args.i < length c.self.inside.index.ranks.items = omega (arith, c.requires, ap length c.self.view_is, length-listed (rows_of c.self.inside.records) c.self.inside.index.ranks.items c.self.inside.index.origins.items c.self.invariant.origins) in
+    let low : c.args.i < length c.self.inside.index.ranks.items = omega (arith, c.requires, ap length c.self.view_is, length-listed c.self.inside.rows.items c.self.inside.index.ranks.items c.self.inside.index.origins.items c.self.invariant.origins) in
     let same = any_default c.self.inside.index.ranks.items c.args.i c.index.result.now 0 low in
-    let r = rank-below (rows_of c.self.inside.records) c.self.inside.index.ranks.items c.self.inside.index.positions.items c.self.inside.index.origins.items c.self.invariant c.args.i low in
-    omega (arith, r, same, c.index.ensures, length-map c.self.inside.records (λ (r : Record). r.0))
+    let r = rank-below c.self.inside.rows.items c.self.inside.index.ranks.items c.self.inside.index.positions.items c.self.inside.index.origins.items c.self.invariant c.args.i low in
+    omega (arith, r, same, c.index.ensures)
 
 pub returns : goal.returns
 returns c =
-    let low : c.args.i < length c.self.inside.index.ranks.items = omega (arith, c.requires, ap length c.self.view_is, length-listed (rows_of c.self.inside.records) c.self.inside.index.ranks.items c.self.inside.index.origins.items c.self.invariant.origins) in
+    let low : c.args.i < length c.self.inside.index.ranks.items = omega (arith, c.requires, ap length c.self.view_is, length-listed c.self.inside.rows.items c.self.inside.index.ranks.items c.self.inside.index.origins.items c.self.invariant.origins) in
     let same = c.index.ensures ∙ any_default c.self.inside.index.ranks.items c.args.i c.index.result.now 0 low in
     subst (λ (rows : List Row). slice_get (vectors_of rows) c.args.i ≡ Some c.row.result.now) c.self.view_is
-    (row_at-index (rows_of c.self.inside.records) c.self.inside.index.ranks.items c.self.inside.index.positions.items c.self.inside.index.origins.items c.self.invariant c.args.i c.row.result.now low
-    (subst (λ k. slice_get (rows_of c.self.inside.records) k ≡ Some c.row.result.now) same c.row.ensures))
+    (row_at-index c.self.inside.rows.items c.self.inside.index.ranks.items c.self.inside.index.positions.items c.self.inside.index.origins.items c.self.invariant c.args.i c.row.result.now low
+    (subst (λ k. slice_get c.self.inside.rows.items k ≡ Some c.row.result.now) same c.row.ensures.row))

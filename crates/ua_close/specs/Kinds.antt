@@ -1,0 +1,21 @@
+-- Which kind of listing there is.
+use Rattle.std.specs.Prelude.{ℕ, ◌*◌, List, [], ◌∷◌}
+use Rattle.ua_table.specs.Algebras.{FiniteAlgebra, Product, Vector}
+use Rattle.ua_table.specs.Listings.{Row, IsClosedListing}
+use Rattle.ua_close.specs.declared.close.Closure.{Closure}
+use Rattle.ua_close.specs.Answers.{Answers}
+
+-- how many vectors a product has
+abbrev pub cardinality : Product → ℕ
+cardinality [] = 1
+cardinality (a ∷ p) = a.size * cardinality p
+
+-- a closed or an exceeding listing
+pub record HasAnswer (p : Product) (gens : List Vector) (b : ℕ) : Type 0 where
+  pub closure : Closure
+  pub answers : Answers p gens b closure
+
+-- a closed listing
+pub record HasClosedListing (p : Product) (gens : List Vector) (b : ℕ) : Type 0 where
+  pub rows : List Row
+  pub closed : IsClosedListing p gens b rows
