@@ -6,6 +6,7 @@ ghost use Rattle.ua_table.specs.declared.origins.Origin.TheVariants.{Op};
 ghost use Rattle.ua_table.specs.Algebras.{IsVector, arities};
 ghost use Rattle.ua_table.specs.Counting.{numbers_below};
 ghost use Rattle.ua_table.specs.Listings.{vectors_of, IsClosedListing};
+ghost use Rattle.ua_table.specs.Numbering.{IsShape};
 ghost use Rattle.ua_table.specs.Orders.{IsLeast};
 ghost use Rattle.ua_table.specs.Slices.{bound, IsMark};
 ghost use Rattle.ua_listing.specs.Leasts.{IsClosedWithin};

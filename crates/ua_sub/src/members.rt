@@ -7,6 +7,7 @@ ghost use Rattle.ua_table.specs.Listings.{vectors_of, IsClosedListing};
 ghost use Rattle.ua_sub.specs.Members.{singles, AreMembers, AreOnes};
 
 use std::alloc::{AllocError, Global};
+use std::slice;
 use std::thread::Threads;
 use ua_close::{CloseError, Closure, Listing, close_set, laws};
 use ua_table::limits::SIZE;

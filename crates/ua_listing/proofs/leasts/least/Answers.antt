@@ -1,20 +1,11 @@
-use Rattle.std.proofs.Common.{◌≡◌, ◌<◌, ℕ, List, length, sym, ◌∙◌, subst, arith, Result, Ok, Err}
-use Rattle.std.specs.Prelude.{IfOk, slice_index_or}
-use Rattle.std.specs.List.{AllByRecursion}
-use Rattle.std.proofs.lemmas.List.{length-map}
-use Rattle.ua_table.specs.declared.origins.Origin.TheVariants.{Gen}
-use Rattle.ua_table.specs.Algebras.{Vector, Product, IsVector, arities}
-use Rattle.ua_table.specs.Listings.{Row, vectors_of, ranks_of}
-use Rattle.ua_table.specs.Numbering.{IsShape}
+use Rattle.std.proofs.Common.{◌≡◌, ℕ, List, length, sym, ◌∙◌, subst, Result, Ok, Err}
+use Rattle.std.specs.Prelude.{IfOk}
+use Rattle.ua_table.specs.Algebras.{Vector, IsVector}
+use Rattle.ua_table.specs.Listings.{vectors_of, ranks_of}
 use Rattle.ua_table.proofs.Lists.{all_weaker, AllZip-length}
-use Rattle.ua_listing.specs.Arrangements.{IsOriginOver}
-use Rattle.ua_listing.specs.Leasts.{IsClosedWithin, AreByHeight}
+use Rattle.ua_listing.specs.Leasts.{AreByHeight}
 use Rattle.ua_listing.specs.Rankings.{ArePositions}
-use Rattle.ua_listing.specs.Searches.{IsWholeSearch}
-use Rattle.ua_listing.specs.declared.searches.Search.{Search}
-use Rattle.ua_listing.proofs.HeightLaws.{is_first}
-use Rattle.ua_listing.proofs.LeastLaws.{closed_vectors, least_listing, all_by_index}
-use Rattle.ua_listing.proofs.RearrangeLaws.{increasing_different}
+use Rattle.ua_listing.proofs.LeastLaws.{closed_vectors, least_listing}
 use Rattle.ua_listing.proofs.leasts.least.Goals as goal
 
 with_three : {A E : Type 0} (r : Result A E) (P Q R S : A → Type 0) → ((x : A) → P x → Q x → R x → S x) → IfOk r P → IfOk r Q → IfOk r R → IfOk r S

@@ -4,7 +4,6 @@ use Rattle.std.proofs.lemmas.Option.{slice_get_within}
 use Rattle.ua_table.specs.Listings.{Row, vectors_of}
 use Rattle.ua_table.specs.Algebras.{Vector}
 use Rattle.ua_table.proofs.Lists.{any_default, all_at}
-use Rattle.ua_table.specs.Orders.{rows_of}
 use Rattle.ua_listing.specs.Arrangements.{listed}
 use Rattle.ua_listing.proofs.ArrangementLaws.{row_at-index, place_of, member-index}
 use Rattle.ua_listing.proofs.listing.Listing.find.Goals as goal

@@ -1,6 +1,4 @@
 use Rattle.std.proofs.Common.{length, ap, arith}
-use Rattle.std.proofs.lemmas.List.{length-map}
-use Rattle.ua_table.specs.Orders.{Record, rows_of}
 use Rattle.ua_listing.proofs.ArrangementLaws.{length-index}
 use Rattle.ua_listing.proofs.listing.Listing.len.Goals as goal
 

@@ -3,7 +3,6 @@ use Rattle.std.specs.Prelude.{slice_get}
 use Rattle.std.proofs.lemmas.Option.{slice_get_read}
 use Rattle.ua_table.specs.declared.origins.Origin.{Origin}
 use Rattle.ua_table.specs.Listings.{Row}
-use Rattle.ua_table.specs.Orders.{rows_of}
 use Rattle.ua_listing.specs.Arrangements.{origins_of}
 use Rattle.ua_listing.proofs.ArrangementLaws.{length-listed, origins_of-listed}
 use Rattle.ua_listing.proofs.listing.Listing.origin.Goals as goal

@@ -3,7 +3,6 @@ use Rattle.std.specs.Prelude.{slice_get, slice_index}
 use Rattle.std.proofs.lemmas.Option.{slice_get-get_or}
 use Rattle.ua_table.specs.Listings.{Row, ranks_of}
 use Rattle.ua_table.proofs.Lists.{any_default}
-use Rattle.ua_table.specs.Orders.{rows_of}
 use Rattle.ua_listing.specs.Arrangements.{listed}
 use Rattle.ua_listing.proofs.ArrangementLaws.{length-index, place_of, ranks_of-listed}
 use Rattle.ua_listing.proofs.listing.Listing.position.Goals as goal

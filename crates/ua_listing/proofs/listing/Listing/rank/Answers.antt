@@ -2,7 +2,6 @@ use Rattle.std.proofs.Common.{◌≡◌, ℕ, ◌<◌, List, length, ap, ◌∙�
 use Rattle.std.specs.Prelude.{slice_get}
 use Rattle.std.proofs.lemmas.Option.{slice_get_read}
 use Rattle.ua_table.specs.Listings.{Row, ranks_of}
-use Rattle.ua_table.specs.Orders.{rows_of}
 use Rattle.ua_listing.proofs.ArrangementLaws.{length-listed, ranks_of-listed}
 use Rattle.ua_listing.proofs.listing.Listing.rank.Goals as goal
 

@@ -1,19 +1,14 @@
-use Rattle.std.proofs.Common.{◌≡◌, ◌<◌, ℕ, List, length, sym, ap, ◌∙◌, subst, arith}
-use Rattle.std.specs.List.{AllByRecursion, zip}
+use Rattle.std.proofs.Common.{◌≡◌, ℕ, List, length, sym, ap, ◌∙◌, subst}
 use Rattle.std.proofs.lemmas.List.{length-map}
 use Rattle.ua_table.specs.declared.origins.Origin.{Origin}
 use Rattle.ua_table.specs.Algebras.{Vector, IsIncreasing}
 use Rattle.ua_table.specs.Counting.{EachOnceBelow}
 use Rattle.ua_table.specs.Listings.{Row, vectors_of, ranks_of}
-use Rattle.ua_table.specs.Orders.{Record, rows_of}
-use Rattle.ua_table.proofs.Lists.{any_default, all_from_contains}
 use Rattle.ua_rows.specs.RowLists.{rows_at}
 use Rattle.ua_listing.specs.Arrangements.{IsIndex, listed, origins_of}
 use Rattle.ua_listing.specs.Rankings.{ArePositions}
 use Rattle.ua_listing.proofs.ArrangementLaws.{vectors_of-listed, ranks_of-listed, origins_of-listed}
-use Rattle.ua_table.proofs.Once.{once-below}
-use Rattle.ua_table.proofs.RecordLaws.{rows_zip}
-use Rattle.ua_listing.proofs.RearrangeLaws.{rearranged_index, rows_count, rows_back}
+use Rattle.ua_listing.proofs.RearrangeLaws.{rearranged_index, rows_back}
 use Rattle.ua_listing.proofs.listing.Listing.rearranged.Goals as goal
 
 module _ (old : List Row) (places ranks : List ℕ) (once : EachOnceBelow (length old) places) (all : length places ≡ length old) (inverse : ArePositions places ranks) (inc : IsIncreasing (vectors_of old)) (os : List Origin) (count : length os ≡ length old)

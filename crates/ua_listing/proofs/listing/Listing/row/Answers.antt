@@ -1,8 +1,6 @@
 use Rattle.std.proofs.Common.{◌≡◌, ◌<◌, List, length, ap, ◌∙◌, subst, arith, Some}
 use Rattle.std.specs.Prelude.{slice_get}
-use Rattle.std.proofs.lemmas.List.{length-map}
 use Rattle.ua_table.specs.Listings.{Row, vectors_of}
-use Rattle.ua_table.specs.Orders.{Record, rows_of}
 use Rattle.ua_table.proofs.Lists.{any_default}
 use Rattle.ua_listing.proofs.ArrangementLaws.{length-listed, row_at-index, rank-below}
 use Rattle.ua_listing.proofs.listing.Listing.row.Goals as goal
