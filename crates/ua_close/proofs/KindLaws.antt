@@ -1,10 +1,11 @@
 -- For each budget there is a closed listing or an exceeding one.
-use Rattle.std.proofs.Common.{◌≡◌, ℕ, zero, suc, ◌+◌, ◌-◌, ◌*◌, ◌<◌, ◌≤◌, Bool, true, false, List, [], ◌∷◌, ◌++◌, length, map, take, drop, replicate, get_or, refl, sym, ap, ◌∙◌, subst, arith, inl, inr, ⊎_elim, length-append}
-use Rattle.std.specs.Prelude.{◌⊎◌, nat_eq, Contains, slice_index, slice_index_or}
+use Rattle.std.proofs.Common.{◌≡◌, ℕ, zero, suc, ◌+◌, ◌-◌, ◌*◌, ◌<◌, ◌≤◌, Bool, true, false, List, [], ◌∷◌, ◌++◌, length, map, take, replicate, refl, sym, ap, ◌∙◌, subst, arith, inl, inr, ⊎_elim, length-append}
+use Rattle.std.specs.Prelude.{◌⊎◌, nat_eq, Contains, slice_index}
 use Rattle.std.specs.Bool.{Decides}
-use Rattle.std.specs.List.{AllByRecursion, AllZip, range_with_len, flat_map}
+use Rattle.std.specs.List.{AllByRecursion, range_with_len, flat_map}
 use Rattle.std.specs.Cmp.Lexicographic.{pointwise}
 use Rattle.std.specs.Set.{is_member}
+use Rattle.std.proofs.lemmas.Bool.{false≢true}
 use Rattle.std.proofs.lemmas.List.{length-map, length-replicate, take-append-drop}
 use Rattle.std.proofs.lemmas.List.FromFn.{get_or-range_with_len, length-range_with_len}
 use Rattle.std.proofs.lemmas.Map.Made.{is_member-Decides}
@@ -14,7 +15,7 @@ use Rattle.ua_table.specs.Algebras.{Vector, FiniteAlgebra, Product, IsProduct, I
 use Rattle.ua_table.specs.Generated.{Sg, IsClosed, HasMoreThan}
 use Rattle.ua_table.specs.Listings.{Row, vectors_of, IsListing, IsClosedListing}
 use Rattle.ua_table.specs.Numbering.{choices}
-use Rattle.ua_table.specs.Orders.{Record, rows_of, IsNew, AreRecords}
+use Rattle.ua_table.specs.Orders.{Record, rows_of, AreRecords}
 use Rattle.ua_table.specs.Origins.{IsOrigin, IsApplication, origin_value}
 use Rattle.ua_table.proofs.Choices.{IsChoice, chosen, choice_from, range_low}
 use Rattle.ua_table.proofs.GeneratedLaws.{Sg-least}
@@ -54,7 +55,7 @@ abbrev all_origins : List ℕ → ℕ → ℕ → List Origin
 all_origins ks gens n = map (λ i. Gen i) (below gens) ++ flat_map (applications ks n) (below (length ks))
 
 in_below : (n x : ℕ) → x < n → Contains (below n) x
-in_below n x h = (x, omega (arith, h, length-range_with_len 0 n), get_or-range_with_len 0 n x x h)
+in_below n x h = (x, omega (arith, h, length-range_with_len 0 n), (let e : 0 + x ≡ x = omega arith in get_or-range_with_len 0 n x x h ∙ e))
 
 low_choice : (n : ℕ) (xs : List ℕ) → AllByRecursion (λ x. x < n) xs → IsChoice (replicate (length xs) (below n)) xs
 low_choice n [] h = tt
@@ -117,8 +118,8 @@ module _ (ks : List ℕ) (gens n : ℕ) where
 
 -- a vector is among others, or not
 by_cases : {P : Type 0} (b : Bool) → Decides b P → P ⊎ (¬ P)
-by_cases true d = inl (d.0 tt)
-by_cases false d = inr (λ h. d.1 h)
+by_cases true d = inl (d.0 refl)
+by_cases false d = inr (λ h. false≢true (d.1 h))
 
 member : (rows : List Vector) (v : Vector) → Contains rows v ⊎ (¬ Contains rows v)
 member rows v = by_cases (is_member (pointwise nat_eq) rows v) (is_member-Decides bytes_eq-Decides rows v)
@@ -158,13 +159,13 @@ module _ (p : Product) (gens : List Vector) (product : IsProduct p) (admitted : 
       let os = all_origins ks (length gens) (length rows) in
       ⊎_elim
       (λ (new : GivesNew rows os).
-        let valid = only_origins ks (length gens) (length rows) new.origin new.among in
-        let r : Record = (origin_value p gens rows new.origin, new.origin) in
-        record {
-          records = rs ++ r ∷ [];
-          made = AreRecords-push p gens rs r made record { vector = origin_vector p gens rows new.origin product admitted (record_vectors rs made) valid; origin = valid; value = refl; new = new.new };
-          ends = inl (omega (arith, length-append rs (r ∷ []), count));
-        })
+      let valid = only_origins ks (length gens) (length rows) new.origin new.among in
+      let r : Record = (origin_value p gens rows new.origin, new.origin) in
+      record {
+        records = rs ++ r ∷ [];
+        made = AreRecords-push p gens rs r made record { vector = origin_vector p gens rows new.origin product admitted (record_vectors rs made) valid; origin = valid; value = refl; new = new.new };
+        ends = inl (omega (arith, length-append rs (r ∷ []), count));
+      })
       (λ all. record { records = rs; made = made; ends = inr (omega (arith, count), λ o h. all_at (λ o. Contains rows (origin_value p gens rows o)) os o all (all_of_them ks (length gens) (length rows) o h)) })
       (search rows os)
 

@@ -1,6 +1,6 @@
 -- Which kind of listing there is.
 use Rattle.std.specs.Prelude.{ℕ, ◌*◌, List, [], ◌∷◌}
-use Rattle.ua_table.specs.Algebras.{FiniteAlgebra, Product, Vector}
+use Rattle.ua_table.specs.Algebras.{Product, Vector}
 use Rattle.ua_table.specs.Listings.{Row, IsClosedListing}
 use Rattle.ua_close.specs.declared.close.Closure.{Closure}
 use Rattle.ua_close.specs.Answers.{Answers}

@@ -1,4 +1,4 @@
-use Rattle.std.proofs.Common.{◌^◌, inl, ⊎_elim, length, arith}
+use Rattle.std.proofs.Common.{◌^◌, inl, ⊎_elim, length}
 use Rattle.std.proofs.lemmas.Bool.{cases_lt}
 use Rattle.ua_table.specs.Algebras.{arities}
 use Rattle.ua_table.specs.Numbering.{records}
