@@ -241,6 +241,9 @@ module _ (p : Product) (gens : List Vector) (product : IsProduct p) (admitted : 
   members_admitted = Sg-least p gens (all_vectors p) (all_weaker (IsVector p) (Contains (all_vectors p)) (in_all p) gens admitted) (λ f args h count held.
       in_all p (apply p f args) (IsVector-apply p f args product h count (all_weaker (Contains (all_vectors p)) (IsVector p) (from_all p) args held)))
 
+  pub members_vectors : (v : Vector) → Sg p gens v → IsVector p v
+  members_vectors v s = from_all p v (members_admitted v s)
+
   -- no more members than the product has vectors
   pub few_members : (b : ℕ) → HasMoreThan p gens b → b < cardinality p
   few_members b more =

@@ -3,7 +3,7 @@
 ghost use Rattle.std.specs.Prelude.{ℕ, ◌<◌, ◌≤◌, List, length};
 ghost use Rattle.std.specs.List.{AllByRecursion};
 ghost use Rattle.ua_table.specs.Algebras.{Vector, Product, IsProduct, IsVector, arities};
-ghost use Rattle.ua_table.specs.Generated.{HasMoreThan};
+ghost use Rattle.ua_table.specs.Generated.{Sg, HasMoreThan};
 ghost use Rattle.ua_table.specs.Listings.{Row, vectors_of, IsListing, IsClosedListing};
 ghost use Rattle.ua_table.specs.Numbering.{Fits};
 ghost use Rattle.ua_close.specs.Answers.{IsWide};
@@ -41,10 +41,12 @@ pub fn readings()
     ensures gathered { GatheredIsRead }
 {}
 
-/// For each budget there is a closed listing or an exceeding one; never both, as the laws of listings say. A
-/// subuniverse has no more members than the product has vectors: in width 1, than the algebra has elements.
-/// So a budget of as many has a closed listing. What some listing meets, each closed one meets.
+/// The members of a subuniverse are vectors of the product, and no more than it has: in width 1, than the
+/// algebra has elements. For each budget there is a closed listing or an exceeding one; never both, as the laws
+/// of listings say. So a budget of as many as there are vectors has a closed listing. What some listing meets,
+/// each closed one meets.
 pub fn kinds()
+    ensures vectors { (p : Product) (gens : List Vector) (v : Vector) → IsProduct p → AllByRecursion (IsVector p) gens → Sg p gens v → IsVector p v }
     ensures one { (p : Product) (gens : List Vector) (b : ℕ) → IsProduct p → AllByRecursion (IsVector p) gens → HasAnswer p gens b }
     ensures few { (p : Product) (gens : List Vector) (b : ℕ) → IsProduct p → AllByRecursion (IsVector p) gens → HasMoreThan p gens b → b < cardinality p }
     ensures closed { (p : Product) (gens : List Vector) (b : ℕ) → IsProduct p → AllByRecursion (IsVector p) gens → cardinality p ≤ b → HasClosedListing p gens b }

@@ -1,5 +1,6 @@
 -- The elements that elements of an algebra generate.
-use Rattle.std.specs.Prelude.{ℕ, List, [], ◌∷◌, map, Contains, ◌↔◌}
+use Rattle.std.specs.Prelude.{ℕ, List, [], ◌∷◌, map, Contains, ◌↔◌, Vec}
+use Rattle.std.specs.declared.alloc.Global.{Global}
 use Rattle.std.specs.List.{AllZip}
 use Rattle.std.specs.List.Sorted.{IsStrictlyIncreasing}
 use Rattle.ua_table.specs.Algebras.{FiniteAlgebra, Vector}
@@ -14,6 +15,10 @@ singles xs = map (λ x. x ∷ []) xs
 pub record AreMembers (a : FiniteAlgebra) (gens members : List ℕ) : Type 0 where
   pub ascending : IsStrictlyIncreasing members
   pub exact : (x : ℕ) → Contains members x ↔ Sg (a ∷ []) (singles gens) (x ∷ [])
+
+-- what the lists hold
+abbrev pub contents : List (Vec ℕ Global) → List (List ℕ)
+contents lists = map (λ (v : Vec ℕ Global). v.items) lists
 
 -- what each element alone generates, in order
 abbrev pub AreOnes : FiniteAlgebra → List (List ℕ) → Type 0

@@ -1,10 +1,10 @@
 //! The elements that elements of an algebra generate.
 
-ghost use Rattle.std.specs.Prelude.{◌≡◌, ◌<◌, ◌≤◌, ◌∷◌, [], ◌^◌, ℕ, length, map, take, IfOk};
+ghost use Rattle.std.specs.Prelude.{◌≡◌, ◌<◌, ◌≤◌, ◌∷◌, [], ◌^◌, ℕ, length, IfOk};
 ghost use Rattle.std.specs.List.{AllByRecursion};
-ghost use Rattle.ua_table.specs.Algebras.{IsVector};
-ghost use Rattle.ua_table.specs.Listings.{vectors_of, IsClosedListing};
-ghost use Rattle.ua_sub.specs.Members.{singles, AreMembers, AreOnes};
+ghost use Rattle.ua_table.specs.Algebras.{Vector};
+ghost use Rattle.ua_table.specs.Listings.{vectors_of};
+ghost use Rattle.ua_sub.specs.Members.{singles, contents, AreMembers, AreOnes};
 
 use std::alloc::{AllocError, Global};
 use std::slice;
@@ -60,8 +60,9 @@ pub fn sub<R: Threads + Sync, G: Gate>(
     laws::kinds();
     match close_set(rt, alloc, &line, &vectors, &run) {
         Ok(Closure::Closed(rows)) => entries(alloc, &rows),
+        Ok(Closure::Exceeds(_)) => unreachable!(),
+        Err(CloseError::Wide { .. }) => unreachable!(),
         Err(CloseError::OutOfMemory) => Err(AllocError),
-        _ => unreachable!(),
     }
 }
 
@@ -72,7 +73,7 @@ pub fn ones<R: Threads + Sync, G: Gate>(
     algebra: &Algebra,
     run: &Run<G>,
 ) -> Result<Vec<Vec<Elem>>, AllocError>
-    ensures { IfOk result (λ lists. AreOnes algebra.now (map (λ (v : Vec ℕ Global). v.items) lists.items)) }
+    ensures { IfOk result (λ lists. AreOnes algebra.now (contents lists.items)) }
 {
     let mut lists = Vec::with_capacity(alloc, algebra.size() as usize)?;
     for x in 0..algebra.size() {
