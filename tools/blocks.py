@@ -3,7 +3,8 @@
 import re
 import sys
 
-ELEMENTS = 255
+ELEMENTS = 1000
+FIRST_ELEMENTS = 255  # more need version 2 of the script, and so do names
 OPERATIONS = 64
 ARITY = 4
 NAME = re.compile(r"[A-Za-z][A-Za-z0-9_]{0,31}")
@@ -47,12 +48,32 @@ def operation(name, arity, size, values):
     return "\n".join([head] + ["  " + " ".join(map(str, row)) for row in rows])
 
 
-def block(name, size, operations, comments=()):
-    """The text of an algebra, its operations given as (name, arity, values)."""
-    lines = [f"# {comment}" for comment in comments]
-    lines.append(f"algebra {name} size {size}")
-    lines += [operation(word, arity, size, values) for word, arity, values in operations]
-    return "\n".join(lines + ["end", ""])
+class Block:
+    """An algebra, its operations given as (name, arity, values), and the names of its elements, or none."""
+
+    def __init__(self, name, size, operations, names=(), comments=()):
+        self.name = name
+        self.size = size
+        self.operations = operations
+        self.names = names
+        self.comments = comments
+
+    def is_second(self):
+        """Whether version 2 is needed."""
+        return bool(self.names) or self.size > FIRST_ELEMENTS
+
+    def text(self):
+        lines = [f"# {comment}" for comment in self.comments]
+        names = f" names ({' '.join(self.names)})" if self.names else ""
+        lines.append(f"algebra {self.name} size {self.size}{names}")
+        lines += [operation(word, arity, self.size, values) for word, arity, values in self.operations]
+        return "\n".join(lines + ["end", ""])
+
+
+def script(blocks):
+    """The text of blocks, behind the line of version 2 where one needs it."""
+    line = "version 2\n" if any(block.is_second() for block in blocks) else ""
+    return line + "".join(block.text() for block in blocks)
 
 
 def run(tool, convert):

@@ -13,9 +13,10 @@ import sys
 
 HERE = pathlib.Path(__file__).resolve().parent
 EXAMPLES = HERE.parent / "examples"
+VERSION = re.compile(r"\s*version\s+\d+|")
 BLOCK = re.compile(r"\balgebra\b.*?\bend\b", re.DOTALL)
-MEMBER = re.compile(r"\bmember\s+(\w+)\s+\d+\s+((?:\[[\d\s]*\]\s*)*)=\s*(\[[\d\s]*\])")
-VECTOR = re.compile(r"\[([\d\s]*)\]")
+MEMBER = re.compile(r"\bmember\s+(\w+)\s+\d+\s+((?:\[[\w\s]*\]\s*)*)=\s*(\[[\w\s]*\])")
+VECTOR = re.compile(r"\[([\w\s]*)\]")
 
 
 def output(words, text):
@@ -49,7 +50,7 @@ def terms(program):
     """Each `member` of the examples that is answered by `yes`, with the blocks before it."""
     for script in sorted(EXAMPLES.glob("*.ua")):
         text = re.sub(r"#.*", "", script.read_text(encoding="utf-8"))
-        blocks = "\n".join(BLOCK.findall(text)) + "\n"
+        blocks = "\n".join([VERSION.match(text).group(), *BLOCK.findall(text)]) + "\n"
         for number, member in enumerate(MEMBER.finditer(text)):
             reply = output([program], f"{blocks}{member.group()}\n".encode())[0]
             if reply.startswith(b"yes"):

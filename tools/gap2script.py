@@ -4,15 +4,16 @@
 A table is a list of lists as deep as the operation has arguments: a number is a constant, a list of numbers an operation
 of one argument, a list of such lists one of two. Several tables stand one behind another. A table may stand in an
 assignment, `mul := [ [ 1, 2 ], [ 2, 1 ] ];`, which names it. The words behind the algebra's name name the tables in
-order; a table without a name is f0, f1, .. by its place.
+order; a table without a name is f0, f1, .. by its place. A list of texts, `[ "e", "a" ]`, has the names of the elements;
+the block is then one of version 2, whose line stands before it.
 """
 
 import argparse
 import re
 
-from blocks import ARITY, ELEMENTS, OPERATIONS, Fault, block, is_name, is_operation_name, number_of, run
+from blocks import ARITY, ELEMENTS, OPERATIONS, Block, Fault, is_name, is_operation_name, number_of, run, script
 
-PIECE = re.compile(r"(?:[ \t\r\n\f\\]|#[^\n]*)*(?:(?P<token>[A-Za-z_][A-Za-z0-9_]*|\d+|:=|\.\.|[\[\],;])|(?P<other>\S))")
+PIECE = re.compile(r"(?:[ \t\r\n\f\\]|#[^\n]*)*(?:(?P<token>\x22[^\x22\n]*\x22|[A-Za-z_][A-Za-z0-9_]*|\d+|:=|\.\.|[\[\],;])|(?P<other>\S))")
 
 
 class Tokens:
@@ -101,19 +102,55 @@ def rest_of_range(tokens, entries):
     return [Entry(start, value) for value in range(written + step, bound, step)]
 
 
-def tables(tokens):
-    """The name, or nothing, the entry, and where it stands, of each table."""
+class Names:
+    """The names of the elements, and where the list stands."""
+
+    def __init__(self, start, names):
+        self.start = start
+        self.names = names
+
+    def of(self, size):
+        if len(self.names) != size:
+            raise Fault(self.start, f"the list has {len(self.names)} names, and {size} are needed")
+        return self.names
+
+
+def names(tokens):
+    """A list of texts, each the name of an element."""
+    start = tokens.start()
+    tokens.take("[")
     found = []
+    while not found or tokens.takes(","):
+        name = tokens.next()[1:-1]
+        if not tokens.next().startswith('"') or not is_name(name):
+            raise tokens.fault("the name of an element")
+        if name in found:
+            raise Fault(tokens.start(), f"the name {name} is taken")
+        found.append(name)
+        tokens.at += 1
+    tokens.take("]")
+    return Names(start, found)
+
+
+def tables(tokens):
+    """The name, or nothing, the entry, and where it stands, of each table; and the names of the elements, or nothing."""
+    found = []
+    labels = None
     while tokens.next():
         start = tokens.start()
         name = ""
         if tokens.next(1) == ":=":
             name = tokens.next()
             tokens.at += 2
-        found.append((name, entry(tokens), start))
+        if tokens.next(1).startswith('"'):
+            if labels:
+                raise Fault(start, "the elements have names already")
+            labels = names(tokens)
+        else:
+            found.append((name, entry(tokens), start))
         while tokens.takes(";"):
             pass
-    return found
+    return found, labels
 
 
 def depth_of(table):
@@ -174,8 +211,9 @@ def main():
         parser.error(f"{options.algebra} is no name of an algebra")
 
     def convert(text):
-        size, operations = operations_of(tables(Tokens(text)), options.operation)
-        return block(options.algebra, size, operations)
+        found, labels = tables(Tokens(text))
+        size, operations = operations_of(found, options.operation)
+        return script([Block(options.algebra, size, operations, labels.of(size) if labels else ())])
 
     run("gap2script", convert)
 

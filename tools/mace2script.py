@@ -3,14 +3,15 @@
 
 Each `interpretation( SIZE, [..], [ function(..), .. ] )` in the input becomes a block, and what stands around it is passed
 over. One model has the algebra's name; several have this name with 0, 1, .. behind it. A function whose symbol is no name of
-an operation gets another name, and a comment says which. Relations are left out, and a comment says so.
+an operation gets another name, and a comment says which. Relations are left out, and a comment says so. Where each element
+is a constant whose symbol is a name, these are the names of the elements, and the script is one of version 2.
 """
 
 import argparse
 import itertools
 import re
 
-from blocks import ARITY, ELEMENTS, OPERATIONS, Fault, block, is_name, is_operation_name, number_of, run
+from blocks import ARITY, ELEMENTS, OPERATIONS, Block, Fault, is_name, is_operation_name, number_of, run, script
 
 START = re.compile(r"\binterpretation\s*(?=\()")
 BLANK = re.compile(r"(?:\s|%[^\n]*)*")
@@ -118,6 +119,7 @@ class Model:
     def __init__(self, tokens):
         self.operations = []
         self.comments = []
+        self.constants = {}
         tokens.take("(")
         self.size = tokens.number(1, ELEMENTS)
         tokens.take(",")
@@ -156,6 +158,13 @@ class Model:
         if word != symbol:
             self.comments.append(f"{word} stands for {symbol}")
         self.operations.append((word, arity, values(tokens, self.size, self.size**arity)))
+        if arity == 0 and is_name(symbol):
+            self.constants.setdefault(self.operations[-1][2][0], symbol)
+
+    def names(self):
+        """The names of the elements, where each is a constant."""
+        named = len(self.constants) == self.size
+        return [self.constants[element] for element in range(self.size)] if named else ()
 
 
 def models(text):
@@ -181,7 +190,7 @@ def main():
         found = models(text)
         names = [options.algebra] if len(found) == 1 else [f"{options.algebra}{index}" for index in range(len(found))]
         pairs = zip(names, found)
-        return "".join(block(name, model.size, model.operations, model.comments) for name, model in pairs)
+        return script([Block(name, model.size, model.operations, model.names(), model.comments) for name, model in pairs])
 
     run("mace2script", convert)
 

@@ -135,7 +135,7 @@ pub(crate) fn generator(
 {
     let mut v = Vec::new(alloc);
     for i in 0..width {
-        v.push(u8::from(i % generators == j))?;
+        v.push(Elem::from(i % generators == j))?;
     }
     Ok(v)
 }

@@ -2,7 +2,7 @@
 use Rattle.std.proofs.Common.{◌≡◌, ℕ, List, Option, Some, None, sym, subst}
 use Rattle.std.specs.Option.{MatchOption}
 use Rattle.ua_script.specs.declared.script.Word.{Word}
-use Rattle.ua_reply.specs.declared.known.Known.{Known}
+use Rattle.ua_text.specs.declared.named.Block.{Block}
 use Rattle.ua_reply.specs.declared.refusals.Refusal.{Refusal}
 use Rattle.ua_reply.specs.declared.refusals.Refusal.TheVariants.{Unknown}
 use Rattle.ua_reply.specs.Sessions.{lookup}
@@ -10,22 +10,22 @@ use Rattle.ua_reply.specs.Checks.{Checks, checks_in, first_error}
 use Rattle.ua_reply.specs.Refusals.{refusal_text}
 use Rattle.ua_reply.specs.Replies.{Answered, AnsweredOn}
 
-abbrev Reply : Word → (Known → Checks) → (Known → List ℕ → Type 0) → List ℕ → Option Known → Type 0
+abbrev Reply : Word → (Block → Checks) → (Block → List ℕ → Type 0) → List ℕ → Option Block → Type 0
 Reply w checks Answer bytes found = Answered (checks_in found w.place checks) found Answer bytes
 
 -- the session lacks the name
-pub unknown_answered : (s : List Known) (w : Word) (checks : Known → Checks) (Answer : Known → List ℕ → Type 0) (bytes : List ℕ)
+pub unknown_answered : (s : List Block) (w : Word) (checks : Block → Checks) (Answer : Block → List ℕ → Type 0) (bytes : List ℕ)
     → lookup s w.name ≡ None → bytes ≡ refusal_text (Unknown w.place) → AnsweredOn s w checks Answer bytes
 unknown_answered s w checks Answer bytes none text = subst (Reply w checks Answer bytes) (sym none) text
 
 -- an operand fails
-pub refused_answered : (s : List Known) (w : Word) (checks : Known → Checks) (Answer : Known → List ℕ → Type 0) (k : Known) (r : Refusal) (bytes : List ℕ)
+pub refused_answered : (s : List Block) (w : Word) (checks : Block → Checks) (Answer : Block → List ℕ → Type 0) (k : Block) (r : Refusal) (bytes : List ℕ)
     → lookup s w.name ≡ Some k → first_error (checks k) ≡ Some r → bytes ≡ refusal_text r → AnsweredOn s w checks Answer bytes
 refused_answered s w checks Answer k r bytes known first text =
     subst (Reply w checks Answer bytes) (sym known) (subst (λ found. MatchOption found (Answer k bytes) (λ r. bytes ≡ refusal_text r)) (sym first) text)
 
 -- nothing fails
-pub known_answered : (s : List Known) (w : Word) (checks : Known → Checks) (Answer : Known → List ℕ → Type 0) (k : Known) (bytes : List ℕ)
+pub known_answered : (s : List Block) (w : Word) (checks : Block → Checks) (Answer : Block → List ℕ → Type 0) (k : Block) (bytes : List ℕ)
     → lookup s w.name ≡ Some k → first_error (checks k) ≡ None → Answer k bytes → AnsweredOn s w checks Answer bytes
 known_answered s w checks Answer k bytes known none answer =
     subst (Reply w checks Answer bytes) (sym known) (subst (λ found. MatchOption found (Answer k bytes) (λ r. bytes ≡ refusal_text r)) (sym none) answer)

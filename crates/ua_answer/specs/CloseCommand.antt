@@ -12,7 +12,7 @@ use Rattle.ua_close.specs.declared.close.Closure.TheVariants.{Closed}
 use Rattle.ua_close.specs.declared.close.CloseError.{CloseError}
 use Rattle.ua_close.specs.Answers.{IsWide}
 use Rattle.ua_close.specs.Permitted.{MayClose, MayCount}
-use Rattle.ua_reply.specs.declared.known.Known.{Known}
+use Rattle.ua_text.specs.declared.named.Block.{Block}
 use Rattle.ua_reply.specs.Sessions.{Bounds}
 use Rattle.ua_reply.specs.Checks.{Checks, ◌and◌}
 use Rattle.ua_reply.specs.Operands.{vectors_of, power_of, positive, vectors_in}
@@ -20,7 +20,7 @@ use Rattle.ua_reply.specs.Closures.{size_text, closure_text, told}
 use Rattle.ua_reply.specs.Replies.{Says, AnsweredOn}
 
 -- close NAME WIDTH [..] ..
-abbrev pub close_checks : Known → Number → List Items → Checks
+abbrev pub close_checks : Block → Number → List Items → Checks
 close_checks k width gens = positive width and vectors_in k width.value gens
 
 -- the rows of a closed listing are the least ones
@@ -29,10 +29,10 @@ MayCloseLeast p gens budget workers (Ok (Closed rows)) = (¬ IsWide p gens budge
 MayCloseLeast p gens budget workers answer = MayClose p gens budget workers answer
 
 -- the rows, those of the least listing, or their number alone
-abbrev pub CloseAnswer : Known → Bounds → ℕ → List Vector → Mode → List ℕ → Type 0
+abbrev pub CloseAnswer : Block → Bounds → ℕ → List Vector → Mode → List ℕ → Type 0
 CloseAnswer k b width gens Plain bytes = Says (MayClose (power_of k width) gens b.budget b.workers) (told (closure_text k b.budget)) bytes
 CloseAnswer k b width gens Least bytes = Says (MayCloseLeast (power_of k width) gens b.budget b.workers) (told (closure_text k b.budget)) bytes
 CloseAnswer k b width gens Count bytes = Says (MayCount (power_of k width) gens b.budget b.workers) (told (size_text b.budget)) bytes
 
-abbrev pub CloseReply : List Known → Bounds → Word → Number → List Items → Mode → List ℕ → Type 0
-CloseReply s b w width gens m bytes = AnsweredOn s w (λ k. close_checks k width gens) (λ k. CloseAnswer k b width.value (vectors_of gens) m) bytes
+abbrev pub CloseReply : List Block → Bounds → Word → Number → List Items → Mode → List ℕ → Type 0
+CloseReply s b w width gens m bytes = AnsweredOn s w (λ k. close_checks k width gens) (λ k. CloseAnswer k b width.value (vectors_of k gens) m) bytes

@@ -6,7 +6,7 @@ use Rattle.ua_lattice.specs.declared.lattice.Lattice.{Lattice}
 use Rattle.ua_lattice.specs.declared.lattice.Lattice.TheVariants.{Whole, Exceeds}
 use Rattle.ua_lattice.specs.Answers.{IsLatticeOf}
 use Rattle.ua_script.specs.declared.script.Word.{Word}
-use Rattle.ua_reply.specs.declared.known.Known.{Known}
+use Rattle.ua_text.specs.declared.named.Block.{Block}
 use Rattle.ua_reply.specs.Sessions.{Bounds}
 use Rattle.ua_reply.specs.Checks.{passed}
 use Rattle.ua_reply.specs.Replies.{Says, AnsweredOn}
@@ -28,9 +28,9 @@ lattice_text budget (Whole list covers irreducibles) =
     ++ irreducibles_text irreducibles.items
 lattice_text budget (Exceeds list) = line (counted (codes "exceeds") budget) ++ lines partition_text list.items
 
-abbrev pub ConAnswer : Known → Bounds → List ℕ → Type 0
+abbrev pub ConAnswer : Block → Bounds → List ℕ → Type 0
 ConAnswer k b bytes = Says (IsLatticeOf k.algebra b.budget) (λ lattice. Some (lattice_text b.budget lattice)) bytes
 
 -- con NAME
-abbrev pub ConReply : List Known → Bounds → Word → List ℕ → Type 0
+abbrev pub ConReply : List Block → Bounds → Word → List ℕ → Type 0
 ConReply s b w bytes = AnsweredOn s w (λ k. passed) (λ k. ConAnswer k b) bytes

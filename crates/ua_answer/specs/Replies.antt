@@ -7,7 +7,7 @@ use Rattle.ua_script.specs.declared.script.Provable.{Provable}
 use Rattle.ua_script.specs.declared.script.Provable.TheVariants.{Close, Member}
 use Rattle.ua_script.specs.declared.script.Command.{Command}
 use Rattle.ua_script.specs.declared.script.Command.TheVariants as commands
-use Rattle.ua_reply.specs.declared.known.Known.{Known}
+use Rattle.ua_text.specs.declared.named.Block.{Block}
 use Rattle.ua_reply.specs.Sessions.{Bounds}
 use Rattle.ua_answer.specs.CloseCommand.{CloseReply}
 use Rattle.ua_answer.specs.MemberCommand.{MemberReply}
@@ -29,13 +29,13 @@ IsBuilt (commands.Cg w pairs) = Unit {0}
 IsBuilt (commands.Con w) = Unit {0}
 IsBuilt _ = ⊥
 
-abbrev pub ProvableReply : List Known → Bounds → Provable → Mode → List ℕ → Type 0
+abbrev pub ProvableReply : List Block → Bounds → Provable → Mode → List ℕ → Type 0
 ProvableReply s b (Close w width gens) m bytes = CloseReply s b w width gens m bytes
 ProvableReply s b (Member w width gens target) Plain bytes = MemberReply s b w width gens target bytes
 ProvableReply s b _ _ bytes = ⊥
 
 -- the bytes are a reply to the command in the session
-abbrev pub Reply : List Known → Bounds → Command → List ℕ → Type 0
+abbrev pub Reply : List Block → Bounds → Command → List ℕ → Type 0
 Reply s b (commands.Ask what m false) bytes = ProvableReply s b what m bytes
 Reply s b (commands.Eval w term args) bytes = EvalReply s w term args bytes
 Reply s b (commands.Cg w pairs) bytes = CgReply s w pairs bytes
@@ -43,5 +43,5 @@ Reply s b (commands.Con w) bytes = ConReply s b w bytes
 Reply s b _ bytes = ⊥
 
 -- the session behind a command
-abbrev pub Leaves : List Known → Bounds → Command → List Known → Type 0
+abbrev pub Leaves : List Block → Bounds → Command → List Block → Type 0
 Leaves s b c t = t ≡ s

@@ -26,7 +26,7 @@ pub fn answer_cg<R: Threads + Sync, G: Gate>(
         return refusal_reply(context.alloc, refusal);
     }
     let pairs = pairs(context.alloc, known, vectors)?;
-    let congruence = cg(context.alloc, &known.algebra, &pairs)?;
+    let congruence = cg(context.alloc, known.algebra(), &pairs)?;
     let mut out = Vec::new(context.alloc);
     push_part(&mut out, &congruence)?;
     out.push(b'\n')?;

@@ -28,7 +28,7 @@ fn closure<R: Threads + Sync, G: Gate>(
     requires width { Passes (positive width) }
     requires gens { Passes (vectors_in known.now width.value gens.now) }
     requires few { length gens.now ≤ SCRIPT }
-    ensures { MayClose (power_of known.now width.value) (vectors_of gens.now) context.now.run.now.budget context.now.run.now.workers result }
+    ensures { MayClose (power_of known.now width.value) (vectors_of known.now gens.now) context.now.run.now.budget context.now.run.now.workers result }
 {
     let vectors = vectors(context.alloc, known, width.value, gens)?;
     let frame = power(context.alloc, known, width, &vectors, context.run.budget)?;
@@ -45,7 +45,7 @@ fn least_closure<R: Threads + Sync, G: Gate>(
     requires width { Passes (positive width) }
     requires gens { Passes (vectors_in known.now width.value gens.now) }
     requires few { length gens.now ≤ SCRIPT }
-    ensures { MayCloseLeast (power_of known.now width.value) (vectors_of gens.now) context.now.run.now.budget context.now.run.now.workers result }
+    ensures { MayCloseLeast (power_of known.now width.value) (vectors_of known.now gens.now) context.now.run.now.budget context.now.run.now.workers result }
 {
     let vectors = vectors(context.alloc, known, width.value, gens)?;
     let frame = power(context.alloc, known, width, &vectors, context.run.budget)?;
@@ -68,7 +68,7 @@ fn size<R: Threads + Sync, G: Gate>(
     requires width { Passes (positive width) }
     requires gens { Passes (vectors_in known.now width.value gens.now) }
     requires few { length gens.now ≤ SCRIPT }
-    ensures { MayCount (power_of known.now width.value) (vectors_of gens.now) context.now.run.now.budget context.now.run.now.workers result }
+    ensures { MayCount (power_of known.now width.value) (vectors_of known.now gens.now) context.now.run.now.budget context.now.run.now.workers result }
 {
     let vectors = vectors(context.alloc, known, width.value, gens)?;
     let frame = power(context.alloc, known, width, &vectors, context.run.budget)?;
@@ -86,7 +86,7 @@ fn close_known<R: Threads + Sync, G: Gate>(
     requires width { Passes (positive width) }
     requires gens { Passes (vectors_in known.now width.value gens.now) }
     requires few { length gens.now ≤ SCRIPT }
-    ensures { IfOk result (λ v. CloseAnswer known.now (bounds_of context.now.run.now.budget context.now.run.now.workers) width.value (vectors_of gens.now) mode v.items) }
+    ensures { IfOk result (λ v. CloseAnswer known.now (bounds_of context.now.run.now.budget context.now.run.now.workers) width.value (vectors_of known.now gens.now) mode v.items) }
 {
     let alloc = context.alloc;
     let budget = context.run.budget;

@@ -97,6 +97,6 @@ pub fn answer_con<R: Threads + Sync, G: Gate>(
     let Some(known) = context.session.find(algebra.name.text()) else {
         return refusal_reply(context.alloc, Refusal::Unknown(algebra.place));
     };
-    let lattice = congruences(context.rt, context.alloc, &known.algebra, context.run)?;
+    let lattice = congruences(context.rt, context.alloc, known.algebra(), context.run)?;
     lattice_reply(context.alloc, context.run.budget, &lattice)
 }

@@ -31,7 +31,7 @@ fn membership<R: Threads + Sync, G: Gate>(
     requires gens { Passes (vectors_in known.now width.value gens.now) }
     requires target { Passes (vector_in known.now width.value target.now) }
     requires few { length gens.now ≤ SCRIPT }
-    ensures { MayMember (power_of known.now width.value) (vectors_of gens.now) (values_of target.now.values) context.now.run.now.budget context.now.run.now.workers result }
+    ensures { MayMember (power_of known.now width.value) (vectors_of known.now gens.now) (values_of known.now target.now) context.now.run.now.budget context.now.run.now.workers result }
 {
     let vectors = vectors(context.alloc, known, width.value, gens)?;
     let target = vector(context.alloc, known, width.value, target)?;

@@ -83,7 +83,7 @@ fn expect_exceeding<R: Threads + Abort + Sync>(
     Ok(())
 }
 
-/// Compares the least listing, which is made from the listing of one worker and from that of two.
+/// Compares the least listing, made from the listing of each number of workers.
 fn expect_least<R: Threads + Abort + Sync>(
     rt: &R,
     alloc: Global,
@@ -92,7 +92,7 @@ fn expect_least<R: Threads + Abort + Sync>(
     rows: &[u8],
 ) -> Result<(), Fail> {
     let gens = generators(rt, alloc, frame, vectors)?;
-    for workers in [1, 2] {
+    for workers in [1, 2, 16] {
         let run = Run::new(100, workers, &FreeGate).ok_or("a number out of its limits")?;
         let Closure::Closed(list) = close_set(rt, alloc, frame, &gens, &run)? else {
             return Err("the closure exceeds".into());

@@ -10,6 +10,24 @@ use std::test::Fail;
 use ua_close::Listing;
 use ua_table::{Algebra, Elem, Frame, Name, OpTable, Origin, Vectors};
 
+/// Adds an operation by its name, its arity and its values.
+fn add(
+    ops: &mut Vec<OpTable>,
+    alloc: Global,
+    size: u32,
+    name: &[u8],
+    arity: u8,
+    values: Vec<Elem>,
+) -> Result<(), Fail> {
+    let name = Name::new(alloc, name)?;
+    ops.push(OpTable::new(name, size, arity, values)?)?;
+    Ok(())
+}
+
+fn algebra_of(alloc: Global, size: u32, ops: Vec<OpTable>) -> Result<Algebra, Fail> {
+    Ok(Algebra::new(Name::new(alloc, b"A")?, size, ops)?)
+}
+
 /// An algebra of this size by the name, the arity and the values of each operation.
 pub(crate) fn algebra(
     alloc: Global,
@@ -18,10 +36,10 @@ pub(crate) fn algebra(
 ) -> Result<Algebra, Fail> {
     let mut tables = Vec::new(alloc);
     for (name, arity, values) in ops {
-        let name = Name::new(alloc, name)?;
-        tables.push(OpTable::new(name, size, *arity, values.to_vec(alloc)?)?)?;
+        let values = values.to_vec(alloc)?;
+        add(&mut tables, alloc, size, name, *arity, values)?;
     }
-    Ok(Algebra::new(Name::new(alloc, b"A")?, size, tables)?)
+    algebra_of(alloc, size, tables)
 }
 
 pub(crate) fn meet(alloc: Global) -> Result<Algebra, Fail> {
@@ -44,20 +62,52 @@ pub(crate) fn sums(alloc: Global) -> Result<[Algebra; 2], Fail> {
     Ok([two, three])
 }
 
-/// One operation of each arity: a + 2bc + d, 2, the swap of 0 and 1, and ab, all modulo 3.
-pub(crate) fn all_arities(alloc: Global) -> Result<Algebra, Fail> {
+/// The values of a + 2bc + d modulo 3.
+fn quaternary(alloc: Global) -> Result<Vec<Elem>, Fail> {
     let mut values = Vec::new(alloc);
     for n in 0..81_u32 {
-        let (a, b, c, d) = (n / 27, n / 9 % 3, n / 3 % 3, n % 3);
-        values.push(((a + 2 * b * c + d) % 3) as Elem)?;
+        let product = (n / 9 % 3).wrapping_mul(n / 3 % 3);
+        let sum = (n / 27).wrapping_add(product.wrapping_mul(2));
+        values.push((sum.wrapping_add(n % 3) % 3) as Elem)?;
     }
-    let ops: [(&[u8], u8, &[Elem]); 4] = [
-        (b"f", 4, values.as_slice()),
-        (b"two", 0, &[2]),
-        (b"swap", 1, &[1, 0, 2]),
-        (b"times", 2, &[0, 0, 0, 0, 1, 2, 0, 2, 1]),
-    ];
-    algebra(alloc, 3, &ops)
+    Ok(values)
+}
+
+/// One operation of each arity: that of `quaternary`, 2, the swap of 0 and 1, and ab modulo 3.
+pub(crate) fn all_arities(alloc: Global) -> Result<Algebra, Fail> {
+    let mut ops = Vec::new(alloc);
+    add(&mut ops, alloc, 3, b"f", 4, quaternary(alloc)?)?;
+    add(&mut ops, alloc, 3, b"two", 0, [2].to_vec(alloc)?)?;
+    add(&mut ops, alloc, 3, b"swap", 1, [1, 0, 2].to_vec(alloc)?)?;
+    let times = [0, 0, 0, 0, 1, 2, 0, 2, 1].to_vec(alloc)?;
+    add(&mut ops, alloc, 3, b"times", 2, times)?;
+    algebra_of(alloc, 3, ops)
+}
+
+/// The values of a permutation of 31 elements that moves each from one up to another to the next one, and
+/// the last to the first, and no others.
+fn cycle(alloc: Global, from: Elem, to: Elem) -> Result<Vec<Elem>, Fail> {
+    let mut values = Vec::new(alloc);
+    for x in 0..31 {
+        let value = if x < from || x >= to {
+            x
+        } else if x + 1 == to {
+            from
+        } else {
+            x + 1
+        };
+        values.push(value)?;
+    }
+    Ok(values)
+}
+
+/// Three cycles of 7, 11 and 13 elements, each moved by an operation of its own.
+pub(crate) fn cycles(alloc: Global) -> Result<Algebra, Fail> {
+    let mut ops = Vec::new(alloc);
+    for (name, from, to) in [(b"a", 0, 7), (b"b", 7, 18), (b"c", 18, 31)] {
+        add(&mut ops, alloc, 31, name, 1, cycle(alloc, from, to)?)?;
+    }
+    algebra_of(alloc, 31, ops)
 }
 
 pub(crate) fn generators(

@@ -1,10 +1,9 @@
 //! Closures of many workers.
 
-ghost use Rattle.std.specs.Prelude.{◌<◌};
 ghost use Rattle.std.specs.List.{AllByRecursion};
 ghost use Rattle.ua_table.specs.Algebras.{IsVector};
 
-use crate::given::{algebra, generators, meet};
+use crate::given::{cycles, generators, meet, vectors_text};
 use std::alloc::Global;
 use std::process::Abort;
 use std::sync::atomic::{AtomicBool, Ordering};
@@ -67,21 +66,28 @@ fn closed<R: Threads + Sync, G: Gate>(
     }
 }
 
+/// A lone worker waits in vain; two or more meet, and list the same.
 #[test]
-fn two_workers_meet(rt: HostRuntime) -> Result<(), Fail> {
+fn workers_meet(rt: HostRuntime) -> Result<(), Fail> {
     let alloc = rt.alloc();
     let meet = meet(alloc)?;
     let frame = Frame::power(&meet, 3)?;
     let vectors: [&[Elem]; 4] = [&[0, 1, 1], &[1, 0, 1], &[1, 1, 0], &[1, 1, 1]];
     let gens = generators(&rt, alloc, &frame, &vectors)?;
-    let meeting = Meeting::new();
-    let run = Run::new(10_000, 2, &meeting).ok_or("a number out of its limits")?;
-    let list = closed(&rt, alloc, &frame, &gens, &run)?;
-    assert!(rt; meeting.met.load(Ordering::SeqCst));
-    assert_eq!(rt; list.len(), 8);
-    for i in 0..list.len() {
-        let n = i as u8;
-        assert_eq!(rt; list.row(i), [n / 4, n / 2 % 2, n % 2].as_slice());
+    for (workers, met) in [(1, false), (2, true), (16, true)] {
+        let meeting = Meeting::new();
+        let run = Run::new(10_000, workers, &meeting).ok_or("a number out of its limits")?;
+        let list = closed(&rt, alloc, &frame, &gens, &run)?;
+        assert_eq!(rt;
+            meeting.met.load(Ordering::SeqCst),
+            met,
+            "{workers} workers"
+        );
+        let text = vectors_text(alloc, &list)?;
+        assert_eq!(rt;
+            text.as_slice(),
+            b"000\n001\n010\n011\n100\n101\n110\n111\n".as_slice()
+        );
     }
     Ok(())
 }
@@ -94,44 +100,20 @@ fn same_vectors(rt: &impl Abort, one: &Listing, other: &Listing) {
     }
 }
 
-/// The values of a permutation that moves each element from one up to another to the next one, and the
-/// last to the first, and no others.
-fn cycle(alloc: Global, from: u8, to: u8) -> Result<Vec<Elem>, Fail>
-    requires { from < to }
-{
-    let mut values = Vec::new(alloc);
-    for x in 0..31 {
-        let value = match x {
-            x if x < from || x >= to => x,
-            x if x + 1 == to => from,
-            x => x + 1,
-        };
-        values.push(value)?;
-    }
-    Ok(values)
-}
-
-/// Three cycles of 7, 11 and 13 elements, each moved by an operation of its own: 1,001 rows from one.
+/// 1,001 rows from one.
 #[test]
-fn sixteen_workers_often(rt: HostRuntime) -> Result<(), Fail> {
+fn many_workers_often(rt: HostRuntime) -> Result<(), Fail> {
     let alloc = rt.alloc();
-    let first = cycle(alloc, 0, 7)?;
-    let second = cycle(alloc, 7, 18)?;
-    let third = cycle(alloc, 18, 31)?;
-    let ops: [(&[u8], u8, &[Elem]); 3] = [
-        (b"a", 1, first.as_slice()),
-        (b"b", 1, second.as_slice()),
-        (b"c", 1, third.as_slice()),
-    ];
-    let cycles = algebra(alloc, 31, &ops)?;
+    let cycles = cycles(alloc)?;
     let frame = Frame::power(&cycles, 3)?;
     let gens = generators(&rt, alloc, &frame, &[&[0, 7, 18]])?;
     let lone = Run::new(1_001, 1, &FreeGate).ok_or("a number out of its limits")?;
     let list = closed(&rt, alloc, &frame, &gens, &lone)?;
     assert_eq!(rt; list.len(), 1_001);
-    let many = Run::new(1_001, 16, &FreeGate).ok_or("a number out of its limits")?;
-    for _ in 0..200 {
-        let other = closed(&rt, alloc, &frame, &gens, &many)?;
+    for turn in 0..200 {
+        let workers = if turn % 4 == 0 { 2 } else { 16 };
+        let run = Run::new(1_001, workers, &FreeGate).ok_or("a number out of its limits")?;
+        let other = closed(&rt, alloc, &frame, &gens, &run)?;
         same_vectors(&rt, &list, &other);
     }
     Ok(())

@@ -1,6 +1,6 @@
 //! Closures with a goal, with 1, 2 and 16 workers.
 
-use crate::given::{algebra, generators, meet, rows_text};
+use crate::given::{algebra, cycles, generators, meet, rows_text};
 use std::alloc::Global;
 use std::process::Abort;
 use std::test::Fail;
@@ -122,6 +122,27 @@ fn clashes(rt: HostRuntime) -> Result<(), Fail> {
             *budget,
             (*answer, rows),
         )?;
+    }
+    Ok(())
+}
+
+/// 77 rows from one, in which seven elements stand at coordinate 0.
+#[test]
+fn goals_among_many_rows(rt: HostRuntime) -> Result<(), Fail> {
+    let alloc = rt.alloc();
+    let cycles = cycles(alloc)?;
+    let frame = Frame::power(&cycles, 2)?;
+    for (target, budget, answer) in [
+        (None, 100, Told::Met),
+        (None, 7, Told::Met),
+        (Some([6, 17].as_slice()), 77, Told::Met),
+        (Some(&[6, 18]), 77, Told::Closed),
+        (Some(&[6, 18]), 76, Told::Exceeds),
+    ] {
+        for workers in [1, 2, 16] {
+            let (told, _) = reached(&rt, alloc, &frame, &[&[0, 7]], target, budget, workers)?;
+            assert_eq!(rt; told, answer, "budget {budget}, {workers} workers");
+        }
     }
     Ok(())
 }

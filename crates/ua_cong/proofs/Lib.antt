@@ -2,3 +2,4 @@ pub mod Normal
 pub mod ClosingLaws
 pub mod PairLaws
 pub mod CombinationLaws
+pub mod EntryLaws

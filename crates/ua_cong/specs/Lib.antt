@@ -1,3 +1,5 @@
 pub mod Closings
 pub mod States
 pub mod Principals
+pub mod Known
+pub mod Entries

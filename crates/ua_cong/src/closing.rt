@@ -6,9 +6,11 @@ ghost use Rattle.std.specs.List.{AllByRecursion};
 ghost use Rattle.ua_table.specs.Algebras.{IsAlgebra, arities_of};
 ghost use Rattle.ua_part.specs.Partitions.{Partition, SameBlock, LiesBelow};
 ghost use Rattle.ua_prod.specs.Congruences.{IsCg, RelatesAll};
-ghost use Rattle.ua_cong.specs.Closings.{AreElements, IsPrincipal, IsForced, IsCarried, IsCarriedAlong};
+ghost use Rattle.ua_cong.specs.Closings.{AreElements, IsForced, IsCarried, IsCarriedAlong};
+ghost use Rattle.ua_cong.specs.Known.{IsKnown};
 ghost use Rattle.ua_cong.specs.States.{IsState, HasGrown};
 
+use crate::known::Known;
 use std::alloc::{AllocError, Global};
 use ua_part::{DisjointSets, Part};
 use ua_prod::Translations;
@@ -19,7 +21,7 @@ use ua_table::{Algebra, Elem};
 struct Problem<'a> {
     algebra: &'a Algebra,
     pairs: &'a [(Elem, Elem)],
-    known: &'a [(Elem, Elem, Part)],
+    known: &'a Known,
 }
 
 /// The sets that are united so far, and pairs that were united and whose translations are still to be.
@@ -39,24 +41,24 @@ fn rank(size: usize, x: usize, y: usize) -> usize
 }
 
 /// The principal congruence of this pair, the first the lower, if it is known, by one look-up.
-fn known_at<'a>(problem: &Problem<'a>, low: Elem, high: Elem) -> Option<&'a Part>
-    requires known { AllByRecursion (IsPrincipal problem.now.algebra.now) problem.now.known.now }
+fn known_at<'a>(problem: &Problem<'a>, low: Elem, high: Elem) -> Option<&'a [Elem]>
+    requires known { IsKnown problem.now.algebra.now problem.now.known.now }
     requires order { low < high }
     requires within { high < problem.now.algebra.now.size }
     ensures { IfSome result (λ p. IsCg problem.now.algebra.now ((low, high) ∷ []) p.now) }
 {
     let size = problem.algebra.size() as usize;
-    let place = rank(size, low as usize, high as usize);
-    let (first, second, part) = problem.known.get(place)?;
+    let rank = rank(size, low as usize, high as usize);
+    let (first, second, place) = problem.known.pairs.get(rank)?;
     if *first != low || *second != high {
         return None;
     }
-    Some(part)
+    Some(problem.known.rows.row(*place))
 }
 
 /// The principal congruence of two elements, if it is known.
-fn known_principal<'a>(problem: &Problem<'a>, x: Elem, y: Elem) -> Option<&'a Part>
-    requires known { AllByRecursion (IsPrincipal problem.now.algebra.now) problem.now.known.now }
+fn known_principal<'a>(problem: &Problem<'a>, x: Elem, y: Elem) -> Option<&'a [Elem]>
+    requires known { IsKnown problem.now.algebra.now problem.now.known.now }
     requires apart { x ≢ y }
     requires first { x < problem.now.algebra.now.size }
     requires second { y < problem.now.algebra.now.size }
@@ -73,7 +75,7 @@ fn known_principal<'a>(problem: &Problem<'a>, x: Elem, y: Elem) -> Option<&'a Pa
 /// is brought in, if it is known: it has no work left.
 fn unite(problem: &Problem, closing: &mut Closing, x: Elem, y: Elem) -> Result<(), AllocError>
     requires algebra { IsAlgebra problem.now.algebra.now }
-    requires known { AllByRecursion (IsPrincipal problem.now.algebra.now) problem.now.known.now }
+    requires known { IsKnown problem.now.algebra.now problem.now.known.now }
     requires first { x < problem.now.algebra.now.size }
     requires second { y < problem.now.algebra.now.size }
     requires forced { IsForced problem.now.algebra.now problem.now.pairs.now x y }
@@ -86,7 +88,7 @@ fn unite(problem: &Problem, closing: &mut Closing, x: Elem, y: Elem) -> Result<(
         return Ok(());
     }
     match known_principal(problem, x, y) {
-        Some(part) => closing.sets.unite_blocks(part),
+        Some(row) => closing.sets.unite_row(row),
         None => closing.work.push((x, y))?,
     }
     Ok(())
@@ -95,7 +97,7 @@ fn unite(problem: &Problem, closing: &mut Closing, x: Elem, y: Elem) -> Result<(
 /// Relates two elements, where this costs nothing if they are equal.
 fn relate(problem: &Problem, closing: &mut Closing, x: Elem, y: Elem) -> Result<(), AllocError>
     requires algebra { IsAlgebra problem.now.algebra.now }
-    requires known { AllByRecursion (IsPrincipal problem.now.algebra.now) problem.now.known.now }
+    requires known { IsKnown problem.now.algebra.now problem.now.known.now }
     requires first { x < problem.now.algebra.now.size }
     requires second { y < problem.now.algebra.now.size }
     requires forced { IsForced problem.now.algebra.now problem.now.pairs.now x y }
@@ -118,7 +120,7 @@ fn relate_rows(
     second: &[Elem],
 ) -> Result<(), AllocError>
     requires algebra { IsAlgebra problem.now.algebra.now }
-    requires known { AllByRecursion (IsPrincipal problem.now.algebra.now) problem.now.known.now }
+    requires known { IsKnown problem.now.algebra.now problem.now.known.now }
     requires first { AllByRecursion (λ v. v < problem.now.algebra.now.size) first.now }
     requires second { AllByRecursion (λ v. v < problem.now.algebra.now.size) second.now }
     requires lengths { length first.now ≡ length second.now }
@@ -143,7 +145,7 @@ fn relate_along(
     x: Elem,
     y: Elem,
 ) -> Result<(), AllocError>
-    requires known { AllByRecursion (IsPrincipal problem.now.algebra.now) problem.now.known.now }
+    requires known { IsKnown problem.now.algebra.now problem.now.known.now }
     requires operation { op < length (arities_of problem.now.algebra.now) }
     requires place { place < slice_index (arities_of problem.now.algebra.now) op }
     requires first { x < problem.now.algebra.now.size }
@@ -171,7 +173,7 @@ fn relate_results(
     x: Elem,
     y: Elem,
 ) -> Result<(), AllocError>
-    requires known { AllByRecursion (IsPrincipal problem.now.algebra.now) problem.now.known.now }
+    requires known { IsKnown problem.now.algebra.now problem.now.known.now }
     requires operation { op < length (arities_of problem.now.algebra.now) }
     requires first { x < problem.now.algebra.now.size }
     requires second { y < problem.now.algebra.now.size }
@@ -189,7 +191,7 @@ fn relate_results(
 
 /// Relates the results of all operations at two elements.
 fn carry(problem: &Problem, closing: &mut Closing, x: Elem, y: Elem) -> Result<(), AllocError>
-    requires known { AllByRecursion (IsPrincipal problem.now.algebra.now) problem.now.known.now }
+    requires known { IsKnown problem.now.algebra.now problem.now.known.now }
     requires first { x < problem.now.algebra.now.size }
     requires second { y < problem.now.algebra.now.size }
     requires forced { IsForced problem.now.algebra.now problem.now.pairs.now x y }
@@ -207,7 +209,7 @@ fn carry(problem: &Problem, closing: &mut Closing, x: Elem, y: Elem) -> Result<(
 /// Carries each pair of the work, and the pairs that this adds.
 fn carry_all(problem: &Problem, closing: &mut Closing) -> Result<(), AllocError>
     requires algebra { IsAlgebra problem.now.algebra.now }
-    requires known { AllByRecursion (IsPrincipal problem.now.algebra.now) problem.now.known.now }
+    requires known { IsKnown problem.now.algebra.now problem.now.known.now }
     requires closing { IsState problem.now closing.old }
     ensures closing { OnOk result (IsState problem.now closing.new) }
     ensures grown { OnOk result (HasGrown closing.old closing.new) }
@@ -225,7 +227,7 @@ fn carry_all(problem: &Problem, closing: &mut Closing) -> Result<(), AllocError>
 /// Relates the pairs.
 fn relate_pairs(problem: &Problem, closing: &mut Closing) -> Result<(), AllocError>
     requires algebra { IsAlgebra problem.now.algebra.now }
-    requires known { AllByRecursion (IsPrincipal problem.now.algebra.now) problem.now.known.now }
+    requires known { IsKnown problem.now.algebra.now problem.now.known.now }
     requires pairs { AllByRecursion (AreElements problem.now.algebra.now) problem.now.pairs.now }
     requires closing { IsState problem.now closing.old }
     ensures closing { OnOk result (IsState problem.now closing.new) }
@@ -238,15 +240,15 @@ fn relate_pairs(problem: &Problem, closing: &mut Closing) -> Result<(), AllocErr
     Ok(())
 }
 
-/// The least congruence that relates the pairs, where these principal congruences are known.
-pub fn cg_knowing(
+/// The blocks of the least congruence that relates the pairs, where these principal congruences are known.
+pub fn cg_sets(
     alloc: Global,
     algebra: &Algebra,
     pairs: &[(Elem, Elem)],
-    known: &[(Elem, Elem, Part)],
-) -> Result<Part, AllocError>
+    known: &Known,
+) -> Result<DisjointSets, AllocError>
     requires pairs { AllByRecursion (AreElements algebra.now) pairs.now }
-    requires known { AllByRecursion (IsPrincipal algebra.now) known.now }
+    requires known { IsKnown algebra.now known.now }
     ensures { IfOk result (IsCg algebra.now pairs.now) }
 {
     let problem = Problem {
@@ -260,7 +262,7 @@ pub fn cg_knowing(
     };
     relate_pairs(&problem, &mut closing)?;
     carry_all(&problem, &mut closing)?;
-    Ok(closing.sets.into_part())
+    Ok(closing.sets)
 }
 
 /// The least congruence that relates the pairs, in a time that is at most that of reading each table
@@ -269,5 +271,7 @@ pub fn cg(alloc: Global, a: &Algebra, pairs: &[(Elem, Elem)]) -> Result<Part, Al
     requires { AllByRecursion (AreElements a.now) pairs.now }
     ensures { IfOk result (IsCg a.now pairs.now) }
 {
-    cg_knowing(alloc, a, pairs, &[])
+    let known = Known::new(alloc, a.size());
+    let sets = cg_sets(alloc, a, pairs, &known)?;
+    Ok(sets.into_part())
 }

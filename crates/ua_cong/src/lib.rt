@@ -2,8 +2,10 @@
 #![tactic(auto)]
 
 mod closing;
+mod known;
 mod pairs;
 
 pub use closing::cg;
-pub use pairs::principals;
+pub use known::enter;
+pub use pairs::{distinct_principals, principals};
 pub use ua_prod::{Clash, is_congruence};

@@ -42,41 +42,45 @@ fn handed<T: Send>(x: T) -> T
 }
 
 #[test]
-fn two_seats(rt: HostRuntime) -> Result<(), Fail> {
+fn puts_of_two_seats(rt: HostRuntime) -> Result<(), Fail> {
     let (board, mut first) = start(rt.alloc())?;
-    shared(&board);
-    let board = handed(board);
-    assert_eq!(rt; board.budget(), 10);
+    let mut second = board.split(&mut first);
     assert_eq!(rt; board.put(&mut first, FIRST), Put::Here(0));
-    let mut second = handed(board.split(&mut first));
+    assert_eq!(rt; board.look(&mut second), Some(FIRST));
     assert_eq!(rt; board.recall(&mut second, 0), FIRST);
-    assert_eq!(rt; board.put(&mut first, SECOND), Put::Here(1));
-    assert_eq!(rt; board.put(&mut second, SQUARE), Put::Taken(SECOND));
-    assert_eq!(rt; board.look(&mut second), None);
-    assert_eq!(rt; Board::seen(&second), 2);
-    assert_eq!(rt; board.claim(&mut second), Claim::Unit(0));
-    assert_eq!(rt; board.claim(&mut first), Claim::Unit(1));
-    assert_eq!(rt; board.claim(&mut first), Claim::Unit(2));
-    assert_eq!(rt; board.claim(&mut first), Claim::Unit(3));
-    assert_eq!(rt; board.claim(&mut first), Claim::Idle(4));
-    board.halt(&mut second);
-    assert_eq!(rt; board.claim(&mut first), Claim::Halted);
-    board.join(&mut first, second);
-    let log = board.close(first);
-    assert_eq!(rt; log.len(), 2);
-    assert_eq!(rt; log.origin(0), FIRST);
-    assert_eq!(rt; log.origin(1), SECOND);
-    assert_eq!(rt; log.claims(), 4);
-    assert!(rt; log.halted());
+    assert_eq!(rt; board.put(&mut second, SQUARE), Put::Here(1));
+    assert_eq!(rt; board.put(&mut first, SECOND), Put::Taken(SQUARE));
+    Ok(())
+}
+
+/// One record makes two slices.
+#[test]
+fn claims_until_a_halt(rt: HostRuntime) -> Result<(), Fail> {
+    let (board, mut first) = start(rt.alloc())?;
+    let put = board.put(&mut first, FIRST);
+    let claims = [
+        board.claim(&mut first),
+        board.claim(&mut first),
+        board.claim(&mut first),
+    ];
+    board.halt(&mut first);
+    let last = board.claim(&mut first);
+    assert_eq!(rt; claims, [Claim::Unit(0), Claim::Unit(1), Claim::Idle(2)]);
+    assert_eq!(rt; (put, last), (Put::Here(0), Claim::Halted));
     Ok(())
 }
 
 #[test]
-fn one_sees_what_another_put(rt: HostRuntime) -> Result<(), Fail> {
+fn a_log_of_two_seats(rt: HostRuntime) -> Result<(), Fail> {
     let (board, mut first) = start(rt.alloc())?;
-    let mut second = board.split(&mut first);
-    assert_eq!(rt; board.put(&mut first, SECOND), Put::Here(0));
-    assert_eq!(rt; board.look(&mut second), Some(SECOND));
+    shared(&board);
+    let mut second = handed(board.split(&mut first));
+    assert_eq!(rt; board.put(&mut second, FIRST), Put::Here(0));
+    board.halt(&mut second);
+    board.join(&mut first, second);
+    let log = handed(board).close(first);
+    assert_eq!(rt; (log.len(), log.claims(), log.halted()), (1, 0, true));
+    assert_eq!(rt; log.origin(0), FIRST);
     Ok(())
 }
 

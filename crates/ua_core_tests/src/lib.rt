@@ -8,8 +8,6 @@ mod listing;
 #[cfg(test)]
 mod machines;
 #[cfg(test)]
-mod many;
-#[cfg(test)]
 mod operating;
 #[cfg(test)]
 mod scratching;

@@ -49,50 +49,59 @@ fn sums(alloc: Global, size: u32) -> Result<Algebra, Fail>
     Ok(Algebra::new(Name::new(alloc, b"A")?, size, ops)?)
 }
 
-/// Pushes a vector of a frame that is not there yet.
-fn enter(rt: &impl Abort, rows: &mut Rows, frame: &Frame, v: &[Elem]) -> Result<(), Fail>
-    requires width { rows.old.width ≡ length frame.now }
-    requires rows { AllByRecursion (IsVector frame.now) rows.old.items }
-    ensures width { rows.new.width ≡ length frame.now }
-    ensures rows { AllByRecursion (IsVector frame.now) rows.new.items }
-{
-    assert!(rt; frame.admits(v));
-    assert!(rt; v.len() == rows.width() as usize);
-    assert!(rt; rows.find(v).is_none());
-    assert!(rt; rows.len() < 100);
-    rows.push(v)?;
-    Ok(())
-}
-
-/// The list of two vectors of a frame: the entries of one are coordinates modulo a size, those of the other
-/// the quotients.
-fn two_rows(rt: &impl Abort, alloc: Global, frame: &Frame, size: u32) -> Result<Rows, Fail>
-    requires some { 0 < size }
+/// The rows of these vectors, where they are different ones of the frame.
+fn rows_of(alloc: Global, frame: &Frame, vectors: &[&[Elem]]) -> Result<Rows, Fail>
     ensures rows { IfOk result (λ rows. AllByRecursion (IsVector frame.now) rows.items) }
     ensures width { IfOk result (λ rows. rows.width ≡ length frame.now) }
 {
-    let mut x = Vec::new(alloc);
-    let mut y = Vec::new(alloc);
-    for i in 0..frame.width() {
-        x.push((i % size % 256) as Elem)?;
-        y.push((i / size % size % 256) as Elem)?;
-    }
     let mut rows = Rows::new(alloc, frame.width());
-    enter(rt, &mut rows, frame, x.as_slice())?;
-    enter(rt, &mut rows, frame, y.as_slice())?;
+    for v in vectors {
+        if !frame.admits(v) || v.len() != rows.width() as usize || rows.len() >= 100 {
+            return Err(Fail::from("no vector"));
+        }
+        if rows.find(v).is_some() {
+            return Err(Fail::from("it is there"));
+        }
+        rows.push(v)?;
+    }
     Ok(rows)
 }
 
-/// The sum of the entries of some rows at a coordinate, and of how many they are.
-fn sum_at(rows: &Rows, args: &[u32], i: usize) -> u32
-    requires named { AllByRecursion (λ a. a < length rows.now.items) args.now }
-    requires inside { i < rows.now.width }
+/// The coordinates of a frame through a step, modulo a size.
+fn digits(alloc: Global, frame: &Frame, size: u32, step: u32) -> Result<Vec<Elem>, Fail>
+    requires some { 0 < size }
+    requires small { size < 100 }
+    requires step { 0 < step }
+{
+    let mut v = Vec::new(alloc);
+    for i in 0..frame.width() {
+        v.push((i / step % size) as Elem)?;
+    }
+    Ok(v)
+}
+
+/// The sum at a coordinate of some rows, of which row 0 has the coordinates modulo a size and row 1 their
+/// quotients, and of how many they are.
+fn sum_at(size: u32, i: u32, args: &[u32]) -> u32
+    requires { 0 < size }
 {
     let mut sum: u32 = 0;
     for a in args {
-        sum = sum.wrapping_add(1 + u32::from(rows.row(*a)[i]));
+        let step = if *a == 0 { 1 } else { size };
+        sum = sum.wrapping_add(1).wrapping_add(i / step % size);
     }
     sum
+}
+
+/// These sums at all coordinates.
+fn sums_of(alloc: Global, frame: &Frame, size: u32, args: &[u32]) -> Result<Vec<Elem>, Fail>
+    requires { 0 < size }
+{
+    let mut v = Vec::new(alloc);
+    for i in 0..frame.width() {
+        v.push((sum_at(size, i, args) % frame.size_at(i)) as Elem)?;
+    }
+    Ok(v)
 }
 
 /// Applies an operation by both calls, and compares each entry with the sum.
@@ -102,10 +111,12 @@ fn expect_sums(
     frame: &Frame,
     rows: &Rows,
     args: &[u32],
+    size: u32,
 ) -> Result<(), Fail>
     requires rows { AllByRecursion (IsVector frame.now) rows.now.items }
     requires width { rows.now.width ≡ length frame.now }
     requires named { AllByRecursion (λ a. a < length rows.now.items) args.now }
+    requires some { 0 < size }
 {
     let shape = frame.shape(alloc)?;
     assert!(rt; args.len() < shape.arities().len());
@@ -116,51 +127,41 @@ fn expect_sums(
     let operations = Operations::new(alloc, frame)?;
     let mut scratch = Scratch::new(alloc, frame.width())?;
     operations.apply(op, rows, args, &mut scratch);
-    assert_eq!(rt; scratch.as_slice(), out.as_slice());
-    assert_eq!(rt; rows.find_scratch(&scratch), rows.find(out.as_slice()));
-    for i in 0..frame.width() {
-        let size = frame.size_at(i);
-        assert_eq!(rt;
-            u32::from(scratch.as_slice()[i as usize]),
-            sum_at(rows, args, i as usize) % size
-        );
-    }
+    let sums = sums_of(alloc, frame, size, args)?;
+    assert_eq!(rt; out.as_slice(), sums.as_slice());
+    assert_eq!(rt; scratch.as_slice(), sums.as_slice());
     Ok(())
 }
 
 /// Tries the sums of none to four rows of a frame.
 fn expect_all(rt: &impl Abort, alloc: Global, frame: &Frame, size: u32) -> Result<(), Fail>
     requires some { 0 < size }
+    requires small { size < 100 }
 {
-    let rows = two_rows(rt, alloc, frame, size)?;
+    let x = digits(alloc, frame, size, 1)?;
+    let y = digits(alloc, frame, size, size)?;
+    let rows = rows_of(alloc, frame, &[x.as_slice(), y.as_slice()])?;
     assert!(rt; rows.len() == 2);
-    expect_sums(rt, alloc, frame, &rows, &[])?;
-    expect_sums(rt, alloc, frame, &rows, &[1])?;
-    expect_sums(rt, alloc, frame, &rows, &[0, 1])?;
-    expect_sums(rt, alloc, frame, &rows, &[0, 0, 1])?;
-    expect_sums(rt, alloc, frame, &rows, &[1, 1, 1, 0])
+    expect_sums(rt, alloc, frame, &rows, &[], size)?;
+    expect_sums(rt, alloc, frame, &rows, &[1], size)?;
+    expect_sums(rt, alloc, frame, &rows, &[0, 1], size)?;
+    expect_sums(rt, alloc, frame, &rows, &[0, 0, 1], size)?;
+    expect_sums(rt, alloc, frame, &rows, &[1, 1, 1, 0], size)
 }
 
 #[test]
-fn few_values(rt: HostRuntime) -> Result<(), Fail> {
-    let alloc = rt.alloc();
-    let algebra = sums(alloc, 3)?;
-    expect_all(&rt, alloc, &Frame::power(&algebra, 9)?, 3)
-}
-
-#[test]
-fn many_values(rt: HostRuntime) -> Result<(), Fail> {
-    let alloc = rt.alloc();
-    let algebra = sums(alloc, 20)?;
-    expect_all(&rt, alloc, &Frame::power(&algebra, 500)?, 20)
+fn powers(rt: HostRuntime) -> Result<(), Fail> {
+    for (size, width) in [(3, 9), (20, 500)] {
+        let algebra = sums(rt.alloc(), size)?;
+        expect_all(&rt, rt.alloc(), &Frame::power(&algebra, width)?, size)?;
+    }
+    Ok(())
 }
 
 #[test]
 fn two_algebras(rt: HostRuntime) -> Result<(), Fail> {
     let alloc = rt.alloc();
-    let mut algebras = Vec::new(alloc);
-    algebras.push(sums(alloc, 5)?)?;
-    algebras.push(sums(alloc, 7)?)?;
+    let algebras = [sums(alloc, 5)?, sums(alloc, 7)?];
     let coords = [0, 1, 1, 0, 0].to_vec(alloc)?;
-    expect_all(&rt, alloc, &Frame::mixed(algebras.as_slice(), coords)?, 4)
+    expect_all(&rt, alloc, &Frame::mixed(&algebras, coords)?, 4)
 }

@@ -12,9 +12,10 @@ use Rattle.ua_table.proofs.Lists.{all_at, all_append, all_from_contains, any_def
 use Rattle.ua_part.specs.Partitions.{Partition, IsPartition, SameBlock, LiesBelow, IsJoin, identity_on}
 use Rattle.ua_part.proofs.PartitionLaws.{same_itself, below_itself, below_through, below_both, identity-IsPartition, identity-same}
 use Rattle.ua_prod.specs.Congruences.{IsCongruence}
+use Rattle.ua_cong.specs.Entries.{IsEntered}
 use Rattle.ua_cong.proofs.Normal.{join-size}
 use Rattle.ua_lattice.specs.Lattices.{IsJoinClosed, IsJoinedWith}
-use Rattle.ua_lattice.specs.Joins.{IsEntered, IsJoinEntered, GoesOnWithJoins, HasJoins, IsSpanned, IsSpannedLattice, AreAmong}
+use Rattle.ua_lattice.specs.Joins.{IsJoinEntered, GoesOnWithJoins, HasJoins, IsSpanned, IsSpannedLattice, AreAmong}
 use Rattle.ua_lattice.proofs.JoinedLaws.{join-IsCongruence, joined_closed}
 
 -- what a look-up finds is there
@@ -63,28 +64,6 @@ identity_join : (n : ℕ) (p r : Partition) → IsPartition p → length p ≡ n
 identity_join n p r hp size j = below_both r p j.partition hp (j.least p hp (identity_below n p size) (below_itself p)) j.right
 
 -- ---- what is entered
-
-pub entered_there : (old : List Partition) (p : Partition) → Contains old p → IsEntered old p old
-entered_there old p c = record { more = []; is = sym (append-nil old); one = omega arith; same = λ q k. absurd (Contains-none q k); there = c }
-
-pub entered_new : (old : List Partition) (p : Partition) (new : List Partition) → new ≡ old ++ p ∷ [] → IsEntered old p new
-entered_new old p new is = record {
-  more = p ∷ [];
-  is = is;
-  one = omega arith;
-  same = λ q c. ⊎_elim (λ e. sym e) (λ k. absurd (Contains-none q k)) (Contains-cases p q [] c);
-  there = subst (λ (ps : List Partition). Contains ps p) (sym is) (Contains-push old p);
-}
-
-module _ (old : List Partition) (p : Partition) (new : List Partition) (e : IsEntered old p new) where
-  pub entry_among : AreAmong old new
-  entry_among q c = subst (λ (ps : List Partition). Contains ps q) (sym e.is) (Contains-append_left old e.more q c)
-
-  pub entry_only : (list : List Partition) → AreAmong old list → Contains list p → AreAmong new list
-  entry_only list all here q c = ⊎_elim (all q) (λ k. subst (Contains list) (sym (e.same q k)) here) (Contains-append_cases old e.more q (subst (λ (ps : List Partition). Contains ps q) e.is c))
-
-  pub entry_few : length new ≤ length old + 1
-  entry_few = let n = length-append old e.more in let is = ap length e.is in let one = e.one in omega (arith, n, is, one)
 
 pub join_there : (old : List Partition) (p q r : Partition) → Contains old r → IsJoin p q r → IsJoinEntered old p q old
 join_there old p q r c j = record { more = []; is = sym (append-nil old); one = omega arith; joins = λ s k. absurd (Contains-none s k); there = (r, c, j) }

@@ -13,7 +13,8 @@ use Rattle.ua_part.proofs.PartitionLaws.{same_itself, same_back, leader_same, be
 use Rattle.ua_prod.specs.Congruences.{IsCongruence}
 use Rattle.ua_prod.proofs.Compatible.{congruence_from_translations}
 use Rattle.ua_cong.proofs.Normal.{join-size, join-constant}
-use Rattle.ua_lattice.specs.Lattices.{HasPrincipals, IsJoinClosed, IsJoinedWith}
+use Rattle.ua_cong.specs.Principals.{HasPrincipals}
+use Rattle.ua_lattice.specs.Lattices.{IsJoinClosed, IsJoinedWith}
 
 -- ---- the join of congruences is one
 

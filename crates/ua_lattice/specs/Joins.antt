@@ -6,14 +6,6 @@ use Rattle.ua_part.specs.Partitions.{Partition, IsPartition, LiesBelow, IsJoin, 
 use Rattle.ua_prod.specs.Congruences.{IsCongruence}
 use Rattle.ua_lattice.specs.Lattices.{IsJoinClosed}
 
--- the list goes on with nothing or with p, and has p then
-pub record IsEntered (old : List Partition) (p : Partition) (new : List Partition) : Type 0 where
-  pub more : List Partition
-  pub is : new ≡ old ++ more
-  pub one : length more ≤ 1
-  pub same : (q : Partition) → Contains more q → q ≡ p
-  pub there : Contains new p
-
 -- the list goes on with nothing or with the join of two partitions, and has it then
 pub record IsJoinEntered (old : List Partition) (p q : Partition) (new : List Partition) : Type 0 where
   pub more : List Partition

@@ -1,5 +1,5 @@
 -- The lattice of an algebra's congruences.
-use Rattle.std.specs.Prelude.{◌≡◌, ◌≢◌, ℕ, ◌+◌, ◌<◌, ◌≤◌, ◌==◌, ◌↔◌, List, [], ◌∷◌, ◌++◌, length, slice_index_or, Contains, count_by}
+use Rattle.std.specs.Prelude.{◌≡◌, ◌≢◌, ℕ, ◌+◌, ◌<◌, ◌≤◌, ◌==◌, ◌↔◌, List, [], ◌++◌, length, slice_index_or, Contains, count_by}
 use Rattle.std.specs.List.{AllByRecursion}
 use Rattle.std.specs.List.Sorted.{IsStrictlySortedBy, IsStrictlyIncreasing}
 use Rattle.std.specs.Cmp.Lexicographic.{slice_cmp}
@@ -8,7 +8,7 @@ use Rattle.std.specs.declared.cmp.Ordering.{Ordering}
 use Rattle.ua_table.specs.Algebras.{FiniteAlgebra}
 use Rattle.ua_part.specs.Partitions.{Partition, LiesBelow, IsJoin}
 use Rattle.ua_part.specs.Blocks.{block_count}
-use Rattle.ua_prod.specs.Congruences.{IsCongruence, IsCg}
+use Rattle.ua_prod.specs.Congruences.{IsCongruence}
 
 -- by number of blocks downwards, then by entries
 abbrev pub by_blocks : Partition → Partition → Ordering
@@ -43,10 +43,6 @@ pub record AreCovers (list : List Partition) (pairs : List (ℕ × ℕ)) : Type 
 pub record AreIrreducible (pairs : List (ℕ × ℕ)) (places : List ℕ) : Type 0 where
   pub in_order : IsStrictlyIncreasing places
   pub all : (j : ℕ) → Contains places j ↔ (count_by (λ (pair : ℕ × ℕ). pair.1 == j) pairs ≡ 1)
-
--- each pair of elements has its principal congruence in the list
-abbrev pub HasPrincipals : FiniteAlgebra → List Partition → Type 0
-HasPrincipals a list = (x y : ℕ) → x < y → y < a.size → (k : Partition) × Contains list k × IsCg a ((x, y) ∷ []) k
 
 -- each two of the list have their join in it
 abbrev pub IsJoinClosed : List Partition → Type 0

@@ -1,4 +1,4 @@
-//! Joins of partitions that are rows of elements: the least member of each element's block, each a byte.
+//! Joins of partitions that are rows of elements: the least member of each element's block.
 
 ghost use Rattle.std.specs.Prelude.{◌≡◌, ◌≤◌, ℕ, ◌<◌, ◌↔◌, length, slice_index, slice_index_or, vec_len, IfOk, IsTrue};
 ghost use Rattle.ua_part.specs.Partitions.{IsPartition, IsPart, LiesBelow, IsJoin};

@@ -5,14 +5,15 @@ ghost use Rattle.std.specs.List.{AllByRecursion};
 ghost use Rattle.ua_table.specs.Tables.{IsAlgebraTable};
 ghost use Rattle.ua_part.specs.Partitions.{IsPartition, identity_on};
 ghost use Rattle.ua_prod.specs.Congruences.{IsCongruence};
-ghost use Rattle.ua_lattice.specs.Joins.{IsEntered, IsJoinEntered, GoesOnWithJoins, HasJoins, IsSpannedLattice, AreAmong};
+ghost use Rattle.ua_lattice.specs.Joins.{IsJoinEntered, GoesOnWithJoins, HasJoins, IsSpannedLattice, AreAmong};
 ghost use Rattle.ua_table.specs.declared.limits.TheConstants.{SIZE};
 
 use crate::joiner::{Joiner, lies_below};
 use std::alloc::{AllocError, Global};
+use ua_cong::enter;
 use ua_part::Part;
 use ua_rows::Rows;
-use ua_table::{Algebra, Elem};
+use ua_table::Algebra;
 
 /// Congruences that are found as joins, as rows, and those by which they were found.
 #[derive(Drop)]
@@ -26,20 +27,6 @@ pub struct Found {
 pub struct Search<'a> {
     pub algebra: &'a Algebra,
     pub budget: u32,
-}
-
-/// Enters a row, unless it is there.
-pub fn enter(rows: &mut Rows, row: &[Elem]) -> Result<(), AllocError>
-    requires width { length row.now ≡ rows.old.width }
-    requires room { length rows.old.items < u32.MAX }
-    ensures width { rows.new.width ≡ rows.old.width }
-    ensures entered { OnOk result (IsEntered rows.old.items row.now rows.new.items) }
-{
-    if rows.find(row).is_some() {
-        return Ok(());
-    }
-    rows.push(row)?;
-    Ok(())
 }
 
 /// Enters the join of row i with a partition, unless it is there.
@@ -59,7 +46,8 @@ fn enter_join(rows: &mut Rows, joiner: &mut Joiner, i: u32, part: &Part) -> Resu
         return Ok(());
     }
     joiner.join(row, part);
-    enter(rows, joiner.row.as_slice())
+    enter(rows, joiner.row.as_slice())?;
+    Ok(())
 }
 
 /// Enters the joins of all rows with a partition. False where there are more rows than the budget then.

@@ -4,7 +4,8 @@ ghost use Rattle.std.specs.Prelude.{ℕ, ◌≤◌, List, ◌++◌, length, Cont
 ghost use Rattle.ua_table.specs.Algebras.{FiniteAlgebra, IsAlgebra};
 ghost use Rattle.ua_part.specs.Partitions.{Partition, IsPartition, IsJoin, identity_on};
 ghost use Rattle.ua_prod.specs.Congruences.{IsCongruence};
-ghost use Rattle.ua_lattice.specs.Lattices.{HasPrincipals, IsJoinClosed, IsJoinedWith, IsCongruenceList, IsExceedingList};
+ghost use Rattle.ua_cong.specs.Principals.{HasPrincipals};
+ghost use Rattle.ua_lattice.specs.Lattices.{IsJoinClosed, IsJoinedWith, IsCongruenceList, IsExceedingList};
 
 /// The join of congruences, as partitions, is a congruence; and a list of congruences that holds the
 /// identity and all principal congruences, and is closed under joins, holds every congruence (S. Burris

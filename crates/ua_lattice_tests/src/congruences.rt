@@ -2,7 +2,8 @@
 
 use std::alloc::Global;
 use std::test::Fail;
-use ua_cong::{cg, is_congruence, principals};
+use ua_cong::{cg, distinct_principals, enter, is_congruence, principals};
+use ua_rows::Rows;
 use ua_table::{Algebra, Name, OpTable};
 
 /// The symmetric group on three letters: the rotations are 0, 1, 2.
@@ -50,6 +51,31 @@ fn principal(rt: HostRuntime) -> Result<(), Fail> {
             };
             assert_eq!(rt; part.print(alloc)?.as_slice(), text, "{x} {y}");
         }
+    }
+    Ok(())
+}
+
+/// Of the fifteen pairs there are two different principal congruences, and one where one is enough.
+#[test]
+fn different_ones(rt: HostRuntime) -> Result<(), Fail> {
+    let alloc = rt.alloc();
+    let algebra = group(alloc)?;
+    for workers in [1, 2, 16] {
+        let rows = distinct_principals(&rt, alloc, &algebra, 100, workers)?;
+        assert_eq!(rt; rows.len(), 2);
+        assert!(rt; rows.find(&[0, 0, 0, 3, 3, 3]).is_some());
+        assert!(rt; rows.find(&[0; 6]).is_some());
+        let first = distinct_principals(&rt, alloc, &algebra, 1, workers)?;
+        assert_eq!(rt; first.len(), 1);
+    }
+    Ok(())
+}
+
+#[test]
+fn entered(rt: HostRuntime) -> Result<(), Fail> {
+    let mut rows = Rows::new(rt.alloc(), 3);
+    for (row, place) in [([0, 0, 2], 0), ([0, 1, 1], 1), ([0, 0, 2], 0)] {
+        assert_eq!(rt; enter(&mut rows, &row)?, place);
     }
     Ok(())
 }

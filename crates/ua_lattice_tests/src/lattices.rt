@@ -120,3 +120,31 @@ fn more_than_the_budget(rt: HostRuntime) -> Result<(), Fail> {
         b"|0|1|2|3||0 1|2 3||0 2|1 3||0 1 2 3|",
     )
 }
+
+/// Where there is no operation every partition is a congruence, and of the five of three elements three are
+/// principal.
+#[test]
+fn more_principals_than_the_budget(rt: HostRuntime) -> Result<(), Fail> {
+    let alloc = rt.alloc();
+    let set = algebra(alloc, 3, &[])?;
+    for workers in [1, 2, 16] {
+        let run = Run::new(2, workers, &FreeGate).ok_or("a budget out of its limits")?;
+        let Lattice::Exceeds(list) = congruences(&rt, alloc, &set, &run)? else {
+            return Err("not more than the budget".into());
+        };
+        expect_texts(&rt, alloc, list.as_slice(), b"|0 1|2||0 2|1||0|1 2|")?;
+    }
+    Ok(())
+}
+
+/// A cycle of a prime number of elements, which has no other congruences than two.
+#[test]
+fn cycle(rt: HostRuntime) -> Result<(), Fail> {
+    let algebra = algebra(rt.alloc(), 7, &[(1, &[1, 2, 3, 4, 5, 6, 0])])?;
+    let expected = Expected {
+        texts: b"|0|1|2|3|4|5|6||0 1 2 3 4 5 6|",
+        covers: &[(0, 1)],
+        irreducibles: &[1],
+    };
+    expect(&rt, rt.alloc(), &algebra, 2, &expected)
+}

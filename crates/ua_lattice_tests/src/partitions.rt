@@ -88,5 +88,9 @@ fn rows(rt: HostRuntime) -> Result<(), Fail> {
     let mut joined = [9; 4];
     sets.write_row(&mut joined);
     assert_eq!(rt; joined, [0; 4]);
+    sets.assign(&[0, 1, 2, 3]);
+    sets.unite_row(&row);
+    sets.write_row(&mut joined);
+    assert_eq!(rt; joined, row);
     Ok(())
 }

@@ -1,10 +1,12 @@
--- The first places of joined checks, and their parts.
-use Rattle.std.proofs.Common.{◌≡◌, List, [], ◌∷◌, ◌++◌, Option, refl, ◌∙◌, append_assoc, append-nil}
+-- The first places of joined checks, and what passes in them.
+use Rattle.std.proofs.Common.{◌≡◌, ℕ, zero, suc, ◌+◌, ◌<◌, List, [], ◌∷◌, ◌++◌, length, get_or, take, Option, refl, sym, ap, ◌∙◌, subst, append_assoc, append-nil, arith}
+use Rattle.std.proofs.Math.Seq.{take-suc}
+use Rattle.std.specs.List.{AllByRecursion}
 use Rattle.std.specs.Option.{option_or}
 use Rattle.ua_text.specs.declared.tokens.Place.{Place}
 use Rattle.ua_term.specs.Meanings.{first_place}
 use Rattle.ua_reply.specs.declared.checks.FirstErrors.{FirstErrors}
-use Rattle.ua_reply.specs.Checks.{Checks, passed, ◌and◌, Passes, AreFirst}
+use Rattle.ua_reply.specs.Checks.{Checks, passed, ◌and◌, all_in, Passes, AreFirst}
 
 first_both : (xs ys : List Place) → option_or (first_place xs) (first_place ys) ≡ first_place (xs ++ ys)
 first_both [] ys = refl
@@ -47,3 +49,31 @@ and_passed a = λ i. record { unknown = append-nil a.unknown i; range = append-n
 pub passed_and : (a : Checks) → (passed and a) ≡ a
 unfolding ◌and◌
 passed_and a = refl
+
+-- ---- what fails in each
+
+-- one more at the end
+pub all_more : {X : Type 0} (check : X → Checks) (xs : List X) (y : X) → all_in check (xs ++ y ∷ []) ≡ (all_in check xs and check y)
+all_more check [] y = and_passed (check y) ∙ sym (passed_and (check y))
+all_more check (x ∷ xs) y = ap (λ c. check x and c) (all_more check xs y) ∙ sym (and_assoc (check x) (all_in check xs) (check y))
+
+pub each_passes : {X : Type 0} (check : X → Checks) (xs : List X) → Passes (all_in check xs) → AllByRecursion (λ x. Passes (check x)) xs
+each_passes check [] h = tt
+each_passes check (x ∷ xs) h = let p = parts_pass (check x) (all_in check xs) h in (p.0, each_passes check xs p.1)
+
+-- what holds of each holds at a place
+pub holds_at : {X : Type 0} (P : X → Type 0) (xs : List X) (i : ℕ) (d : X) → AllByRecursion P xs → i < length xs → P (get_or xs i d)
+holds_at P [] i d all h = absurd (omega arith)
+holds_at P (x ∷ xs) zero d all h = all.0
+holds_at P (x ∷ xs) (suc i) d all h = holds_at P xs i d all.1 (omega arith)
+
+-- the one at a place passes
+pub one_passes : {X : Type 0} (check : X → Checks) (xs : List X) (i : ℕ) (x : X) → Passes (all_in check xs) → i < length xs → x ≡ get_or xs i x → Passes (check x)
+one_passes check xs i x h low is = subst (λ x. Passes (check x)) (sym is) (holds_at (λ x. Passes (check x)) xs i x (each_passes check xs h) low)
+
+-- the first places of what is joined, one more at the end
+pub first_more : {X : Type 0} (check : X → Checks) (xs : List X) (i : ℕ) (x : X) (e : FirstErrors) → i < length xs → x ≡ get_or xs i x → AreFirst (all_in check (take i xs) and check x) e → AreFirst (all_in check (take (i + 1) xs)) e
+first_more check xs i x e low is h =
+    let next : i + 1 ≡ suc i = omega arith in
+    let more : take (i + 1) xs ≡ take i xs ++ x ∷ [] = ap (λ n. take n xs) next ∙ take-suc xs i x low ∙ ap (λ y. take i xs ++ y ∷ []) (sym is) in
+    subst (λ (d : Checks). AreFirst d e) (sym (ap (all_in check) more ∙ all_more check (take i xs) x)) h

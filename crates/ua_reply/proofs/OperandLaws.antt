@@ -1,6 +1,7 @@
 -- What it means that operands pass.
-use Rattle.std.proofs.Common.{◌≡◌, ℕ, zero, suc, ◌<◌, ◌≤◌, ◌*◌, inl, inr, ◌==◌, Bool, true, false, nat_lt, not, if◌then◌else◌, List, [], ◌∷◌, ◌++◌, length, map, filter, replicate, get_or, slice_index, refl, sym, ap, ◌∙◌, subst, arith}
+use Rattle.std.proofs.Common.{◌≡◌, ℕ, zero, suc, ◌<◌, ◌≤◌, ◌*◌, inl, inr, ◌==◌, Bool, true, false, nat_lt, List, [], ◌∷◌, length, map, replicate, get_or, slice_index, Option, Some, None, refl, sym, ap, ◌∙◌, subst, arith}
 use Rattle.std.specs.List.{AllByRecursion}
+use Rattle.std.specs.Option.{unwrap_or}
 use Rattle.std.proofs.lemmas.Bool.{ltb-true, eqb-true, cases_lt}
 use Rattle.std.proofs.Math.Nat.{mul-le-mul_right}
 use Rattle.std.proofs.lemmas.List.{length-map, length-replicate}
@@ -8,45 +9,50 @@ use Rattle.ua_table.specs.Algebras.{Vector, FiniteAlgebra, IsVector, arities_of}
 use Rattle.ua_table.specs.declared.limits.TheConstants.{WIDTH}
 use Rattle.ua_table.specs.Frames.{IsWidth}
 use Rattle.ua_table.specs.Numbering.{records}
+use Rattle.ua_text.specs.declared.tokens.Place.{Place}
+use Rattle.ua_text.specs.declared.named.Block.{Block}
 use Rattle.ua_close.specs.declared.close.CloseError.TheVariants as causes
 use Rattle.ua_close.specs.Answers.{IsCause}
 use Rattle.ua_script.specs.declared.script.Number.{Number}
+use Rattle.ua_script.specs.declared.script.Entry.{Entry}
 use Rattle.ua_script.specs.declared.script.Items.{Items}
-use Rattle.ua_reply.specs.declared.known.Known.{Known}
-use Rattle.ua_reply.specs.Checks.{◌and◌, unless, Passes}
-use Rattle.ua_reply.specs.Operands.{values_of, vectors_of, pairs_of, IsPairIn, power_of, positive, elements_in, length_in, vector_in, vectors_in}
-use Rattle.ua_reply.proofs.CheckLaws.{parts_pass, and_assoc, and_passed, passed_and}
-
--- what holds of each holds at a place
-pub holds_at : {X : Type 0} (P : X → Type 0) (xs : List X) (i : ℕ) (d : X) → AllByRecursion P xs → i < length xs → P (get_or xs i d)
-holds_at P [] i d all h = absurd (omega arith)
-holds_at P (x ∷ xs) zero d all h = all.0
-holds_at P (x ∷ xs) (suc i) d all h = holds_at P xs i d all.1 (omega arith)
-
--- what stands past the end of a list of numbers
-abbrev pub no_number : Number
-no_number = record { value = 0; place = record { line = 0; column = 0 } }
+use Rattle.ua_reply.specs.declared.checks.FirstErrors.{FirstErrors}
+use Rattle.ua_reply.specs.Checks.{◌and◌, unless, Passes, AreFirst}
+use Rattle.ua_reply.specs.Operands.{element_of, place_of, value_of, values_of, vectors_of, pair_of, pairs_of, IsPairIn, power_of, positive, known_in, element_in, elements_in, length_in, vector_in, vectors_in}
+use Rattle.ua_reply.proofs.CheckLaws.{parts_pass, each_passes, holds_at}
 
 -- ---- elements
 
-above_step : (size : ℕ) (n : Number) (rest : List Number) (b : Bool) → nat_lt n.value size ≡ b
-    → map (λ (y : Number). y.place) (if not b then n ∷ rest else rest) ≡ [] → (n.value < size) × (map (λ (y : Number). y.place) rest ≡ [])
-above_step size n rest true e h = (ltb-true n.value size e, h)
-above_step size n rest false e h = cc
+-- there is an element, and it is below the size
+abbrev pub IsBelow : ℕ → Option ℕ → Type 0
+IsBelow size None = ⊥
+IsBelow size (Some x) = x < size
 
-none_above : (size : ℕ) (ns : List Number) → map (λ (n : Number). n.place) (filter (λ (n : Number). not (nat_lt n.value size)) ns) ≡ [] → AllByRecursion (λ (n : Number). n.value < size) ns
-none_above size [] e = tt
-none_above size (n ∷ ns) e =
-    let s = above_step size n (filter (λ (y : Number). not (nat_lt y.value size)) ns) (nat_lt n.value size) refl e in
-    (s.0, none_above size ns s.1)
+below : (x size : ℕ) (place : Place) (b : Bool) → nat_lt x size ≡ b → unless b place ≡ [] → x < size
+below x size place true e h = ltb-true x size e
+below x size place false e h = cc
 
--- numbers that pass are elements
-pub numbers_below : (k : Known) (ns : List Number) → Passes (elements_in k ns) → AllByRecursion (λ (n : Number). n.value < k.algebra.size) ns
-numbers_below k ns h = none_above k.algebra.size ns h.range
+passes_below : (k : Block) (place : Place) (o : Option ℕ) → Passes (known_in k place o) → IsBelow k.algebra.size o
+passes_below k place None h = let no = h.unknown in cc
+passes_below k place (Some x) h = below x k.algebra.size place (nat_lt x k.algebra.size) refl h.range
 
-pub values_below : (size : ℕ) (ns : List Number) → AllByRecursion (λ (n : Number). n.value < size) ns → AllByRecursion (λ x. x < size) (values_of ns)
-values_below size [] h = tt
-values_below size (n ∷ ns) h = (h.0, values_below size ns h.1)
+-- what is written and passes is an element
+pub element_below : (k : Block) (e : Entry) → Passes (element_in k e) → IsBelow k.algebra.size (element_of k e)
+element_below k e h = passes_below k (place_of e) (element_of k e) h
+
+value_below : (k : Block) (e : Entry) → Passes (element_in k e) → value_of k e < k.algebra.size
+value_below k e h = at (element_of k e) (element_below k e h)
+  where
+    at : (o : Option ℕ) → IsBelow k.algebra.size o → unwrap_or o 0 < k.algebra.size
+    at None b = absurd b
+    at (Some x) b = b
+
+all_below : (k : Block) (es : List Entry) → AllByRecursion (λ e. Passes (element_in k e)) es → AllByRecursion (λ x. x < k.algebra.size) (map (value_of k) es)
+all_below k [] h = tt
+all_below k (e ∷ es) h = (value_below k e h.0, all_below k es h.1)
+
+pub values_below : (k : Block) (es : List Entry) → Passes (elements_in k es) → AllByRecursion (λ x. x < k.algebra.size) (map (value_of k) es)
+values_below k es h = all_below k es (each_passes (element_in k) es h)
 
 -- ---- vectors
 
@@ -61,60 +67,45 @@ length_step : (width : ℕ) (v : Items) (b : Bool) → (length v.values == width
 length_step width v true e h = eqb-true (length v.values) width e
 length_step width v false e h = cc
 
-pub vector_length : (k : Known) (width : ℕ) (v : Items) → Passes (vector_in k width v) → length v.values ≡ width
+pub vector_length : (k : Block) (width : ℕ) (v : Items) → Passes (vector_in k width v) → length v.values ≡ width
 vector_length k width v h = length_step width v (length v.values == width) refl (parts_pass (elements_in k v.values) (length_in width v) h).1.shape
 
+-- the entries of a vector that passes pass
+pub entries_pass : (k : Block) (width : ℕ) (v : Items) → Passes (vector_in k width v) → Passes (elements_in k v.values)
+entries_pass k width v h = (parts_pass (elements_in k v.values) (length_in width v) h).0
+
 -- a vector that passes is one of the power
-pub vector_admitted : (k : Known) (width : ℕ) (v : Items) → Passes (vector_in k width v) → IsVector (power_of k width) (values_of v.values)
+pub vector_admitted : (k : Block) (width : ℕ) (v : Items) → Passes (vector_in k width v) → IsVector (power_of k width) (values_of k v)
 vector_admitted k width v h =
-    let p = parts_pass (elements_in k v.values) (length_in width v) h in
-    in_power k.algebra (values_of v.values) width (length-map v.values (λ (n : Number). n.value) ∙ vector_length k width v h) (values_below k.algebra.size v.values (numbers_below k v.values p.0))
+    in_power k.algebra (values_of k v) width (length-map v.values (value_of k) ∙ vector_length k width v h) (values_below k v.values (entries_pass k width v h))
 
-pub each_passes : (k : Known) (width : ℕ) (vs : List Items) → Passes (vectors_in k width vs) → AllByRecursion (λ v. Passes (vector_in k width v)) vs
-each_passes k width [] h = tt
-each_passes k width (v ∷ vs) h =
-    let p = parts_pass (vector_in k width v) (vectors_in k width vs) h in
-    (p.0, each_passes k width vs p.1)
-
--- the checks of one vector more
-pub vectors_more : (k : Known) (width : ℕ) (us : List Items) (v : Items) → vectors_in k width (us ++ v ∷ []) ≡ (vectors_in k width us and vector_in k width v)
-vectors_more k width [] v = and_passed (vector_in k width v) ∙ sym (passed_and (vector_in k width v))
-vectors_more k width (u ∷ us) v = ap (λ c. vector_in k width u and c) (vectors_more k width us v) ∙ sym (and_assoc (vector_in k width u) (vectors_in k width us) (vector_in k width v))
-
-all_admitted : (k : Known) (width : ℕ) (vs : List Items) → AllByRecursion (λ v. Passes (vector_in k width v)) vs → AllByRecursion (IsVector (power_of k width)) (vectors_of vs)
+all_admitted : (k : Block) (width : ℕ) (vs : List Items) → AllByRecursion (λ v. Passes (vector_in k width v)) vs → AllByRecursion (IsVector (power_of k width)) (vectors_of k vs)
 all_admitted k width [] h = tt
 all_admitted k width (v ∷ vs) h = (vector_admitted k width v h.0, all_admitted k width vs h.1)
 
 -- vectors that pass are those of the power
-pub vectors_admitted : (k : Known) (width : ℕ) (vs : List Items) → Passes (vectors_in k width vs) → AllByRecursion (IsVector (power_of k width)) (vectors_of vs)
-vectors_admitted k width vs h = all_admitted k width vs (each_passes k width vs h)
-
--- the vector at a place passes
-pub one_passes : (k : Known) (width : ℕ) (vs : List Items) (i : ℕ) (v : Items) → Passes (vectors_in k width vs) → i < length vs → v ≡ get_or vs i v → Passes (vector_in k width v)
-one_passes k width vs i v h low is = subst (λ v. Passes (vector_in k width v)) (sym is) (holds_at (λ v. Passes (vector_in k width v)) vs i v (each_passes k width vs h) low)
+pub vectors_admitted : (k : Block) (width : ℕ) (vs : List Items) → Passes (vectors_in k width vs) → AllByRecursion (IsVector (power_of k width)) (vectors_of k vs)
+vectors_admitted k width vs h = all_admitted k width vs (each_passes (vector_in k width) vs h)
 
 -- ---- pairs
 
-pair_below : (k : Known) (ns : List Number) → length ns ≡ 2 → AllByRecursion (λ (n : Number). n.value < k.algebra.size) ns → IsPairIn k (slice_index (values_of ns) 0, slice_index (values_of ns) 1)
+-- the element at a place
+pub value_at : (k : Block) (es : List Entry) (i : ℕ) (e : Entry) → i < length es → e ≡ get_or es i e → value_of k e ≡ slice_index (map (value_of k) es) i
+value_at k [] i e h is = absurd (omega arith)
+value_at k (d ∷ es) zero e h is = ap (value_of k) is
+value_at k (d ∷ es) (suc i) e h is = value_at k es i e (omega arith) is
+
+pair_below : (k : Block) (es : List Entry) → length es ≡ 2 → AllByRecursion (λ x. x < k.algebra.size) (map (value_of k) es) → IsPairIn k (slice_index (map (value_of k) es) 0, slice_index (map (value_of k) es) 1)
 pair_below k [] e h = absurd (omega (arith, e))
 pair_below k (m ∷ []) e h = absurd (omega (arith, e))
-pair_below k (m ∷ n ∷ ns) e h = (h.0, h.1.0)
+pair_below k (m ∷ n ∷ es) e h = (h.0, h.1.0)
 
-vector_numbers : (k : Known) (width : ℕ) (v : Items) → Passes (vector_in k width v) → AllByRecursion (λ (n : Number). n.value < k.algebra.size) v.values
-vector_numbers k width v h = numbers_below k v.values (parts_pass (elements_in k v.values) (length_in width v) h).0
-
-each_pair : (k : Known) (vs : List Items) → AllByRecursion (λ v. Passes (vector_in k 2 v)) vs → AllByRecursion (IsPairIn k) (pairs_of vs)
+each_pair : (k : Block) (vs : List Items) → AllByRecursion (λ v. Passes (vector_in k 2 v)) vs → AllByRecursion (IsPairIn k) (pairs_of k vs)
 each_pair k [] h = tt
-each_pair k (v ∷ vs) h = (pair_below k v.values (vector_length k 2 v h.0) (vector_numbers k 2 v h.0), each_pair k vs h.1)
+each_pair k (v ∷ vs) h = (pair_below k v.values (vector_length k 2 v h.0) (values_below k v.values (entries_pass k 2 v h.0)), each_pair k vs h.1)
 
-pub pairs_below : (k : Known) (vs : List Items) → Passes (vectors_in k 2 vs) → AllByRecursion (IsPairIn k) (pairs_of vs)
-pairs_below k vs h = each_pair k vs (each_passes k 2 vs h)
-
--- a number of a vector that passes is an element
-pub number_below : (k : Known) (width : ℕ) (v : Items) (i : ℕ) → Passes (vector_in k width v) → i < width → (get_or v.values i no_number).value < k.algebra.size
-number_below k width v i h low =
-    let count = vector_length k width v h in
-    holds_at (λ (n : Number). n.value < k.algebra.size) v.values i no_number (vector_numbers k width v h) (omega (arith, low, count))
+pub pairs_below : (k : Block) (vs : List Items) → Passes (vectors_in k 2 vs) → AllByRecursion (IsPairIn k) (pairs_of k vs)
+pairs_below k vs h = each_pair k vs (each_passes (vector_in k 2) vs h)
 
 -- ---- widths
 

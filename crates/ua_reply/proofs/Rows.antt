@@ -5,7 +5,7 @@ use Rattle.ua_table.specs.declared.origins.Origin.{Origin}
 use Rattle.ua_table.specs.Algebras.{Vector, Operation}
 use Rattle.ua_table.specs.Listings.{Row}
 use Rattle.ua_part.specs.Blocks.{more_numbers}
-use Rattle.ua_reply.specs.declared.known.Known.{Known}
+use Rattle.ua_text.specs.declared.named.Block.{Block}
 use Rattle.ua_reply.specs.Texts.{line, lines, name_of, row_text}
 
 -- an operation that is not there has no text
@@ -26,14 +26,14 @@ row_of v rank o = record { vector = v; rank = rank; origin = o }
 same_row : (r : Row) (v : Vector) (rank : ℕ) (o : Origin) → r.vector ≡ v → r.rank ≡ rank → r.origin ≡ o → r ≡ row_of v rank o
 same_row r v rank o e1 e2 e3 = ap (λ x. row_of x r.rank r.origin) e1 ∙ ap (λ x. row_of v x r.origin) e2 ∙ ap (λ x. row_of v rank x) e3
 
-abbrev text_of_rows : Known → List Row → List ℕ
+abbrev text_of_rows : Block → List Row → List ℕ
 text_of_rows k rows = lines (row_text k) rows
 
-abbrev line_of : Known → Row → List ℕ
+abbrev line_of : Block → Row → List ℕ
 line_of k r = line (row_text k r)
 
 -- the rows up to a place, and the row there
-rows_more : (k : Known) (rows : List Row) (i : ℕ) (v : Vector) (rank : ℕ) (o : Origin) → slice_get (map (λ (r : Row). r.vector) rows) i ≡ Some v
+rows_more : (k : Block) (rows : List Row) (i : ℕ) (v : Vector) (rank : ℕ) (o : Origin) → slice_get (map (λ (r : Row). r.vector) rows) i ≡ Some v
     → slice_get (map (λ (r : Row). r.rank) rows) i ≡ Some rank → slice_get (map (λ (r : Row). r.origin) rows) i ≡ Some o
     → text_of_rows k (take (suc i) rows) ≡ text_of_rows k (take i rows) ++ line_of k (row_of v rank o)
 rows_more k [] i v rank o ev er eo = cc
@@ -45,7 +45,7 @@ rows_more k (r ∷ rows) zero v rank o ev er eo =
 rows_more k (r ∷ rows) (suc i) v rank o ev er eo = ap (λ t. line_of k r ++ t) (rows_more k rows i v rank o ev er eo) ∙ sym (append_assoc (line_of k r) (text_of_rows k (take i rows)) (line_of k (row_of v rank o)))
 
 -- the rows so far with one row more
-pub rows_grow : (k : Known) (rows : List Row) (i : ℕ) (v : Vector) (rank : ℕ) (o : Origin) → slice_get (map (λ (r : Row). r.vector) rows) i ≡ Some v
+pub rows_grow : (k : Block) (rows : List Row) (i : ℕ) (v : Vector) (rank : ℕ) (o : Origin) → slice_get (map (λ (r : Row). r.vector) rows) i ≡ Some v
     → slice_get (map (λ (r : Row). r.rank) rows) i ≡ Some rank → slice_get (map (λ (r : Row). r.origin) rows) i ≡ Some o
     → (start before after : List ℕ) → before ≡ start ++ text_of_rows k (take i rows) → after ≡ before ++ line_of k (row_of v rank o) → after ≡ start ++ text_of_rows k (take (i + 1) rows)
 rows_grow k rows i v rank o ev er eo start before after e f =

@@ -2,7 +2,7 @@
 use Rattle.std.specs.Prelude.{◌≡◌, Bool, true, false, List, [], ◌∷◌, ◌++◌, map, Option, None, Some}
 use Rattle.ua_text.specs.declared.tokens.Place.{Place}
 use Rattle.ua_term.specs.Meanings.{first_place}
-use Rattle.ua_reply.specs.declared.known.Known.{Known}
+use Rattle.ua_text.specs.declared.named.Block.{Block}
 use Rattle.ua_reply.specs.declared.checks.FirstErrors.{FirstErrors}
 use Rattle.ua_reply.specs.declared.refusals.Refusal.{Refusal}
 use Rattle.ua_reply.specs.declared.refusals.Refusal.TheVariants.{Unknown, Range, Shape}
@@ -36,8 +36,13 @@ infixl 5 ◌and◌
 unfoldable pub ◌and◌ : Checks → Checks → Checks
 a and b = record { unknown = a.unknown ++ b.unknown; range = a.range ++ b.range; shape = a.shape ++ b.shape }
 
+-- what fails in each, in their order
+abbrev pub all_in : {X : Type 0} → (X → Checks) → List X → Checks
+all_in check [] = passed
+all_in check (x ∷ xs) = check x and all_in check xs
+
 -- the place of a name that the session lacks; else what fails in what it knows
-abbrev pub checks_in : Option Known → Place → (Known → Checks) → Checks
+abbrev pub checks_in : Option Block → Place → (Block → Checks) → Checks
 checks_in None place checks = unknown_at (place ∷ [])
 checks_in (Some k) place checks = checks k
 

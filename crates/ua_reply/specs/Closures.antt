@@ -8,7 +8,7 @@ use Rattle.ua_close.specs.declared.sizes.Size.{Size}
 use Rattle.ua_close.specs.declared.sizes.Size.TheVariants as sizes
 use Rattle.ua_close.specs.declared.memberships.Answer.{Answer}
 use Rattle.ua_close.specs.declared.memberships.Answer.TheVariants as answers
-use Rattle.ua_reply.specs.declared.known.Known.{Known}
+use Rattle.ua_text.specs.declared.named.Block.{Block}
 use Rattle.ua_reply.specs.declared.refusals.Refusal.TheVariants.{Wide}
 use Rattle.ua_reply.specs.Refusals.{refusal_text}
 use Rattle.ua_reply.specs.Texts.{line, lines, numbered, counted, origin_text, row_text}
@@ -19,12 +19,12 @@ size_text budget (sizes.Closed n) = line (counted (codes "closed") n)
 size_text budget sizes.Exceeds = line (counted (codes "exceeds") budget)
 
 -- the same, and the rows
-abbrev pub closure_text : Known → ℕ → Closure → List ℕ
+abbrev pub closure_text : Block → ℕ → Closure → List ℕ
 closure_text k budget (closures.Closed rows) = line (counted (codes "closed") (length rows)) ++ lines (row_text k) rows
 closure_text k budget (closures.Exceeds rows) = line (counted (codes "exceeds") budget) ++ lines (row_text k) rows
 
 -- the steps to a member, or the rows that lack the vector
-abbrev pub member_text : Known → ℕ → Answer → List ℕ
+abbrev pub member_text : Block → ℕ → Answer → List ℕ
 member_text k budget (answers.Yes steps) = line (counted (codes "yes") (length steps.items)) ++ numbered (origin_text k) 0 steps.items
 member_text k budget (answers.No rows) = line (counted (codes "no") (length rows)) ++ lines (row_text k) rows
 member_text k budget (answers.Exceeds rows) = line (counted (codes "exceeds") budget) ++ lines (row_text k) rows

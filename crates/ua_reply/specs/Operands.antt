@@ -1,56 +1,81 @@
 -- The operands that commands share: the values that are written, and the places where they fail.
-use Rattle.std.specs.Prelude.{ℕ, ◌<◌, ◌==◌, nat_lt, not, List, [], ◌∷◌, length, map, filter, replicate, slice_index}
+use Rattle.std.specs.Prelude.{ℕ, ◌<◌, ◌==◌, nat_lt, List, [], ◌∷◌, length, map, replicate, slice_index, Option, Some, None}
+use Rattle.std.specs.Option.{unwrap_or}
 use Rattle.ua_table.specs.Algebras.{Vector, Product}
+use Rattle.ua_text.specs.declared.tokens.Place.{Place}
+use Rattle.ua_text.specs.declared.named.Block.{Block}
+use Rattle.ua_text.specs.Labels.{place_in}
 use Rattle.ua_term.specs.Phrases.{Phrase}
 use Rattle.ua_term.specs.Meanings.{unknown_operations, variables_from, misshapen}
 use Rattle.ua_script.specs.declared.script.Number.{Number}
+use Rattle.ua_script.specs.declared.script.Entry.{Entry}
+use Rattle.ua_script.specs.declared.script.Entry.TheVariants as entries
 use Rattle.ua_script.specs.declared.script.Items.{Items}
-use Rattle.ua_reply.specs.declared.known.Known.{Known}
-use Rattle.ua_reply.specs.Checks.{Checks, passed, range_at, shape_at, unless, ◌and◌}
+use Rattle.ua_reply.specs.Checks.{Checks, unknown_at, range_at, shape_at, unless, ◌and◌, all_in}
+
+-- the element that is written: its number, or the place of its name
+abbrev pub element_of : Block → Entry → Option ℕ
+element_of k (entries.Number n) = Some n.value
+element_of k (entries.Word w) = place_in 0 k.names w.name
+
+-- where an entry stands
+abbrev pub place_of : Entry → Place
+place_of (entries.Number n) = n.place
+place_of (entries.Word w) = w.place
+
+-- the element; 0 where the word is no name
+abbrev pub value_of : Block → Entry → ℕ
+value_of k e = unwrap_or (element_of k e) 0
 
 -- the elements that are written
-abbrev pub values_of : List Number → Vector
-values_of ns = map (λ (n : Number). n.value) ns
+abbrev pub values_of : Block → Items → Vector
+values_of k v = map (value_of k) v.values
 
 -- the vectors that are written
-abbrev pub vectors_of : List Items → List Vector
-vectors_of vs = map (λ (v : Items). values_of v.values) vs
+abbrev pub vectors_of : Block → List Items → List Vector
+vectors_of k vs = map (values_of k) vs
 
 -- the pair that is written
-abbrev pub pair_of : Items → ℕ × ℕ
-pair_of v = (slice_index (values_of v.values) 0, slice_index (values_of v.values) 1)
+abbrev pub pair_of : Block → Items → ℕ × ℕ
+pair_of k v = (slice_index (values_of k v) 0, slice_index (values_of k v) 1)
 
-abbrev pub pairs_of : List Items → List (ℕ × ℕ)
-pairs_of vs = map pair_of vs
+abbrev pub pairs_of : Block → List Items → List (ℕ × ℕ)
+pairs_of k vs = map (pair_of k) vs
 
 -- both are elements
-abbrev pub IsPairIn : Known → ℕ × ℕ → Type 0
+abbrev pub IsPairIn : Block → ℕ × ℕ → Type 0
 IsPairIn k x = (x.0 < k.algebra.size) × (x.1 < k.algebra.size)
 
 -- the power of the algebra with so many coordinates
-abbrev pub power_of : Known → ℕ → Product
+abbrev pub power_of : Block → ℕ → Product
 power_of k width = replicate width k.algebra
 
 -- a width is above 0
 abbrev pub positive : Number → Checks
 positive n = range_at (unless (nat_lt 0 n.value) n.place)
 
--- each number is an element
-abbrev pub elements_in : Known → List Number → Checks
-elements_in k ns = range_at (map (λ (n : Number). n.place) (filter (λ (n : Number). not (nat_lt n.value k.algebra.size)) ns))
+-- a word is a name, and a number is below the size
+abbrev pub known_in : Block → Place → Option ℕ → Checks
+known_in k place None = unknown_at (place ∷ [])
+known_in k place (Some x) = range_at (unless (nat_lt x k.algebra.size) place)
+
+abbrev pub element_in : Block → Entry → Checks
+element_in k e = known_in k (place_of e) (element_of k e)
+
+abbrev pub elements_in : Block → List Entry → Checks
+elements_in k es = all_in (element_in k) es
 
 -- so many entries
 abbrev pub length_in : ℕ → Items → Checks
 length_in width v = shape_at (unless (length v.values == width) v.place)
 
 -- elements, as many as the width
-abbrev pub vector_in : Known → ℕ → Items → Checks
+abbrev pub vector_in : Block → ℕ → Items → Checks
 vector_in k width v = elements_in k v.values and length_in width v
 
-abbrev pub vectors_in : Known → ℕ → List Items → Checks
-vectors_in k width [] = passed
-vectors_in k width (v ∷ vs) = vector_in k width v and vectors_in k width vs
+abbrev pub vectors_in : Block → ℕ → List Items → Checks
+vectors_in k width vs = all_in (vector_in k width) vs
 
 -- operations of the algebra, with as many arguments as their arities, and variables below n
-abbrev pub term_in : Known → ℕ → Phrase → Checks
+abbrev pub term_in : Block → ℕ → Phrase → Checks
 term_in k n t = record { unknown = unknown_operations k.algebra t; range = variables_from n t; shape = misshapen k.algebra t }

@@ -1,7 +1,7 @@
 -- What a command is answered: its first error, or the text of an answer that its call permits.
 use Rattle.std.specs.Prelude.{◌≡◌, ℕ, List, Option, None, Some, MatchOption}
 use Rattle.ua_script.specs.declared.script.Word.{Word}
-use Rattle.ua_reply.specs.declared.known.Known.{Known}
+use Rattle.ua_text.specs.declared.named.Block.{Block}
 use Rattle.ua_reply.specs.Sessions.{lookup}
 use Rattle.ua_reply.specs.Checks.{Checks, checks_in, first_error}
 use Rattle.ua_reply.specs.Refusals.{refusal_text}
@@ -13,14 +13,14 @@ pub record Says {A : Type 0} (May : A → Type 0) (text : A → Option (List ℕ
   pub told : text answer ≡ Some bytes
 
 -- what is said of what the session knows of a name
-abbrev pub SaysOf : Option Known → (Known → List ℕ → Type 0) → List ℕ → Type 0
+abbrev pub SaysOf : Option Block → (Block → List ℕ → Type 0) → List ℕ → Type 0
 SaysOf None Answer bytes = ⊥
 SaysOf (Some k) Answer bytes = Answer k bytes
 
 -- the first error alone, where there is one; else an answer for what the session knows
-abbrev pub Answered : Checks → Option Known → (Known → List ℕ → Type 0) → List ℕ → Type 0
+abbrev pub Answered : Checks → Option Block → (Block → List ℕ → Type 0) → List ℕ → Type 0
 Answered checks known Answer bytes = MatchOption (first_error checks) (SaysOf known Answer bytes) (λ r. bytes ≡ refusal_text r)
 
 -- the reply to a command on the algebra of one name
-abbrev pub AnsweredOn : List Known → Word → (Known → Checks) → (Known → List ℕ → Type 0) → List ℕ → Type 0
+abbrev pub AnsweredOn : List Block → Word → (Block → Checks) → (Block → List ℕ → Type 0) → List ℕ → Type 0
 AnsweredOn s w checks Answer bytes = Answered (checks_in (lookup s w.name) w.place checks) (lookup s w.name) Answer bytes

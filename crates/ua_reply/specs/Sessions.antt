@@ -1,18 +1,18 @@
 -- What a session knows of the names that a script has introduced, and the bounds of a run.
 use Rattle.std.specs.Prelude.{◌≡◌, ℕ, ◌<◌, nat_eq, List, length, find, slice_get, Option, None, MatchOption}
 use Rattle.std.specs.Cmp.Lexicographic.{pointwise}
-use Rattle.ua_reply.specs.declared.known.Known.{Known}
+use Rattle.ua_text.specs.declared.named.Block.{Block}
 
 -- what the session knows of this name
-abbrev pub lookup : List Known → List ℕ → Option Known
-lookup s name = find (λ (k : Known). pointwise nat_eq k.algebra.name name) s
+abbrev pub lookup : List Block → List ℕ → Option Block
+lookup s name = find (λ (k : Block). pointwise nat_eq k.algebra.name name) s
 
 -- the place of this name, or None where the session lacks it
-abbrev pub IsPlace : List Known → List ℕ → Option ℕ → Type 0
+abbrev pub IsPlace : List Block → List ℕ → Option ℕ → Type 0
 IsPlace s name place = MatchOption place (lookup s name ≡ None) (λ i. (i < length s) × (slice_get s i ≡ lookup s name))
 
 -- so it is for each name
-abbrev pub ArePlaces : List Known → (List ℕ → Option ℕ) → Type 0
+abbrev pub ArePlaces : List Block → (List ℕ → Option ℕ) → Type 0
 ArePlaces s place = (name : List ℕ) → IsPlace s name (place name)
 
 -- the budget and the number of workers of a run

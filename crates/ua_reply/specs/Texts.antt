@@ -1,14 +1,15 @@
--- The text of numbers, places, vectors, rows and steps.
+-- The text of numbers, places, elements, vectors, rows and steps.
 use Rattle.std.specs.Prelude.{ℕ, suc, List, [], ◌∷◌, ◌++◌, Option, None, Some, codes, slice_get, slice_index, take}
 use Rattle.std.specs.List.{flat_map}
 use Rattle.std.specs.Fmt.{decimal}
+use Rattle.std.specs.Option.{unwrap_or}
 use Rattle.ua_table.specs.declared.origins.Origin.{Origin}
 use Rattle.ua_table.specs.declared.origins.Origin.TheVariants.{Gen, Op}
 use Rattle.ua_table.specs.Algebras.{Vector, Operation, arities_of}
 use Rattle.ua_table.specs.Listings.{Row}
-use Rattle.ua_part.specs.Blocks.{more_numbers, spaced}
+use Rattle.ua_part.specs.Blocks.{more_numbers}
 use Rattle.ua_text.specs.declared.tokens.Place.{Place}
-use Rattle.ua_reply.specs.declared.known.Known.{Known}
+use Rattle.ua_text.specs.declared.named.Block.{Block}
 
 -- a text and an LF
 abbrev pub line : List ℕ → List ℕ
@@ -31,23 +32,32 @@ counted word n = word ++ 32 ∷ decimal n
 abbrev pub place_text : Place → List ℕ
 place_text p = decimal p.line ++ 58 ∷ decimal p.column
 
--- [0 1]
-abbrev pub vector_text : Vector → List ℕ
-vector_text v = codes "[" ++ spaced v ++ codes "]"
+-- the name of an element where it has one, else its number
+abbrev pub element_text : Block → ℕ → List ℕ
+element_text k x = unwrap_or (slice_get k.names x) (decimal x)
+
+-- each element behind a blank
+abbrev pub more_elements : Block → Vector → List ℕ
+more_elements k v = flat_map (λ x. 32 ∷ element_text k x) v
+
+-- [0 1], or [bot top]
+abbrev pub vector_text : Block → Vector → List ℕ
+vector_text k [] = codes "[]"
+vector_text k (x ∷ v) = codes "[" ++ element_text k x ++ more_elements k v ++ codes "]"
 
 abbrev pub name_of : Option Operation → List ℕ
 name_of None = []
 name_of (Some o) = o.name
 
 -- meet 2 1: the name of operation f, and as many of the places as it has arguments
-abbrev pub application_text : Known → ℕ → List ℕ → List ℕ
+abbrev pub application_text : Block → ℕ → List ℕ → List ℕ
 application_text k f places = name_of (slice_get k.algebra.operations f) ++ more_numbers (take (slice_index (arities_of k.algebra) f) places)
 
 -- gen 0, or meet 2 1
-abbrev pub origin_text : Known → Origin → List ℕ
+abbrev pub origin_text : Block → Origin → List ℕ
 origin_text k (Gen index) = counted (codes "gen") index
 origin_text k (Op f places) = application_text k f places
 
--- [0 0] 2 meet 2 1
-abbrev pub row_text : Known → Row → List ℕ
-row_text k r = vector_text r.vector ++ 32 ∷ decimal r.rank ++ 32 ∷ origin_text k r.origin
+-- [0 0] 2 meet 2 1, or [bot bot] 2 meet 2 1
+abbrev pub row_text : Block → Row → List ℕ
+row_text k r = vector_text k r.vector ++ 32 ∷ decimal r.rank ++ 32 ∷ origin_text k r.origin

@@ -8,13 +8,13 @@ ghost use Rattle.ua_table.specs.Numbering.{records};
 ghost use Rattle.ua_term.specs.Meanings.{first_place};
 ghost use Rattle.ua_close.specs.Answers.{IsCause};
 ghost use Rattle.ua_reply.specs.Checks.{AreFirst, Passes};
-ghost use Rattle.ua_reply.specs.Operands.{values_of, vectors_of, power_of, positive, elements_in, length_in, vector_in, vectors_in, term_in, pair_of, pairs_of, IsPairIn};
+ghost use Rattle.ua_reply.specs.Operands.{element_of, place_of, value_of, values_of, vectors_of, power_of, positive, element_in, elements_in, length_in, vector_in, vectors_in, term_in, pair_of, pairs_of, IsPairIn};
 
 use crate::checks::FirstErrors;
 use crate::known::Known;
 use std::alloc::{AllocError, Global};
 use ua_close::CloseError;
-use ua_script::{Items, Number};
+use ua_script::{Entry, Items, Number};
 use ua_table::limits::BUDGET;
 use ua_table::{Elem, Frame, Vectors};
 use ua_term::Written;
@@ -31,25 +31,50 @@ pub fn positive(width: Number) -> FirstErrors
     errors
 }
 
-/// The first number that is no element.
-fn first_beyond(known: &Known, values: &[Number]) -> Option<Place>
-    ensures { result ≡ first_place (elements_in known.now values.now).range }
+/// The element that an entry writes: its number, or the place of its name.
+fn element_of(known: &Known, entry: &Entry) -> Option<usize>
+    ensures { result ≡ element_of known.now entry.now }
 {
-    let size = known.algebra.size();
-    for n in values {
-        if n.value >= size {
-            return Some(n.place);
-        }
+    match entry {
+        Entry::Number(n) => Some(n.value as usize),
+        Entry::Word(w) => known.place_of(w.name.text()),
     }
-    None
 }
 
-/// Whether each number is an element.
-pub fn elements_in(known: &Known, values: &[Number]) -> FirstErrors
-    ensures { AreFirst (elements_in known.now values.now) result }
+/// Where an entry stands.
+fn place_of(entry: &Entry) -> Place
+    ensures { result ≡ place_of entry.now }
+{
+    match entry {
+        Entry::Number(n) => n.place,
+        Entry::Word(w) => w.place,
+    }
+}
+
+/// Whether an entry is an element.
+fn element_in(known: &Known, entry: &Entry) -> FirstErrors
+    ensures { AreFirst (element_in known.now entry.now) result }
 {
     let mut errors = FirstErrors::none();
-    errors.range = first_beyond(known, values);
+    match element_of(known, entry) {
+        None => errors.unknown = Some(place_of(entry)),
+        Some(x) => {
+            if x >= known.algebra().size() as usize {
+                errors.range = Some(place_of(entry));
+            }
+        }
+    }
+    errors
+}
+
+/// Whether each entry is an element.
+pub fn elements_in(known: &Known, entries: &[Entry]) -> FirstErrors
+    ensures { AreFirst (elements_in known.now entries.now) result }
+{
+    let mut errors = FirstErrors::none();
+    for entry in entries {
+        errors = errors.and(element_in(known, entry));
+    }
     errors
 }
 
@@ -87,34 +112,47 @@ pub fn term_in(known: &Known, count: usize, term: &Written) -> FirstErrors
     ensures { AreFirst (term_in known.now count term.now) result }
 {
     FirstErrors {
-        unknown: term.first_unknown(&known.algebra),
+        unknown: term.first_unknown(known.algebra()),
         range: term.first_variable_from(count),
-        shape: term.first_misshapen(&known.algebra),
+        shape: term.first_misshapen(known.algebra()),
     }
 }
 
-/// The elements that are written.
-pub fn elements(alloc: Global, known: &Known, values: &[Number]) -> Result<Vec<Elem>, AllocError>
-    requires passed { Passes (elements_in known.now values.now) }
-    ensures values { IfOk result (λ v. v.items ≡ values_of values.now) }
-    ensures below { IfOk result (λ v. AllByRecursion (λ x. x < known.now.algebra.size) v.items) }
+/// The element that is written.
+fn element(known: &Known, entry: &Entry) -> Elem
+    requires { Passes (element_in known.now entry.now) }
+    ensures value { result ≡ value_of known.now entry.now }
+    ensures below { result < known.now.algebra.size }
 {
-    // Each number is below the size, which fits an element.
-    let _size = known.algebra.size();
-    let mut items = Vec::with_capacity(alloc, values.len())?;
-    for n in values {
-        items.push(n.value as Elem)?;
+    // An element is below the size, which fits its type.
+    let _size = known.algebra().size();
+    let Some(x) = element_of(known, entry) else {
+        unreachable!()
+    };
+    x as Elem
+}
+
+/// The elements that are written.
+pub fn elements(alloc: Global, known: &Known, v: &Items) -> Result<Vec<Elem>, AllocError>
+    requires passed { Passes (elements_in known.now v.now.values) }
+    ensures values { IfOk result (λ row. row.items ≡ values_of known.now v.now) }
+    ensures below { IfOk result (λ row. AllByRecursion (λ x. x < known.now.algebra.size) row.items) }
+{
+    let entries = v.values.as_slice();
+    let mut row = Vec::with_capacity(alloc, entries.len())?;
+    for entry in entries {
+        row.push(element(known, entry))?;
     }
-    Ok(items)
+    Ok(row)
 }
 
 /// The vector that is written.
 pub fn vector(alloc: Global, known: &Known, width: u32, v: &Items) -> Result<Vec<Elem>, AllocError>
     requires passed { Passes (vector_in known.now width v.now) }
-    ensures values { IfOk result (λ row. row.items ≡ values_of v.now.values) }
+    ensures values { IfOk result (λ row. row.items ≡ values_of known.now v.now) }
     ensures admitted { IfOk result (λ row. IsVector (power_of known.now width) row.items) }
 {
-    elements(alloc, known, v.values.as_slice())
+    elements(alloc, known, v)
 }
 
 /// The vectors that are written.
@@ -126,7 +164,7 @@ pub fn vectors(
 ) -> Result<Vectors, AllocError>
     requires passed { Passes (vectors_in known.now width vs.now) }
     requires few { length vs.now < u32.MAX }
-    ensures values { IfOk result (λ list. list ≡ record { width = width; items = vectors_of vs.now }) }
+    ensures values { IfOk result (λ list. list ≡ record { width = width; items = vectors_of known.now vs.now }) }
     ensures admitted { IfOk result (λ list. AllByRecursion (IsVector (power_of known.now width)) list.items) }
 {
     let mut list = Vectors::new(alloc, width);
@@ -140,18 +178,16 @@ pub fn vectors(
 /// The pair that is written.
 fn pair(known: &Known, v: &Items) -> (Elem, Elem)
     requires { Passes (vector_in known.now 2 v.now) }
-    ensures { result ≡ pair_of v.now }
+    ensures { result ≡ pair_of known.now v.now }
 {
-    // Each number is below the size, which fits an element.
-    let _size = known.algebra.size();
-    let values = v.values.as_slice();
-    (values[0].value as Elem, values[1].value as Elem)
+    let entries = v.values.as_slice();
+    (element(known, &entries[0]), element(known, &entries[1]))
 }
 
 /// The pairs that are written.
 pub fn pairs(alloc: Global, known: &Known, vs: &[Items]) -> Result<Vec<(Elem, Elem)>, AllocError>
     requires passed { Passes (vectors_in known.now 2 vs.now) }
-    ensures pairs { IfOk result (λ list. list.items ≡ pairs_of vs.now) }
+    ensures pairs { IfOk result (λ list. list.items ≡ pairs_of known.now vs.now) }
     ensures below { IfOk result (λ list. AllByRecursion (IsPairIn known.now) list.items) }
 {
     let mut list = Vec::with_capacity(alloc, vs.len())?;
@@ -172,7 +208,7 @@ fn wide_power(
     requires { budget ≤ BUDGET }
     ensures { IfOk result (λ e. e ≡ CloseError.Wide (records (arities_of known.now.algebra) gens budget) (budget * width)) }
 {
-    let Ok(line) = Frame::power(&known.algebra, 1) else {
+    let Ok(line) = Frame::power(known.algebra(), 1) else {
         unreachable!()
     };
     let shape = line.shape(alloc)?;
@@ -185,7 +221,7 @@ fn wide_power(
 /// The power of an algebra, or why it is too wide for its vectors to be closed.
 pub fn power<'a>(
     alloc: Global,
-    known: &'a Known,
+    known: &'a Known<'_>,
     width: Number,
     gens: &Vectors,
     budget: u32,
@@ -196,7 +232,7 @@ pub fn power<'a>(
     ensures ok { IfOk result (λ frame. frame ≡ power_of known.now width.value) }
     ensures cause { IfErr result (IsCause (power_of known.now width.value) gens.now.items budget) }
 {
-    match Frame::power(&known.algebra, width.value) {
+    match Frame::power(known.algebra(), width.value) {
         Ok(frame) => Ok(frame),
         Err(_) => Err(wide_power(alloc, known, width.value, gens.len(), budget)?),
     }

@@ -7,15 +7,15 @@ use crate::known::Known;
 use indexmap::IndexMap;
 use std::alloc::{AllocError, Global};
 use std::marker::Model;
-use ua_table::Algebra;
+use ua_text::Block;
 
 /// What a script has introduced so far, in order. A look-up by name takes constant time on the average.
 ///
-/// To a contract it is the list of what it knows.
+/// To a contract it is the list of blocks.
 #[derive(Drop)]
 pub struct Session<'a> {
     alloc: Global,
-    knowns: Vec<Known>,
+    knowns: Vec<Known<'a>>,
     /// The first place of each name.
     places: IndexMap<&'a [u8], usize>,
 }
@@ -24,10 +24,10 @@ impl<'a> Model for Session<'a> {
     ghost use Rattle.std.specs.Prelude.{nat_eq, List};
     ghost use Rattle.std.specs.Cmp.Lexicographic.{pointwise};
     ghost use Rattle.indexmap.specs.IndexMap.{get_by};
-    ghost use Rattle.ua_reply.specs.declared.known.Known.{Known};
+    ghost use Rattle.ua_text.specs.declared.named.Block.{Block};
     ghost use Rattle.ua_reply.specs.Sessions.{ArePlaces};
 
-    ghost Value = { List Known };
+    ghost Value = { List Block };
 
     ghost view = { λ a. a.knowns.items };
 
@@ -47,25 +47,25 @@ impl<'a> Session<'a> {
     }
 
     /// What the session knows of this name.
-    pub fn find(&self, name: &[u8]) -> Option<&Known>
+    pub fn find(&self, name: &[u8]) -> Option<&Known<'a>>
         ensures { option_copied result ≡ lookup self.now name.now }
     {
         let place = self.places.get(name)?;
         Some(&self.knowns[*place])
     }
 
-    /// A copy of an algebra joins the session. After want of memory the session is as it was.
-    pub fn introduce(&mut self, algebra: &'a Algebra) -> Result<(), AllocError>
-        ensures ok { OnOk result (self.new ≡ self.old ++ (record { algebra = algebra.now }) ∷ []) }
+    /// A block joins the session. After want of memory the session is as it was.
+    pub fn introduce(&mut self, block: &'a Block) -> Result<(), AllocError>
+        ensures ok { OnOk result (self.new ≡ self.old ++ block.now ∷ []) }
         ensures err { OnErr result (self.new ≡ self.old) }
     {
-        let copy = algebra.copy(self.alloc)?;
+        let known = Known::new(self.alloc, block)?;
         self.knowns.reserve(1)?;
-        let name = algebra.name().text();
+        let name = block.algebra.name().text();
         if self.places.get(name).is_none() {
             self.places.insert(name, self.knowns.len())?;
         }
-        self.knowns.push(Known { algebra: copy }).unwrap();
+        self.knowns.push(known).unwrap();
         Ok(())
     }
 }

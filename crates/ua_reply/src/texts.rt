@@ -1,8 +1,8 @@
-//! The text of numbers, places, vectors, partitions, rows and steps.
+//! The text of numbers, places, elements, vectors, partitions, rows and steps.
 
 ghost use Rattle.std.specs.Prelude.{◌≡◌, ◌++◌, OnOk};
 ghost use Rattle.ua_part.specs.Blocks.{more_numbers, partition_text};
-ghost use Rattle.ua_reply.specs.Texts.{line, lines, numbered, counted, vector_text, place_text, application_text, origin_text, row_text};
+ghost use Rattle.ua_reply.specs.Texts.{line, lines, numbered, counted, element_text, more_elements, vector_text, place_text, application_text, origin_text, row_text};
 
 use crate::known::Known;
 use std::alloc::AllocError;
@@ -33,25 +33,35 @@ pub fn push_more(out: &mut Vec<u8>, ns: &[u32]) -> Result<(), AllocError>
     Ok(())
 }
 
+/// Appends the name of an element where it has one, else its number.
+pub fn push_element(out: &mut Vec<u8>, known: &Known, x: Elem) -> Result<(), AllocError>
+    ensures { OnOk result (out.new.items ≡ out.old.items ++ element_text known.now x) }
+{
+    match known.names().get(x as usize) {
+        Some(name) => out.extend_from_slice(name.text()),
+        None => push_number(out, u128::from(x)),
+    }
+}
+
 /// Appends each element behind a blank.
-fn push_more_elements(out: &mut Vec<u8>, v: &[Elem]) -> Result<(), AllocError>
-    ensures { OnOk result (out.new.items ≡ out.old.items ++ more_numbers v.now) }
+fn push_more_elements(out: &mut Vec<u8>, known: &Known, v: &[Elem]) -> Result<(), AllocError>
+    ensures { OnOk result (out.new.items ≡ out.old.items ++ more_elements known.now v.now) }
 {
     for x in v {
         out.push(b' ')?;
-        push_number(out, u128::from(*x))?;
+        push_element(out, known, *x)?;
     }
     Ok(())
 }
 
 /// Appends a vector in brackets.
-pub fn push_vector(out: &mut Vec<u8>, v: &[Elem]) -> Result<(), AllocError>
-    ensures { OnOk result (out.new.items ≡ out.old.items ++ vector_text v.now) }
+pub fn push_vector(out: &mut Vec<u8>, known: &Known, v: &[Elem]) -> Result<(), AllocError>
+    ensures { OnOk result (out.new.items ≡ out.old.items ++ vector_text known.now v.now) }
 {
     out.push(b'[')?;
     if let Some((first, others)) = v.split_first() {
-        push_number(out, u128::from(*first))?;
-        push_more_elements(out, others)?;
+        push_element(out, known, *first)?;
+        push_more_elements(out, known, others)?;
     }
     out.push(b']')?;
     Ok(())
@@ -84,7 +94,7 @@ fn push_application(
 ) -> Result<(), AllocError>
     ensures { OnOk result (out.new.items ≡ out.old.items ++ application_text known.now op args.now) }
 {
-    let Some(table) = known.algebra.ops().get(op as usize) else {
+    let Some(table) = known.algebra().ops().get(op as usize) else {
         return Ok(());
     };
     out.extend_from_slice(table.name().text())?;
@@ -128,7 +138,7 @@ fn push_row(
 ) -> Result<(), AllocError>
     ensures { OnOk result (out.new.items ≡ out.old.items ++ line (row_text known.now (record { vector = vector.now; rank = rank; origin = origin.now }))) }
 {
-    push_vector(out, vector)?;
+    push_vector(out, known, vector)?;
     out.push(b' ')?;
     push_number(out, u128::from(rank))?;
     out.push(b' ')?;

@@ -1,6 +1,7 @@
 //! The service of a script, and the top call.
 #![tactic(auto)]
 
+pub mod laws;
 mod run_call;
 mod serve;
 mod status;

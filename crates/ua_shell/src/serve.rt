@@ -35,8 +35,8 @@ pub fn serve<R: Threads + Sync, K: Sink, G: Gate>(
     let mut session = Session::new(alloc);
     for item in items {
         match item {
-            Item::Block(algebra) => {
-                let Ok(()) = session.introduce(algebra) else {
+            Item::Block(block) => {
+                let Ok(()) = session.introduce(block) else {
                     return Served::OutOfMemory;
                 };
             }

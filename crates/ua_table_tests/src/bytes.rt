@@ -1,64 +1,60 @@
 //! Pieces, faults in mid-stream, and a reader and a writer of std.
 
+use std::alloc::Global;
 use std::io::{self, Read, Write};
 use std::test::Fail;
-use ua_io::{
-    MemSink, MemSource, ReadError, Sink, Source, StdSink, StdSource, WriteFault, read_all,
-    write_all,
-};
+use ua_io::{MemSink, MemSource, ReadError, StdSink, StdSource, WriteFault, read_all, write_all};
+
+/// All of a source that gives so many bytes a call at most, or why there are none.
+fn read(
+    alloc: Global,
+    most: u32,
+    fails: &[u32],
+    limit: u32,
+) -> Result<(Vec<u8>, Option<ReadError>), Fail> {
+    let bytes = b"lattice".to_vec(alloc)?;
+    let mut source = MemSource::new(bytes, most.max(1), fails.to_vec(alloc)?);
+    Ok(match read_all(alloc, &mut source, limit) {
+        Ok(bytes) => (bytes, None),
+        Err(error) => (Vec::new(alloc), Some(error)),
+    })
+}
+
+/// What a sink with so much room, which takes so many bytes a call at most, took, and whether it was all.
+fn write(alloc: Global, room: usize, most: u32, fails: &[u32]) -> Result<(Vec<u8>, bool), Fail> {
+    let room = vec![in alloc; 0; room]?;
+    let mut sink = MemSink::new(room, most.max(1), fails.to_vec(alloc)?);
+    let all = write_all(&mut sink, b"lattice").is_ok();
+    Ok((sink.into_bytes(), all))
+}
 
 #[test]
-fn pieces_join(rt: HostRuntime) -> Result<(), Fail> {
-    let alloc = rt.alloc();
-    for most in [1, 2, 3, 100] {
-        let mut source = MemSource::new(b"lattice".to_vec(alloc)?, most, Vec::new(alloc));
-        let bytes = read_all(alloc, &mut source, 7)?;
-        assert_eq!(rt; bytes.as_slice(), b"lattice".as_slice());
-        let mut sink = MemSink::new([0; 9].to_vec(alloc)?, most, Vec::new(alloc));
-        write_all(&mut sink, &bytes).ok().ok_or("written")?;
-        assert_eq!(rt; sink.into_bytes().as_slice(), b"lattice".as_slice());
+fn pieces_read(rt: HostRuntime) -> Result<(), Fail> {
+    for (most, fails, limit, wanted, error) in [
+        (1, [].as_slice(), 7, b"lattice".as_slice(), None),
+        (2, &[], 7, b"lattice", None),
+        (100, &[9], 7, b"lattice", None),
+        (5, &[], 6, b"", Some(ReadError::TooLong)),
+        (3, &[1], 9, b"", Some(ReadError::Fault)),
+    ] {
+        let (bytes, why) = read(rt.alloc(), most, fails, limit)?;
+        assert_eq!(rt; (bytes.as_slice(), why), (wanted, error), "{most} {limit}");
     }
     Ok(())
 }
 
 #[test]
-fn one_byte_too_many(rt: HostRuntime) -> Result<(), Fail> {
-    let alloc = rt.alloc();
-    let mut source = MemSource::new(b"lattice".to_vec(alloc)?, 5, Vec::new(alloc));
-    assert_eq!(rt;
-        read_all(alloc, &mut source, 6).err(),
-        Some(ReadError::TooLong)
-    );
-    Ok(())
-}
-
-#[test]
-fn listed_calls_fail(rt: HostRuntime) -> Result<(), Fail> {
-    let alloc = rt.alloc();
-    let mut source = MemSource::new(b"lattice".to_vec(alloc)?, 3, [1].to_vec(alloc)?);
-    assert_eq!(rt;
-        read_all(alloc, &mut source, 9).err(),
-        Some(ReadError::Fault)
-    );
-    // The next call gives what comes after the bytes that were taken.
-    let mut buf = [0; 4];
-    assert_eq!(rt; source.read(&mut buf), Ok(3));
-    assert_eq!(rt; buf.as_slice(), b"tic\0".as_slice());
-    let mut sink = MemSink::new([0; 9].to_vec(alloc)?, 3, [1].to_vec(alloc)?);
-    assert_eq!(rt; write_all(&mut sink, b"lattice"), Err(WriteFault));
-    assert_eq!(rt; sink.write(b"tice"), Ok(3));
-    assert_eq!(rt; sink.into_bytes().as_slice(), b"lattic".as_slice());
-    Ok(())
-}
-
-#[test]
-fn full_room_fails(rt: HostRuntime) -> Result<(), Fail> {
-    let alloc = rt.alloc();
-    let mut sink = MemSink::new([0; 4].to_vec(alloc)?, 9, Vec::new(alloc));
-    assert_eq!(rt; write_all(&mut sink, b"lattice"), Err(WriteFault));
-    assert!(rt; sink.write(b"x").is_err());
-    assert_eq!(rt; sink.write(b""), Ok(0));
-    assert_eq!(rt; sink.into_bytes().as_slice(), b"latt".as_slice());
+fn pieces_written(rt: HostRuntime) -> Result<(), Fail> {
+    for (room, most, fails, wanted, all) in [
+        (9, 1, [].as_slice(), b"lattice".as_slice(), true),
+        (7, 2, &[], b"lattice", true),
+        (9, 100, &[9], b"lattice", true),
+        (9, 3, &[1], b"lat", false),
+        (4, 9, &[], b"latt", false),
+    ] {
+        let (bytes, done) = write(rt.alloc(), room, most, fails)?;
+        assert_eq!(rt; (bytes.as_slice(), done), (wanted, all), "{room} {most}");
+    }
     Ok(())
 }
 
@@ -101,20 +97,19 @@ impl Write for Uneven {
 }
 
 #[test]
-fn streams_of_std(rt: HostRuntime) -> Result<(), Fail> {
-    let alloc = rt.alloc();
+fn a_reader_of_std(rt: HostRuntime) -> Result<(), Fail> {
     let mut source = StdSource::new(Uneven { call: 0 });
-    assert_eq!(rt;
-        read_all(alloc, &mut source, 9).err(),
-        Some(ReadError::Fault)
-    );
-    assert_eq!(rt;
-        read_all(alloc, &mut source, 9)?.as_slice(),
-        b"op".as_slice()
-    );
-    let mut sink = StdSink::new(Uneven { call: 0 });
-    assert_eq!(rt; write_all(&mut sink, b"op"), Err(WriteFault));
-    assert_eq!(rt; write_all(&mut sink, b"op"), Err(WriteFault));
-    assert_eq!(rt; write_all(&mut sink, b"op"), Ok(()));
+    let first = read_all(rt.alloc(), &mut source, 9).err();
+    assert_eq!(rt; first, Some(ReadError::Fault));
+    let bytes = read_all(rt.alloc(), &mut source, 9)?;
+    assert_eq!(rt; bytes.as_slice(), b"op".as_slice());
     Ok(())
+}
+
+#[test]
+fn a_writer_of_std(rt: HostRuntime) {
+    let mut sink = StdSink::new(Uneven { call: 0 });
+    for answer in [Err(WriteFault), Err(WriteFault), Ok(())] {
+        assert_eq!(rt; write_all(&mut sink, b"op"), answer);
+    }
 }

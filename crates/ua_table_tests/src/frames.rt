@@ -2,7 +2,7 @@
 
 use std::alloc::Global;
 use std::test::Fail;
-use ua_table::{Algebra, Frame, FrameError, Name, OpTable};
+use ua_table::{Algebra, Elem, Frame, FrameError, Name, OpTable};
 
 /// The algebra of this size whose one operation, of this name, has so many arguments and the value 0.
 fn zero(alloc: Global, size: u32, op: &[u8], arity: u8, values: usize) -> Result<Algebra, Fail> {
@@ -13,78 +13,91 @@ fn zero(alloc: Global, size: u32, op: &[u8], arity: u8, values: usize) -> Result
     Ok(Algebra::new(Name::new(alloc, b"A")?, size, ops)?)
 }
 
-fn mixed_error(
+/// Algebras of two and of five elements with a unary operation, one where it is binary, and one where it has
+/// another name.
+fn four(alloc: Global) -> Result<Vec<Algebra>, Fail> {
+    let mut algebras = Vec::new(alloc);
+    for (size, op, arity, values) in [
+        (2, b"f", 1, 2),
+        (5, b"f", 1, 5),
+        (2, b"f", 2, 4),
+        (2, b"g", 1, 2),
+    ] {
+        algebras.push(zero(alloc, size, op, arity, values)?)?;
+    }
+    Ok(algebras)
+}
+
+/// Why there is no product of these algebras, or its width.
+fn mixed(
     alloc: Global,
     algebras: &[Algebra],
     coords: &[u8],
-) -> Result<Option<FrameError>, Fail> {
+) -> Result<Result<u32, FrameError>, Fail> {
     if algebras.len() >= 1 << 32 {
-        return Ok(None);
+        return Err(Fail::from("too many"));
     }
-    Ok(Frame::mixed(algebras, coords.to_vec(alloc)?).err())
+    Ok(match Frame::mixed(algebras, coords.to_vec(alloc)?) {
+        Ok(frame) => Ok(frame.width()),
+        Err(error) => Err(error),
+    })
+}
+
+/// Whether the product of algebras 1, 0 and 1 admits a vector.
+fn admits(alloc: Global, algebras: &[Algebra], v: &[Elem]) -> Result<bool, Fail> {
+    if algebras.len() >= 1 << 32 {
+        return Err(Fail::from("too many"));
+    }
+    let frame = Frame::mixed(algebras, [1, 0, 1].to_vec(alloc)?)?;
+    Ok(frame.admits(v))
 }
 
 #[test]
 fn powers(rt: HostRuntime) -> Result<(), Fail> {
     let algebra = zero(rt.alloc(), 3, b"f", 2, 9)?;
-    assert_eq!(rt; Frame::power(&algebra, 0).err(), Some(FrameError::Width));
-    assert_eq!(rt;
-        Frame::power(&algebra, 67_108_865).err(),
-        Some(FrameError::Width)
-    );
-    assert_eq!(rt; Frame::power(&algebra, 67_108_864)?.width(), 67_108_864);
-    let frame = Frame::power(&algebra, 2)?;
-    assert_eq!(rt; frame.width(), 2);
-    assert_eq!(rt; frame.size_at(1), 3);
-    assert_eq!(rt; frame.algebra_at(1).size(), 3);
-    assert_eq!(rt; frame.base().ok_or("no base")?.size(), 3);
-    assert_eq!(rt; frame.shape(rt.alloc())?.arities(), [2].as_slice());
-    assert!(rt; frame.admits(&[2, 0]));
-    assert!(rt; !frame.admits(&[2, 3]));
-    assert!(rt; !frame.admits(&[2]));
-    assert!(rt; !frame.admits(&[2, 0, 0]));
+    for (width, made) in [
+        (0, false),
+        (1, true),
+        (67_108_864, true),
+        (67_108_865, false),
+    ] {
+        assert_eq!(rt; Frame::power(&algebra, width).is_ok(), made, "{width}");
+    }
     Ok(())
 }
 
 #[test]
-fn mixed_frames(rt: HostRuntime) -> Result<(), Fail> {
-    let alloc = rt.alloc();
-    let mut algebras = Vec::new(alloc);
-    algebras.push(zero(alloc, 2, b"f", 1, 2)?)?;
-    algebras.push(zero(alloc, 5, b"f", 1, 5)?)?;
-    let frame = Frame::mixed(algebras.as_slice(), [1, 0, 1].to_vec(alloc)?)?;
-    assert_eq!(rt; frame.width(), 3);
-    assert_eq!(rt; frame.shape(alloc)?.arities(), [1].as_slice());
-    assert!(rt; frame.base().is_none());
-    assert!(rt; frame.admits(&[4, 1, 0]));
-    assert!(rt; !frame.admits(&[4, 2, 0]));
+fn vectors_of_products(rt: HostRuntime) -> Result<(), Fail> {
+    let algebras = four(rt.alloc())?;
+    let similar = algebras.get(..2).ok_or("range")?;
+    for (v, is_one) in [
+        ([4, 1, 0].as_slice(), true),
+        (&[4, 2, 0], false),
+        (&[5, 1, 0], false),
+        (&[4, 1], false),
+        (&[4, 1, 0, 0], false),
+    ] {
+        let answer = admits(rt.alloc(), similar, v)?;
+        assert_eq!(rt; answer, is_one, "{v:?}");
+    }
     Ok(())
 }
 
 #[test]
-fn frames_refused_in_order(rt: HostRuntime) -> Result<(), Fail> {
-    let alloc = rt.alloc();
-    let all = [
-        zero(alloc, 2, b"f", 1, 2)?,
-        zero(alloc, 5, b"f", 1, 5)?,
-        zero(alloc, 2, b"f", 2, 4)?,
-        zero(alloc, 2, b"g", 1, 2)?,
-    ];
-    for (from, to, coords, error) in [
-        (0, 4, b"".as_slice(), Some(FrameError::Width)),
-        (0, 4, &[0, 4, 5], Some(FrameError::Coordinate(1))),
-        (0, 0, &[0], Some(FrameError::Coordinate(0))),
-        (0, 4, &[0, 1], Some(FrameError::Signature(2))),
-        (2, 4, &[0], Some(FrameError::Signature(1))),
-        (0, 2, &[0, 1], None),
-        (1, 2, &[0], None),
+fn products_refused_in_order(rt: HostRuntime) -> Result<(), Fail> {
+    let all = four(rt.alloc())?;
+    for (from, to, coords, answer) in [
+        (0, 4, b"".as_slice(), Err(FrameError::Width)),
+        (0, 4, &[0, 4, 5], Err(FrameError::Coordinate(1))),
+        (0, 0, &[0], Err(FrameError::Coordinate(0))),
+        (0, 4, &[0, 1], Err(FrameError::Signature(2))),
+        (2, 4, &[0], Err(FrameError::Signature(1))),
+        (0, 2, &[0, 1], Ok(2)),
+        (1, 2, &[0], Ok(1)),
     ] {
         let algebras = all.get(from..to).ok_or("range")?;
-        assert_eq!(rt;
-            mixed_error(alloc, algebras, coords)?,
-            error,
-            "{from} {to} {coords:?}"
-        );
+        let found = mixed(rt.alloc(), algebras, coords)?;
+        assert_eq!(rt; found, answer, "{from} {to} {coords:?}");
     }
     Ok(())
 }

@@ -1,18 +1,31 @@
 //! Worked numbers of units, slices and codes.
 
-ghost use Rattle.std.specs.Prelude.{◌≡◌, ◌<◌, ◌≤◌, ◌*◌, length, sum, IfOk};
+ghost use Rattle.std.specs.Prelude.{◌≡◌, ◌<◌, ◌≤◌, ◌*◌, length, sum};
 ghost use Rattle.ua_table.specs.Numbering.{IsShape};
 
 use std::alloc::Global;
 use std::test::Fail;
+use ua_table::limits::{ARITY, OPERATIONS};
 use ua_table::{Origin, Shape, Slice, Unit};
 
-fn shape(alloc: Global, arities: &[u8]) -> Result<Shape, Fail>
-    requires { IsShape arities.now }
-    ensures { IfOk result (λ s. s ≡ arities.now) }
-{
-    let list = arities.to_vec(alloc)?;
+/// The shape of operations with these arities.
+fn shape(alloc: Global, arities: &[u8]) -> Result<Shape, Fail> {
+    let mut list = Vec::new(alloc);
+    for k in arities {
+        if *k > ARITY || list.len() == OPERATIONS {
+            return Err(Fail::from("no shape"));
+        }
+        list.push(*k)?;
+    }
     Ok(Shape::new(list))
+}
+
+/// A unit and how many tuples it has, where it exists.
+fn unit(shape: &Shape, u: u64) -> Option<(Unit, u64)> {
+    if u / 1_000_000 < shape.units() {
+        return Some((shape.unit_of(u), shape.unit_size(u)));
+    }
+    None
 }
 
 /// The tuple, where the unit and the number exist.
@@ -21,27 +34,6 @@ fn tuple(shape: &Shape, u: u64, t: u64) -> Option<[u32; 4]> {
     if u / 1_000_000 < shape.units() && t < shape.unit_size(u) {
         shape.tuple_at(u, t, &mut out);
         return Some(out);
-    }
-    None
-}
-
-fn size(shape: &Shape, u: u64) -> Option<u64> {
-    if u / 1_000_000 < shape.units() {
-        return Some(shape.unit_size(u));
-    }
-    None
-}
-
-fn slices(shape: &Shape, u: u64) -> Option<u64> {
-    if u / 1_000_000 < shape.units() {
-        return Some(shape.slices(u));
-    }
-    None
-}
-
-fn unit(shape: &Shape, u: u64) -> Option<Unit> {
-    if u / 1_000_000 < shape.units() {
-        return Some(shape.unit_of(u));
     }
     None
 }
@@ -56,6 +48,14 @@ fn bound(shape: &Shape, rows: u32) -> Option<u64> {
 fn slice(shape: &Shape, rows: u32, s: u64) -> Option<Slice> {
     if rows <= 1_000_000 && shape.fits(0, rows) && s < shape.bound(rows) {
         return Some(shape.slice_of(rows, s));
+    }
+    None
+}
+
+/// How many codes there are, and whether they fit in a word.
+fn records(shape: &Shape, gens: u32, budget: u32) -> Option<(u128, bool)> {
+    if budget <= 1_000_000 {
+        return Some((shape.records(gens, budget), shape.fits(gens, budget)));
     }
     None
 }
@@ -94,54 +94,74 @@ fn tuples_of_rows(shape: &Shape, rows: u32) -> Option<u64> {
     None
 }
 
-/// The first slice, of those in steps, that a mark carried along finds elsewhere than a walk from the
-/// first unit, or whose unit it takes apart otherwise than a division.
-fn first_stray(shape: &Shape, rows: u32, step: u64) -> Option<u64> {
-    if rows <= 1_000_000 && step > 0 && shape.fits(0, rows) {
-        let mut mark = shape.first_mark();
-        for s in 0..shape.bound(rows) {
-            if s % step > 0 {
-                continue;
-            }
-            let slice = shape.slice_from(rows, &mut mark, s);
-            if slice != shape.slice_of(rows, s) || unit(shape, slice.unit) != Some(mark.parts) {
-                return Some(s);
-            }
-        }
-    }
-    None
-}
-
 #[test]
-fn units_of_arities_two_and_one(rt: HostRuntime) -> Result<(), Fail> {
-    let shape = shape(rt.alloc(), &[2, 1])?;
-    assert_eq!(rt; shape.units(), 3);
-    for (u, row, op, place, tuples) in [
-        (1, 0, 0, 1, 0),
-        (3, 1, 0, 0, 2),
-        (4, 1, 0, 1, 1),
-        (5, 1, 1, 0, 1),
+fn units(rt: HostRuntime) -> Result<(), Fail> {
+    for (arities, u, row, op, place, tuples) in [
+        ([2, 1].as_slice(), 1, 0, 0, 1, 0),
+        (&[2, 1], 3, 1, 0, 0, 2),
+        (&[2, 1], 4, 1, 0, 1, 1),
+        (&[2, 1], 5, 1, 1, 0, 1),
+        (
+            &[4; 64],
+            255_999_996,
+            999_999,
+            63,
+            0,
+            1_000_000_000_000_000_000,
+        ),
+        (
+            &[4; 64],
+            255_999_999,
+            999_999,
+            63,
+            3,
+            999_997_000_002_999_999,
+        ),
     ] {
-        assert_eq!(rt; unit(&shape, u), Some(Unit { row, op, place }), "unit {u}");
-        assert_eq!(rt; size(&shape, u), Some(tuples), "unit {u}");
-    }
-    for (u, t, entries) in [
-        (1, 0, None),
-        (3, 0, Some([1, 0, 0, 0])),
-        (3, 1, Some([1, 1, 0, 0])),
-        (4, 0, Some([0, 1, 0, 0])),
-        (5, 0, Some([1, 0, 0, 0])),
-    ] {
-        assert_eq!(rt; tuple(&shape, u, t), entries, "tuple {t} of unit {u}");
+        let found = unit(&shape(rt.alloc(), arities)?, u);
+        let unit = Unit { row, op, place };
+        assert_eq!(rt; found, Some((unit, tuples)), "unit {u} of {arities:?}");
     }
     Ok(())
 }
 
 #[test]
-fn slices_of_one_binary_operation(rt: HostRuntime) -> Result<(), Fail> {
-    let shape = shape(rt.alloc(), &[2])?;
-    for (rows, slices) in [(0, 0), (4096, 8192), (4097, 8195)] {
-        assert_eq!(rt; bound(&shape, rows), Some(slices), "{rows} rows");
+fn tuples(rt: HostRuntime) -> Result<(), Fail> {
+    for (arities, u, t, entries) in [
+        ([2, 1].as_slice(), 1, 0, None),
+        (&[2, 1], 3, 0, Some([1, 0, 0, 0])),
+        (&[2, 1], 3, 1, Some([1, 1, 0, 0])),
+        (&[2, 1], 4, 0, Some([0, 1, 0, 0])),
+        (&[2, 1], 5, 0, Some([1, 0, 0, 0])),
+        (&[3], 7, 1, Some([0, 2, 1, 0])),
+        (&[3], 7, 2, Some([0, 2, 2, 0])),
+        (&[3], 7, 3, Some([1, 2, 0, 0])),
+        (&[3], 7, 6, None),
+        (
+            &[4; 64],
+            255_999_996,
+            999_999_999_999_999_999,
+            Some([999_999; 4]),
+        ),
+    ] {
+        let found = tuple(&shape(rt.alloc(), arities)?, u, t);
+        assert_eq!(rt; found, entries, "tuple {t} of unit {u} of {arities:?}");
+    }
+    Ok(())
+}
+
+#[test]
+fn slices(rt: HostRuntime) -> Result<(), Fail> {
+    for (arities, rows, count) in [
+        ([2].as_slice(), 0, 0),
+        (&[2], 4096, 8192),
+        (&[2], 4097, 8195),
+        (&[2, 0, 1, 3], 3000, 6_605_333),
+        (&[0, 0], 3000, 0),
+        (&[1], 1_000_000, 1_000_000),
+    ] {
+        let found = bound(&shape(rt.alloc(), arities)?, rows);
+        assert_eq!(rt; found, Some(count), "{rows} rows of {arities:?}");
     }
     for (s, unit, from, to) in [
         (8191, 8191, 0, 4095),
@@ -149,179 +169,84 @@ fn slices_of_one_binary_operation(rt: HostRuntime) -> Result<(), Fail> {
         (8193, 8192, 4096, 4097),
         (8194, 8193, 0, 4096),
     ] {
-        assert_eq!(rt;
-            slice(&shape, 4097, s),
-            Some(Slice { unit, from, to }),
-            "slice {s}"
-        );
-    }
-    assert_eq!(rt; slice(&shape, 4097, 8195), None);
-    Ok(())
-}
-
-#[test]
-fn codes_of_one_binary_operation(rt: HostRuntime) -> Result<(), Fail> {
-    let shape = shape(rt.alloc(), &[2])?;
-    for (code, origin) in [
-        (0, None),
-        (2, Some(Origin::Gen { index: 1 })),
-        (
-            13,
-            Some(Origin::Op {
-                op: 0,
-                args: [1, 0, 0, 0],
-            }),
-        ),
-        (
-            102,
-            Some(Origin::Op {
-                op: 0,
-                args: [9, 9, 0, 0],
-            }),
-        ),
-        (103, None),
-    ] {
-        assert_eq!(rt; unpack(&shape, 2, 10, code), origin, "code {code}");
-        assert_eq!(rt;
-            again(&shape, 2, 10, code),
-            origin.map(|_| code),
-            "code {code}"
-        );
-    }
-    Ok(())
-}
-
-#[test]
-fn codes_of_short_operations(rt: HostRuntime) -> Result<(), Fail> {
-    let shape = shape(rt.alloc(), &[2, 1, 0])?;
-    for (code, origin) in [
-        (
-            110,
-            Some(Origin::Op {
-                op: 1,
-                args: [9, 0, 0, 0],
-            }),
-        ),
-        (111, None),
-        (
-            201,
-            Some(Origin::Op {
-                op: 2,
-                args: [0, 0, 0, 0],
-            }),
-        ),
-        (202, None),
-    ] {
-        assert_eq!(rt; unpack(&shape, 0, 10, code), origin, "code {code}");
-    }
-    Ok(())
-}
-
-#[test]
-fn records_of_an_operation_of_four_places(rt: HostRuntime) -> Result<(), Fail> {
-    let shape = shape(rt.alloc(), &[4])?;
-    assert_eq!(rt;
-        shape.records(0, 1_000_000),
-        1_000_000_000_000_000_000_000_001
-    );
-    for (gens, budget, fits) in [
-        (4_294_967_295, 55_108, true),
-        (0, 55_109, false),
-        (0, 1_000_000, false),
-    ] {
-        assert_eq!(rt; shape.fits(gens, budget), fits, "budget {budget}");
-    }
-    Ok(())
-}
-
-#[test]
-fn tuples_in_order(rt: HostRuntime) -> Result<(), Fail> {
-    let shape = shape(rt.alloc(), &[3])?;
-    let last = Slice {
-        unit: 7,
-        from: 1,
-        to: 6,
-    };
-    if last.unit / 1_000_000 < shape.units() && last.to <= shape.unit_size(last.unit) {
-        let mut tuples = shape.tuples(last);
-        for entries in [
-            [0, 2, 1, 0],
-            [0, 2, 2, 0],
-            [1, 2, 0, 0],
-            [1, 2, 1, 0],
-            [1, 2, 2, 0],
-        ] {
-            assert_eq!(rt; tuples.next(), Some(entries));
-        }
-        assert_eq!(rt; tuples.next(), None);
-    } else {
-        assert!(rt; false);
+        let found = slice(&shape(rt.alloc(), &[2])?, 4097, s);
+        assert_eq!(rt; found, Some(Slice { unit, from, to }), "slice {s}");
     }
     Ok(())
 }
 
 #[test]
 fn all_tuples_of_some_rows(rt: HostRuntime) -> Result<(), Fail> {
-    let ternary = shape(rt.alloc(), &[3])?;
-    assert_eq!(rt; tuples_of_rows(&ternary, 70), Some(343_000));
-    let mixed = shape(rt.alloc(), &[2, 0, 4, 1])?;
-    assert_eq!(rt; tuples_of_rows(&mixed, 12), Some(144 + 20_736 + 12));
-    Ok(())
-}
-
-#[test]
-fn slices_found_by_marks(rt: HostRuntime) -> Result<(), Fail> {
-    let mixed = shape(rt.alloc(), &[2, 0, 1, 3])?;
-    for (rows, slices, step) in [(100, 735, 1), (3000, 6_605_333, 9973)] {
-        assert_eq!(rt; bound(&mixed, rows), Some(slices), "{rows} rows");
-        assert_eq!(rt; first_stray(&mixed, rows, step), None, "{rows} rows");
+    for (arities, rows, count) in [
+        ([3].as_slice(), 70, 343_000),
+        (&[2, 0, 4, 1], 12, 144 + 20_736 + 12),
+    ] {
+        let found = tuples_of_rows(&shape(rt.alloc(), arities)?, rows);
+        assert_eq!(rt; found, Some(count), "{rows} rows of {arities:?}");
     }
-    let none = shape(rt.alloc(), &[0, 0])?;
-    assert_eq!(rt; bound(&none, 3000), Some(0));
+    Ok(())
+}
+
+/// The origin that is this operation at these rows.
+fn made(op: u32, args: [u32; 4]) -> Option<Origin> {
+    Some(Origin::Op { op, args })
+}
+
+#[test]
+fn codes(rt: HostRuntime) -> Result<(), Fail> {
+    for (arities, gens, budget, code, origin) in [
+        ([2].as_slice(), 2, 10, 0, None),
+        (&[2], 2, 10, 2, Some(Origin::Gen { index: 1 })),
+        (&[2], 2, 10, 13, made(0, [1, 0, 0, 0])),
+        (&[2], 2, 10, 102, made(0, [9, 9, 0, 0])),
+        (&[2], 2, 10, 103, None),
+        (&[2, 1, 0], 0, 10, 110, made(1, [9, 0, 0, 0])),
+        (&[2, 1, 0], 0, 10, 111, None),
+        (&[2, 1, 0], 0, 10, 201, made(2, [0; 4])),
+        (&[2, 1, 0], 0, 10, 202, None),
+        (
+            &[4; 64],
+            5,
+            19_483,
+            9_221_536_638_103_649_349,
+            made(63, [19_482; 4]),
+        ),
+        (&[4; 64], 5, 19_483, 9_221_536_638_103_649_350, None),
+    ] {
+        let shape = shape(rt.alloc(), arities)?;
+        let found = unpack(&shape, gens, budget, code);
+        assert_eq!(rt; found, origin, "code {code} of {arities:?}");
+        let packed = again(&shape, gens, budget, code);
+        assert!(rt; origin.is_none() || packed == Some(code));
+    }
     Ok(())
 }
 
 #[test]
-fn the_greatest_units(rt: HostRuntime) -> Result<(), Fail> {
-    let widest = shape(rt.alloc(), &[4; 64])?;
-    assert_eq!(rt; widest.units(), 256);
-    let last = Unit {
-        row: 999_999,
-        op: 63,
-        place: 3,
-    };
-    assert_eq!(rt; unit(&widest, 255_999_999), Some(last));
-    assert_eq!(rt; size(&widest, 255_999_999), Some(999_997_000_002_999_999));
-    let largest = 255_999_996;
-    assert_eq!(rt; size(&widest, largest), Some(1_000_000_000_000_000_000));
-    assert_eq!(rt; slices(&widest, largest), Some(244_140_625_000_000));
-    assert_eq!(rt;
-        tuple(&widest, largest, 999_999_999_999_999_999),
-        Some([999_999; 4])
-    );
-    let unary = shape(rt.alloc(), &[1])?;
-    assert_eq!(rt; bound(&unary, 1_000_000), Some(1_000_000));
-    Ok(())
-}
-
-#[test]
-fn the_greatest_codes(rt: HostRuntime) -> Result<(), Fail> {
-    let widest = shape(rt.alloc(), &[4; 64])?;
-    assert!(rt; widest.fits(0, 19_483));
-    assert!(rt; !widest.fits(0, 19_484));
-    let greatest = Origin::Op {
-        op: 63,
-        args: [19_482; 4],
-    };
-    let code = 9_221_536_638_103_649_349;
-    assert_eq!(rt; unpack(&widest, 5, 19_483, code), Some(greatest));
-    assert_eq!(rt; again(&widest, 5, 19_483, code), Some(code));
-    assert_eq!(rt; unpack(&widest, 5, 19_483, code + 1), None);
-    let ternary = shape(rt.alloc(), &[3; 9])?;
-    assert!(rt; ternary.fits(4_294_967_295, 1_000_000));
-    let more = shape(rt.alloc(), &[3; 10])?;
-    assert!(rt; !more.fits(0, 1_000_000));
-    let none = shape(rt.alloc(), &[])?;
-    assert!(rt; none.fits(4_294_967_295, 1_000_000));
+fn numbers_of_codes(rt: HostRuntime) -> Result<(), Fail> {
+    for (arities, gens, budget, count, fits) in [
+        ([].as_slice(), 4_294_967_295, 1_000_000, 4_294_967_296, true),
+        (&[2], 2, 10, 103, true),
+        (&[4], 0, 1_000_000, 1_000_000_000_000_000_000_000_001, false),
+        (&[4], 4_294_967_295, 55_108, 9_222_710_983_167_656_192, true),
+        (&[4], 0, 55_109, 9_223_380_425_197_538_162, false),
+        (&[4; 64], 0, 19_483, 9_221_536_638_103_649_345, true),
+        (&[4; 64], 0, 19_484, 9_223_430_031_652_962_305, false),
+        (
+            &[3; 9],
+            4_294_967_295,
+            1_000_000,
+            9_000_000_004_294_967_296,
+            true,
+        ),
+        (&[3; 10], 0, 1_000_000, 10_000_000_000_000_000_001, false),
+    ] {
+        let found = records(&shape(rt.alloc(), arities)?, gens, budget);
+        assert_eq!(rt;
+            found,
+            Some((count, fits)),
+            "budget {budget} of {arities:?}"
+        );
+    }
     Ok(())
 }

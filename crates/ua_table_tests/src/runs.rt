@@ -2,7 +2,7 @@
 
 use std::sync::atomic::{AtomicU64, Ordering};
 use std::test::Fail;
-use ua_table::{Algebra, Frame, FreeGate, Gate, Name, Run, Vectors};
+use ua_table::{Algebra, Frame, FreeGate, Gate, Run, Shape, Vectors};
 
 /// A gate that counts how often it was passed.
 #[derive(Drop)]
@@ -19,53 +19,50 @@ impl Gate for Counter {
 }
 
 /// Passes the gate as each worker would at one slice.
-fn pass<G: Gate>(run: &Run<G>) {
-    for worker in 0..run.workers {
-        run.gate.before(worker, 0);
-        run.gate.after(worker, 0);
+fn pass<G: Gate>(gate: &G, workers: u32) {
+    for worker in 0..workers {
+        gate.before(worker, 0);
+        gate.after(worker, 0);
     }
 }
 
 #[test]
-fn limits(rt: HostRuntime) -> Result<(), Fail> {
-    for (budget, workers) in [(0, 1), (1_000_001, 1), (1, 0), (1, 17)] {
-        assert!(rt; Run::new(budget, workers, &FreeGate).is_none());
+fn limits(rt: HostRuntime) {
+    for (budget, workers, made) in [
+        (0, 1, false),
+        (1, 1, true),
+        (1_000_000, 16, true),
+        (1_000_001, 1, false),
+        (1, 0, false),
+        (1, 17, false),
+    ] {
+        let run = Run::new(budget, workers, &FreeGate);
+        assert_eq!(rt; run.is_some(), made, "{budget} {workers}");
     }
-    for (budget, workers) in [(1, 1), (1_000_000, 16)] {
-        let run = Run::new(budget, workers, &FreeGate).ok_or("none")?;
-        assert_eq!(rt; run.budget, budget);
-        assert_eq!(rt; run.workers, workers);
-    }
-    Ok(())
 }
 
 #[test]
-fn gates(rt: HostRuntime) -> Result<(), Fail> {
+fn gates(rt: HostRuntime) {
     let counter = Counter(AtomicU64::new(0));
-    pass(&Run::new(10, 3, &counter).ok_or("none")?);
+    pass(&counter, 3);
+    pass(&FreeGate, 3);
     assert_eq!(rt; counter.0.load(Ordering::SeqCst), 6);
-    pass(&Run::new(10, 3, &FreeGate).ok_or("none")?);
-    Ok(())
 }
 
-fn share<T: Sync>(_value: &T) {}
+fn shared<T: Sync>() {}
 
-fn send<T: Send + Drop>(_value: T) {}
+fn handed_over<T: Send>() {}
 
 /// What workers share, and what they hand over.
 #[test]
-fn types_that_threads_share(rt: HostRuntime) -> Result<(), Fail> {
-    let alloc = rt.alloc();
-    let algebra = Algebra::new(Name::new(alloc, b"A")?, 2, Vec::new(alloc))?;
-    let frame = Frame::power(&algebra, 3)?;
-    share(&frame);
-    share(&algebra);
-    share(&frame.shape(alloc)?);
-    share(&Vectors::new(alloc, 3));
-    share(&Run::new(10, 2, &FreeGate).ok_or("none")?);
-    send(frame.shape(alloc)?);
-    send(Vectors::new(alloc, 3));
-    send(frame);
-    send(algebra);
-    Ok(())
+fn types_that_threads_share() {
+    shared::<Algebra>();
+    shared::<Frame>();
+    shared::<Shape>();
+    shared::<Vectors>();
+    shared::<Run<FreeGate>>();
+    handed_over::<Algebra>();
+    handed_over::<Frame>();
+    handed_over::<Shape>();
+    handed_over::<Vectors>();
 }

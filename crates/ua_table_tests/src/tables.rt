@@ -2,9 +2,9 @@
 
 ghost use Rattle.std.specs.Prelude.{◌≡◌, IfOk};
 
-use ua_table::{Algebra, AlgebraError, Elem, Name, NameError, OpTable, TableError, Vectors};
 use std::alloc::Global;
 use std::test::Fail;
+use ua_table::{Algebra, AlgebraError, Elem, Name, OpTable, TableError, Vectors};
 
 /// Why there is no such operation, if there is none.
 fn table_error(
@@ -19,6 +19,7 @@ fn table_error(
     Ok(OpTable::new(name, size, arity, values).err())
 }
 
+/// The operation without arguments that is 0.
 fn constant(alloc: Global, name: &[u8], size: u32) -> Result<OpTable, Fail> {
     let name = Name::new(alloc, name)?;
     Ok(OpTable::new(name, size, 0, [0].to_vec(alloc)?)?)
@@ -43,7 +44,13 @@ fn constants(alloc: Global, names: &[&[u8]], size: u32) -> Result<Vec<OpTable>, 
     Ok(ops)
 }
 
-/// Why there is no such algebra, if there is none.
+/// The algebra of one element with these constants.
+fn pointed(alloc: Global, names: &[&[u8]]) -> Result<Algebra, Fail> {
+    let ops = constants(alloc, names, 1)?;
+    Ok(Algebra::new(Name::new(alloc, b"A")?, 1, ops)?)
+}
+
+/// Why there is no algebra of this size, if there is none.
 fn algebra_error(
     alloc: Global,
     size: u32,
@@ -55,21 +62,21 @@ fn algebra_error(
 
 #[test]
 fn names(rt: HostRuntime) -> Result<(), Fail> {
-    let longest = b"a23456789_123456789_123456789_12";
-    for text in [b"A".as_slice(), b"z9_", b"x_1", b"gen", longest] {
-        assert_eq!(rt; Name::new(rt.alloc(), text)?.text(), text);
-    }
-    let too_long = b"a23456789_123456789_123456789_123";
-    for text in [
-        b"".as_slice(),
-        b"9a",
-        b"_a",
-        b"a-b",
-        b"a b",
-        b"\xc3\xa9",
-        too_long,
+    for (text, is_name) in [
+        (b"A".as_slice(), true),
+        (b"z9_", true),
+        (b"x_1", true),
+        (b"gen", true),
+        (b"a23456789_123456789_123456789_12", true),
+        (b"a23456789_123456789_123456789_123", false),
+        (b"", false),
+        (b"9a", false),
+        (b"_a", false),
+        (b"a-b", false),
+        (b"a b", false),
+        (b"\xc3\xa9", false),
     ] {
-        assert_eq!(rt; Name::new(rt.alloc(), text).err(), Some(NameError::Form));
+        assert_eq!(rt; Name::new(rt.alloc(), text).is_ok(), is_name, "{text:?}");
     }
     Ok(())
 }
@@ -77,13 +84,7 @@ fn names(rt: HostRuntime) -> Result<(), Fail> {
 #[test]
 fn operations_refused_in_order(rt: HostRuntime) -> Result<(), Fail> {
     for (name, size, arity, values, error) in [
-        (
-            b"f".as_slice(),
-            0,
-            9,
-            [].as_slice(),
-            Some(TableError::Size),
-        ),
+        (b"f".as_slice(), 0, 9, [].as_slice(), Some(TableError::Size)),
         (b"f", 1001, 0, &[0], Some(TableError::Size)),
         (b"f", 1000, 4, &[], Some(TableError::Size)),
         (b"f", 2, 25, &[], Some(TableError::Size)),
@@ -107,15 +108,8 @@ fn operations_refused_in_order(rt: HostRuntime) -> Result<(), Fail> {
 #[test]
 fn values(rt: HostRuntime) -> Result<(), Fail> {
     let op = plus(rt.alloc())?;
-    assert_eq!(rt; op.name().text(), b"plus".as_slice());
-    assert_eq!(rt; op.values().len(), 9);
     assert_eq!(rt; op.value(&[1, 2]), 0);
     assert_eq!(rt; op.value(&[2, 0]), 2);
-    let again = op.copy(rt.alloc())?;
-    assert_eq!(rt; again.name().text(), op.name().text());
-    assert_eq!(rt; again.values(), op.values());
-    assert_eq!(rt; again.size(), 3);
-    assert_eq!(rt; again.arity(), 2);
     Ok(())
 }
 
@@ -133,48 +127,39 @@ fn algebras_refused_in_order(rt: HostRuntime) -> Result<(), Fail> {
         (1000, 1, &many[..0], None),
     ] {
         let ops = constants(rt.alloc(), names, op_size)?;
-        assert_eq!(rt;
-            algebra_error(rt.alloc(), size, ops)?,
-            error,
-            "{size} {op_size}"
-        );
+        let answer = algebra_error(rt.alloc(), size, ops)?;
+        assert_eq!(rt; answer, error, "{size} {op_size}");
     }
     Ok(())
 }
 
+/// Operations on 64 elements: one with as many values as all together may have, and one more.
+fn one_value_too_many(alloc: Global) -> Result<Vec<OpTable>, Fail> {
+    let mut ops = constants(alloc, &[b"a"], 64)?;
+    let values = vec![in alloc; 0; 16_777_216]?;
+    ops.push(OpTable::new(Name::new(alloc, b"b")?, 64, 4, values)?)?;
+    Ok(ops)
+}
+
 #[test]
 fn more_values_than_the_limit(rt: HostRuntime) -> Result<(), Fail> {
-    let alloc = rt.alloc();
-    let mut ops = Vec::new(alloc);
-    let values = vec![in alloc; 0; 16_777_216]?;
-    ops.push(OpTable::new(Name::new(alloc, b"a")?, 64, 4, values)?)?;
-    ops.push(constant(alloc, b"b", 64)?)?;
-    assert_eq!(rt;
-        algebra_error(alloc, 64, ops)?,
-        Some(AlgebraError::TooManyValues)
-    );
+    let ops = one_value_too_many(rt.alloc())?;
+    let answer = algebra_error(rt.alloc(), 64, ops)?;
+    assert_eq!(rt; answer, Some(AlgebraError::TooManyValues));
     Ok(())
 }
 
 #[test]
 fn operations_of_an_algebra(rt: HostRuntime) -> Result<(), Fail> {
-    let alloc = rt.alloc();
-    let mut ops = Vec::new(alloc);
-    ops.push(plus(alloc)?)?;
-    ops.push(constant(alloc, b"zero", 3)?)?;
-    let algebra = Algebra::new(Name::new(alloc, b"Z3")?, 3, ops)?;
-    assert_eq!(rt; algebra.find_op(b"plus"), Some(0));
-    assert_eq!(rt; algebra.find_op(b"zero"), Some(1));
-    assert_eq!(rt; algebra.find_op(b"plu"), None);
-    let copy = algebra.copy(alloc)?;
-    assert_eq!(rt; copy.name().text(), b"Z3".as_slice());
-    assert_eq!(rt; copy.size(), 3);
-    assert_eq!(rt; copy.ops().len(), 2);
-    assert!(rt; algebra.same_signature(&copy));
-    let mut ops = Vec::new(alloc);
-    ops.push(constant(alloc, b"zero", 3)?)?;
-    ops.push(plus(alloc)?)?;
-    let turned = Algebra::new(Name::new(alloc, b"Z3")?, 3, ops)?;
+    let algebra = pointed(rt.alloc(), &[b"zero", b"one"])?.copy(rt.alloc())?;
+    for (name, place) in [
+        (b"zero".as_slice(), Some(0)),
+        (b"one", Some(1)),
+        (b"on", None),
+    ] {
+        assert_eq!(rt; algebra.find_op(name), place, "{name:?}");
+    }
+    let turned = pointed(rt.alloc(), &[b"one", b"zero"])?;
     assert!(rt; !algebra.same_signature(&turned));
     Ok(())
 }
@@ -182,12 +167,9 @@ fn operations_of_an_algebra(rt: HostRuntime) -> Result<(), Fail> {
 #[test]
 fn vectors(rt: HostRuntime) -> Result<(), Fail> {
     let mut list = Vectors::new(rt.alloc(), 2);
-    assert!(rt; list.is_empty());
     list.add(&[0, 1])?;
     list.add(&[0, 1])?;
     list.add(&[4, 3])?;
-    assert_eq!(rt; list.width(), 2);
-    assert_eq!(rt; list.len(), 3);
     assert_eq!(rt; list.get(2), [4, 3].as_slice());
     Ok(())
 }

@@ -2,39 +2,52 @@
 
 use std::alloc::Global;
 use std::test::Fail;
-use ua_table::Algebra;
 use ua_table::limits::SCRIPT;
 use ua_text::calls::tokens;
-use ua_text::{Block, ReadFault, TokenKind, print_algebra, read_algebra, read_block};
+use ua_text::{Block, TokenKind, print_algebra, read_algebra, read_block};
 
 const M: &[u8] = b"algebra M size 2\nop meet 2 = 0 0 0 1\nend\n";
 
-/// The algebra whose block the text begins with.
-fn read(alloc: Global, text: &[u8]) -> Result<Algebra, Fail> {
+/// The block of version 2 that the text begins with.
+fn block(alloc: Global, text: &[u8]) -> Result<Block, Fail> {
     if text.len() > SCRIPT {
         return Err(Fail::from("too long"));
     }
-    match read_algebra(alloc, &mut tokens(text)) {
-        Ok(algebra) => Ok(algebra),
-        Err(ReadFault::Text(_)) => Err(Fail::from("refused")),
-        Err(ReadFault::OutOfMemory) => Err(Fail::from("no memory")),
+    match read_block(alloc, &mut tokens(text), 2) {
+        Ok(block) => Ok(block),
+        Err(_) => Err(Fail::from("refused")),
     }
 }
 
+/// How many names the block has that the text begins with, and its algebra in canonical print.
+fn printed(alloc: Global, text: &[u8]) -> Result<(usize, Vec<u8>), Fail> {
+    let block = block(alloc, text)?;
+    let names = block.names.as_slice().len();
+    Ok((names, print_algebra(alloc, &block.algebra)?))
+}
+
 #[test]
-fn an_algebra_both_ways(rt: HostRuntime) -> Result<(), Fail> {
+fn blocks_in_canonical_print(rt: HostRuntime) -> Result<(), Fail> {
     let loose = b"algebra M size 2 op meet 2 = # the least\n 0 0\r\n\t0 1 end close";
-    for text in [M, loose] {
-        let algebra = read(rt.alloc(), text)?;
-        assert_eq!(rt; algebra.name().text(), b"M".as_slice());
-        assert_eq!(rt; algebra.ops().len(), 1);
-        let printed = print_algebra(rt.alloc(), &algebra)?;
-        assert_eq!(rt; printed.as_slice(), M);
-        let copy = algebra.copy(rt.alloc())?;
-        let printed = print_algebra(rt.alloc(), &copy)?;
-        assert_eq!(rt; printed.as_slice(), M);
+    let named = b"algebra L size 3 names (bot mid top)\nop f 1 = top 0 mid\nop c 0 = mid\nend";
+    let numbers = b"algebra L size 3\nop f 1 = 2 0 1\nop c 0 = 1\nend\n";
+    for (text, names, canonical) in [
+        (M, 0, M),
+        (loose.as_slice(), 0, M),
+        (named.as_slice(), 3, numbers.as_slice()),
+        (numbers.as_slice(), 0, numbers.as_slice()),
+    ] {
+        let (count, bytes) = printed(rt.alloc(), text)?;
+        assert_eq!(rt; (count, bytes.as_slice()), (names, canonical));
     }
     Ok(())
+}
+
+/// The algebra whose block of version 1 the text begins with.
+#[test]
+fn an_algebra_is_read(rt: HostRuntime) {
+    let read = read_algebra(rt.alloc(), &mut tokens(M));
+    assert!(rt; read.is_ok());
 }
 
 #[test]
@@ -64,40 +77,6 @@ fn tokens_are_slices_at_their_places(rt: HostRuntime) -> Result<(), Fail> {
     Ok(())
 }
 
-/// The block of version 2 that the text begins with.
-fn named(alloc: Global, text: &[u8]) -> Result<Block, Fail> {
-    if text.len() > SCRIPT {
-        return Err(Fail::from("too long"));
-    }
-    match read_block(alloc, &mut tokens(text), 2) {
-        Ok(block) => Ok(block),
-        Err(ReadFault::Text(_)) => Err(Fail::from("refused")),
-        Err(ReadFault::OutOfMemory) => Err(Fail::from("no memory")),
-    }
-}
-
-#[test]
-fn names_of_elements(rt: HostRuntime) -> Result<(), Fail> {
-    let text = b"algebra L size 3 names (bot mid top)\nop f 1 = top 0 mid\nop c 0 = mid\nend\n";
-    let block = named(rt.alloc(), text)?;
-    let names = block.names.as_slice();
-    assert_eq!(rt; names.len(), 3);
-    assert_eq!(rt; names[1].text(), b"mid".as_slice());
-    let ops = block.algebra.ops();
-    assert_eq!(rt; ops.len(), 2);
-    assert_eq!(rt; ops[0].values(), [2, 0, 1].as_slice());
-    assert_eq!(rt; ops[1].values(), [1].as_slice());
-    let unnamed = read(rt.alloc(), M)?;
-    let printed = print_algebra(rt.alloc(), &unnamed)?;
-    assert!(rt;
-        named(rt.alloc(), printed.as_slice())?
-            .names
-            .as_slice()
-            .is_empty()
-    );
-    Ok(())
-}
-
 /// Appends the name of an element: 32 bytes, the last of them its number.
 fn push_name(text: &mut Vec<u8>, element: u32) -> Result<(), Fail> {
     text.extend_from_slice(b" an_element_of_many_bytes_____")?;
@@ -114,18 +93,11 @@ fn a_thousand_names_of_32_bytes(rt: HostRuntime) -> Result<(), Fail> {
     for element in 0..1000 {
         push_name(&mut text, element)?;
     }
-    text.extend_from_slice(b")\nop next 1 =")?;
-    for element in 0..1000 {
-        push_name(&mut text, (element + 1) % 1000)?;
-    }
+    text.extend_from_slice(b") op last 0 =")?;
+    push_name(&mut text, 999)?;
     text.extend_from_slice(b" end")?;
-    let block = named(rt.alloc(), text.as_slice())?;
-    assert_eq!(rt; block.names.as_slice().len(), 1000);
-    let [next] = block.algebra.ops() else {
-        return Err(Fail::from("another number of operations"));
-    };
-    assert_eq!(rt; next.values().len(), 1000);
-    assert_eq!(rt; next.values().first(), Some(&1));
-    assert_eq!(rt; next.values().last(), Some(&0));
+    let (names, bytes) = printed(rt.alloc(), text.as_slice())?;
+    let canonical = b"algebra A size 1000\nop last 0 = 999\nend\n";
+    assert_eq!(rt; (names, bytes.as_slice()), (1000, canonical.as_slice()));
     Ok(())
 }

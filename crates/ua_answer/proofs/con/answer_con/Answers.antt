@@ -1,5 +1,7 @@
-use Rattle.std.proofs.Common.{Some, refl, sym, ap, ◌∙◌}
+use Rattle.std.proofs.Common.{Some, refl, sym, ap, ◌∙◌, subst}
 use Rattle.std.proofs.lemmas.Result.{IfOk-weaker}
+use Rattle.ua_table.specs.Algebras.{FiniteAlgebra}
+use Rattle.ua_lattice.specs.Answers.{IsLatticeOf}
 use Rattle.ua_reply.specs.Sessions.{bounds_of, lookup}
 use Rattle.ua_reply.specs.Checks.{passed}
 use Rattle.ua_answer.specs.ConCommand.{ConAnswer}
@@ -13,5 +15,5 @@ returns g c =
     let k = c.in-Some.known.now in
     let known = sym (c.in-Some.ensures ∙ ap (lookup s) c.text.ensures.text) in
     IfOk-weaker c.lattice_reply.result _ _
-    (λ v text. known_answered s c.args.algebra.now (λ k. passed) (λ k. ConAnswer k b) k v.items known refl (record { answer = c.in_ok-lattice.lattice; permitted = c.in_ok-lattice.ensures; told = ap Some (sym text) }))
+    (λ v text. known_answered s c.args.algebra.now (λ k. passed) (λ k. ConAnswer k b) k v.items known refl (record { answer = c.in_ok-lattice.lattice; permitted = subst (λ (a : FiniteAlgebra). IsLatticeOf a b.budget c.in_ok-lattice.lattice) c.algebra.ensures c.in_ok-lattice.ensures; told = ap Some (sym text) }))
     c.lattice_reply.ensures

@@ -46,6 +46,6 @@ returns g c =
     let first = c.and-errors.ensures.first (w and vs) t (c.and.ensures.first w vs c.positive.ensures c.vectors_in.ensures) c.vector_in.ensures in
     let none = sym (c.in_default-refusal.ensures.first (w and vs and t) first) in
     IfOk-weaker c.member_reply.result _ _
-    (λ v text. known_answered s c.args.algebra.now (λ k. member_checks k c.args.width c.args.gens.now c.args.target.now) (λ k. MemberAnswer k b c.args.width.value (vectors_of c.args.gens.now) (values_of c.args.target.now.values))
+    (λ v text. known_answered s c.args.algebra.now (λ k. member_checks k c.args.width c.args.gens.now c.args.target.now) (λ k. MemberAnswer k b c.args.width.value (vectors_of k c.args.gens.now) (values_of k c.args.target.now))
     k v.items known none (record { answer = c.membership-answer.result; permitted = c.membership-answer.ensures; told = text }))
     c.member_reply.ensures

@@ -1,7 +1,6 @@
 use Rattle.std.proofs.Common.{◌≡◌, [], sym, subst}
 use Rattle.std.specs.Prelude.{slice_index_or}
 use Rattle.std.proofs.lemmas.Option.{get_or_from_slice_get}
-use Rattle.std.proofs.lemmas.Result.{IfOk-weaker}
 use Rattle.std.proofs.lemmas.List.Elements.{Contains-get_or}
 use Rattle.ua_part.specs.Partitions.{Partition, IsPartition, LiesBelow, IsJoin}
 use Rattle.ua_lattice.proofs.FoundLaws.{join_with_lower, join_there, join_entered}
@@ -28,4 +27,4 @@ returns-clause-entered c =
     let join = c.as_slice.result.now in
     let row : q ≡ c.row-row.result.now = get_or_from_slice_get old c.args.i c.row-row.result.now [] c.row-row.ensures.row in
     let is : IsJoin q p join = subst (λ (r : Partition). IsJoin r p join) (sym row) (subst (IsJoin c.row-row.result.now p) (sym c.as_slice.ensures.value) c.join.ensures.join) in
-    IfOk-weaker c.enter.result _ _ (λ _ e. join_entered old q p join c.enter.new.rows.items is e) c.enter.ensures.entered
+    join_entered old q p join c.enter.new.rows.items is c.in_ok-enter.ensures.entered

@@ -2,8 +2,7 @@ use Rattle.std.proofs.Common.{◌≡◌, ℕ, Bool, true, false, not, cond, List
 use Rattle.std.specs.Prelude.{Option, nat_eq, is_ok, is_some, option_copied}
 use Rattle.std.specs.Cmp.Lexicographic.{pointwise}
 use Rattle.indexmap.specs.IndexMap.{get_by}
-use Rattle.ua_table.specs.Algebras.{FiniteAlgebra}
-use Rattle.ua_reply.specs.declared.known.Known.{Known}
+use Rattle.ua_text.specs.declared.named.Block.{Block}
 use Rattle.ua_reply.specs.Sessions.{ArePlaces}
 use Rattle.ua_reply.proofs.SessionLaws.{places_more, places_stay}
 use Rattle.ua_reply.proofs.session.Session.introduce.Goals as goal
@@ -25,30 +24,29 @@ present (Some x) b e h = record { place = x.now; is = refl }
 
 pub invariant_of-self-2 : goal.invariant_of-self-2
 invariant_of-self-2 c =
-    let a = c.in_ok-copy.copy in
-    let k : Known = record { algebra = a } in
+    let k = c.in_ok-known.known in
     let s = c.self.inside.knowns.items in
     let old : List ℕ → Option ℕ = λ t. get_by (λ (k : Bor (List ℕ)). pointwise nat_eq t k.now) c.self.inside.places in
-    let named : c.text-name.result.now ≡ a.name = c.text-name.ensures.text ∙ c.name.ensures ∙ sym (ap (λ (x : FiniteAlgebra). x.name) c.in_ok-copy.ensures) in
+    let named : c.text-name.result.now ≡ k.algebra.name = c.text-name.ensures.text ∙ c.name.ensures ∙ sym (ap (λ (x : Block). x.algebra.name) c.in_ok-known.ensures) in
     let here = c.if-is_none.self-inside.knowns.items in
     let pushed : c.push.new.self.items ≡ here ++ k ∷ [] = c.push.ensures.items ∙ ap (λ r. cond (is_ok r) (here ++ k ∷ []) here) c.unwrap.ensures in
     elim c.if-is_none.branch [
       | then-is_none+in_ok-insert w ↦
           let new : List ℕ → Option ℕ = λ t. get_by (λ (k : Bor (List ℕ)). pointwise nat_eq t k.now) w.insert.new.self in
           let kept : c.reserve.new.self.items ≡ s = c.in_ok-reserve.ensures.items in
-          let count : w.len.result ≡ length s = (let e = w.len.ensures in let k = c.reserve.new.self.ok.0 in let l = ap (length {A = Known}) kept in omega (arith, e, k, l)) in
+          let count : w.len.result ≡ length s = (let e = w.len.ensures in let k = c.reserve.new.self.ok.0 in let l = ap (length {A = Block}) kept in omega (arith, e, k, l)) in
           let update : (t : List ℕ) → new t ≡ cond (pointwise nat_eq c.text-name.result.now t) (Some w.len.result) (old t) = λ t. w.in_ok-insert.ensures.updates.0 (record c.text-name.result { now = t }) in
-          let update' : (t : List ℕ) → new t ≡ cond (pointwise nat_eq a.name t) (Some (length s)) (old t) = λ t. update t ∙ (λ i. cond (pointwise nat_eq (named i) t) (Some (count i)) (old t)) in
-          let none : old a.name ≡ None = ap old (sym named) ∙ sym c.get.ensures.value ∙ absent c.get.result c.is_none.result c.is_none.ensures w.if-is_none.true in
+          let update' : (t : List ℕ) → new t ≡ cond (pointwise nat_eq k.algebra.name t) (Some (length s)) (old t) = λ t. update t ∙ (λ i. cond (pointwise nat_eq (named i) t) (Some (count i)) (old t)) in
+          let none : old k.algebra.name ≡ None = ap old (sym named) ∙ sym c.get.ensures.value ∙ absent c.get.result c.is_none.result c.is_none.ensures w.if-is_none.true in
           let places : c.if-is_none.self-inside.places ≡ w.insert.new.self = λ i. (w.self-inside-is i).places in
-          let whole = pushed ∙ ap (λ (xs : List Known). xs ++ k ∷ []) ((λ i. (w.self-inside-is i).knowns.items) ∙ kept) in
+          let whole = pushed ∙ ap (λ (xs : List Block). xs ++ k ∷ []) ((λ i. (w.self-inside-is i).knowns.items) ∙ kept) in
           let all = places_more s k old new c.self.invariant none update' in
-          subst (λ ps. ArePlaces c.push.new.self.items (λ t. get_by (λ (k : Bor (List ℕ)). pointwise nat_eq t k.now) ps)) (sym places) (subst (λ (xs : List Known). ArePlaces xs new) (sym whole) all)
+          subst (λ ps. ArePlaces c.push.new.self.items (λ t. get_by (λ (k : Bor (List ℕ)). pointwise nat_eq t k.now) ps)) (sym places) (subst (λ (xs : List Block). ArePlaces xs new) (sym whole) all)
       | else-is_none w ↦
           let some = present c.get.result c.is_none.result c.is_none.ensures w.if-is_none.false in
-          let known : old a.name ≡ Some some.place = ap old (sym named) ∙ sym c.get.ensures.value ∙ some.is in
+          let known : old k.algebra.name ≡ Some some.place = ap old (sym named) ∙ sym c.get.ensures.value ∙ some.is in
           let places : c.if-is_none.self-inside.places ≡ c.self.inside.places = λ i. (w.self-inside-is i).places in
-          let whole = pushed ∙ ap (λ (xs : List Known). xs ++ k ∷ []) ((λ i. (w.self-inside-is i).knowns.items) ∙ c.in_ok-reserve.ensures.items) in
+          let whole = pushed ∙ ap (λ (xs : List Block). xs ++ k ∷ []) ((λ i. (w.self-inside-is i).knowns.items) ∙ c.in_ok-reserve.ensures.items) in
           let all = places_stay s k some.place old c.self.invariant known in
-          subst (λ ps. ArePlaces c.push.new.self.items (λ t. get_by (λ (k : Bor (List ℕ)). pointwise nat_eq t k.now) ps)) (sym places) (subst (λ (xs : List Known). ArePlaces xs old) (sym whole) all)
+          subst (λ ps. ArePlaces c.push.new.self.items (λ t. get_by (λ (k : Bor (List ℕ)). pointwise nat_eq t k.now) ps)) (sym places) (subst (λ (xs : List Block). ArePlaces xs old) (sym whole) all)
     ]

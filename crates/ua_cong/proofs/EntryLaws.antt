@@ -1,0 +1,79 @@
+-- Rows that are entered, and principal congruences that become known.
+use Rattle.std.proofs.Common.{◌≡◌, ℕ, ◌+◌, ◌≤◌, List, [], ◌∷◌, ◌++◌, length, refl, sym, ap, ◌∙◌, subst, arith, ⊎_elim, append-nil, length-append}
+use Rattle.std.specs.Prelude.{Some, slice_get, slice_index_or, Contains}
+use Rattle.std.specs.List.{AllByRecursion}
+use Rattle.std.proofs.lemmas.List.{get_or_append_left}
+use Rattle.std.proofs.lemmas.List.Elements.{Contains-push}
+use Rattle.std.proofs.lemmas.Option.{get_or_from_slice_get, slice_get_within}
+use Rattle.ua_table.specs.Algebras.{FiniteAlgebra}
+use Rattle.ua_table.proofs.Lists.{all_append, all_weaker, all_from_contains, Contains-cases, Contains-none}
+use Rattle.ua_part.specs.Partitions.{Partition}
+use Rattle.ua_cong.specs.declared.known.Known.{Known}
+use Rattle.ua_cong.specs.Closings.{AreElements, IsPrincipal}
+use Rattle.ua_cong.specs.Entries.{IsEntered}
+use Rattle.ua_cong.specs.Known.{IsKnownPair, IsKnown}
+use Rattle.ua_cong.specs.Principals.{IsPrincipalCongruence}
+
+pub entered_there : (old : List Partition) (p : Partition) → Contains old p → IsEntered old p old
+entered_there old p c = record { more = []; is = sym (append-nil old); one = omega arith; same = λ q k. absurd (Contains-none q k); there = c }
+
+pub entered_new : (old : List Partition) (p : Partition) (new : List Partition) → new ≡ old ++ p ∷ [] → IsEntered old p new
+entered_new old p new is = record {
+  more = p ∷ [];
+  is = is;
+  one = omega arith;
+  same = λ q c. ⊎_elim (λ e. sym e) (λ k. absurd (Contains-none q k)) (Contains-cases p q [] c);
+  there = subst (λ (ps : List Partition). Contains ps p) (sym is) (Contains-push old p);
+}
+
+pub entry_few : (old : List Partition) (p : Partition) (new : List Partition) → IsEntered old p new → length new ≤ length old + 1
+entry_few old p new e = let n = length-append old e.more in let is = ap length e.is in let one = e.one in omega (arith, n, is, one)
+
+pub entry_more : (old : List Partition) (p : Partition) (new : List Partition) → IsEntered old p new → length old ≤ length new
+entry_more old p new e = let n = length-append old e.more in let is = ap length e.is in omega (arith, n, is)
+
+-- what is pushed stands at its place
+pub pushed_at : (old new : List Partition) (p : Partition) (place : ℕ) → new ≡ old ++ p ∷ [] → place ≡ length old → slice_get new place ≡ Some p
+pushed_at old new p place is at = subst (λ (ps : List Partition). slice_get ps place ≡ Some p) (sym is) (subst (λ k. slice_get (old ++ p ∷ []) k ≡ Some p) (sym at) (last old))
+  where
+    last : (xs : List Partition) → slice_get (xs ++ p ∷ []) (length xs) ≡ Some p
+    last [] = refl
+    last (x ∷ xs) = last xs
+
+-- ---- one pair more
+
+module _ (a : FiniteAlgebra) (old new : Known) (first second place : ℕ) (row : Partition) (known : IsKnown a old) (elements : AreElements a (first, second)) (principal : IsPrincipal a (first, second, row)) (e : IsEntered old.rows.items row new.rows.items) (at : slice_get new.rows.items place ≡ Some row) where
+  -- what is known of a pair stays so
+  kept_pair : (entry : ℕ × ℕ × ℕ) → IsKnownPair a old.rows.items entry → IsKnownPair a new.rows.items entry
+  kept_pair entry h =
+      let long = length-append old.rows.items e.more in
+      let is = ap length e.is in
+      let same : slice_index_or new.rows.items entry.2 [] ≡ slice_index_or old.rows.items entry.2 [] =
+      ap (λ (ps : List Partition). slice_index_or ps entry.2 []) e.is ∙ get_or_append_left old.rows.items e.more [] entry.2 h.place in
+      record {
+        place = (let w = h.place in omega (arith, w, long, is));
+        principal = subst (λ (p : Partition). IsPrincipal a (entry.0, entry.1, p)) (sym same) h.principal;
+      }
+
+  pub learned : new.rows.width ≡ old.rows.width → new.pairs.items ≡ old.pairs.items ++ (first, second, place) ∷ [] → IsKnown a new
+  learned width pairs = record {
+    width = width ∙ known.width;
+    pairs = subst (AllByRecursion (IsKnownPair a new.rows.items)) (sym pairs)
+        (all_append (IsKnownPair a new.rows.items) old.pairs.items ((first, second, place) ∷ [])
+        (all_weaker (IsKnownPair a old.rows.items) (IsKnownPair a new.rows.items) kept_pair old.pairs.items known.pairs) (
+          record {
+            place = slice_get_within new.rows.items place row at;
+            principal = subst (λ (p : Partition). IsPrincipal a (first, second, p)) (sym (get_or_from_slice_get new.rows.items place row [] at)) principal;
+          },
+          tt,
+        ));
+    rows = subst (AllByRecursion (IsPrincipalCongruence a)) (sym e.is)
+        (all_append (IsPrincipalCongruence a) old.rows.items e.more known.rows
+        (all_from_contains (IsPrincipalCongruence a) e.more (λ p c. record { pair = (first, second); elements = elements; principal = subst (λ (q : Partition). IsPrincipal a (first, second, q)) (sym (e.same p c)) principal })));
+    few = (
+        let more = entry_few old.rows.items row new.rows.items e in
+        let few = known.few in
+        let long = length-append old.pairs.items ((first, second, place) ∷ []) in
+        let is = ap length pairs in
+        omega (arith, more, few, long, is));
+  }

@@ -1,0 +1,71 @@
+//! Principal congruences that are known.
+
+ghost use Rattle.std.specs.Prelude.{◌≡◌, ◌+◌, ◌<◌, ◌≤◌, [], ◌∷◌, ◌++◌, length, slice_get, Some, IfOk, OnOk};
+ghost use Rattle.ua_table.specs.Algebras.{FiniteAlgebra};
+ghost use Rattle.ua_cong.specs.Closings.{AreElements, IsPrincipal};
+ghost use Rattle.ua_cong.specs.Entries.{IsEntered};
+ghost use Rattle.ua_cong.specs.Known.{IsKnown, known_pairs};
+
+use std::alloc::{AllocError, Global};
+use ua_rows::Rows;
+use ua_table::{Algebra, Elem};
+
+/// The principal congruences of some pairs of elements: each different one once, as a row, and for each
+/// pair the place of its own.
+#[derive(Drop)]
+pub struct Known {
+    pub pairs: Vec<(Elem, Elem, u32)>,
+    pub rows: Rows,
+}
+
+impl Known {
+    /// None, of an algebra of this size. It takes no memory.
+    pub fn new(alloc: Global, size: u32) -> Known
+        ensures pairs { result.pairs.items ≡ [] }
+        ensures rows { result.rows.items ≡ [] }
+        ensures known { (a : FiniteAlgebra) → a.size ≡ size → IsKnown a result }
+    {
+        Known {
+            pairs: Vec::new(alloc),
+            rows: Rows::new(alloc, size),
+        }
+    }
+}
+
+/// Enters a row, unless it is there, and answers its place.
+pub fn enter(rows: &mut Rows, row: &[Elem]) -> Result<u32, AllocError>
+    requires width { length row.now ≡ rows.old.width }
+    requires room { length rows.old.items < u32.MAX }
+    ensures width { rows.new.width ≡ rows.old.width }
+    ensures entered { OnOk result (IsEntered rows.old.items row.now rows.new.items) }
+    ensures place { IfOk result (λ place. slice_get rows.new.items place ≡ Some row.now) }
+{
+    if let Some(place) = rows.find(row) {
+        return Ok(place);
+    }
+    let place = rows.push(row)?;
+    Ok(place)
+}
+
+/// Takes in the principal congruence of one pair more.
+pub fn learn(
+    _algebra: &Algebra,
+    known: &mut Known,
+    first: Elem,
+    second: Elem,
+    row: &[Elem],
+) -> Result<(), AllocError>
+    requires known { IsKnown _algebra.now known.old }
+    requires elements { AreElements _algebra.now (first, second) }
+    requires principal { IsPrincipal _algebra.now (first, second, row.now) }
+    requires room { length known.old.rows.items < u32.MAX }
+    ensures known { OnOk result (IsKnown _algebra.now known.new) }
+    ensures pairs { OnOk result (known_pairs known.new ≡ known_pairs known.old ++ (first, second) ∷ []) }
+    ensures more { OnOk result (length known.old.rows.items ≤ length known.new.rows.items) }
+    ensures few { OnOk result (length known.new.rows.items ≤ length known.old.rows.items + 1) }
+    ensures count { OnOk result (length known.new.pairs.items ≡ length known.old.pairs.items + 1) }
+{
+    let place = enter(&mut known.rows, row)?;
+    known.pairs.push((first, second, place))?;
+    Ok(())
+}
