@@ -1,6 +1,8 @@
 //! Subalgebras, and homomorphisms from what elements generate.
 #![tactic(auto)]
 
+mod homs;
 mod members;
 
+pub use homs::{Hom, HomError};
 pub use members::{ones, sub};
