@@ -1,20 +1,24 @@
 #!/usr/bin/env python3
 """Times `con`, with one worker, on algebras of known congruence lattices: bench/congruences.py PROGRAM
 
-For each algebra the number of congruences that the program answers and its processor time are printed, and whether the
-number is the known one.
+For each algebra the number of congruences that the program answers, its processor time and its peak memory are printed,
+and whether the number is the known one. Where it is above the budget, the program says so in place of the number.
 """
 
 import itertools
+import os
 import random
-import resource
 import subprocess
 import sys
+
+BUDGET = 10_000
+FIRST_SIZE = 255
 
 
 def block(size, operations):
     """The block of an algebra, each operation given as a function of its arguments, with its arity."""
-    lines = [f"algebra A size {size}"]
+    lines = ["version 2"] if size > FIRST_SIZE else []
+    lines.append(f"algebra A size {size}")
     for number, (arity, function) in enumerate(operations):
         values = (function(*args) for args in itertools.product(range(size), repeat=arity))
         lines.append(f"op f{number} {arity} = " + " ".join(map(str, values)))
@@ -65,6 +69,16 @@ def groupoid(size):
     return block(size, [(2, lambda a, b: table[a][b])]), 2
 
 
+def measured(command, text):
+    """What a program writes for this text, its processor seconds and its peak memory in MiB."""
+    with subprocess.Popen(command, stdin=subprocess.PIPE, stdout=subprocess.PIPE) as run:
+        run.stdin.write(text)
+        run.stdin.close()
+        out = run.stdout.read()
+        _, run.returncode, usage = os.wait4(run.pid, 0)
+    return out, usage.ru_utime, usage.ru_maxrss / 1024
+
+
 def main():
     if len(sys.argv) != 2:
         sys.exit(__doc__)
@@ -76,15 +90,16 @@ def main():
         ("elementary abelian group of 64", *elementary_abelian(64, 2825)),
         ("cycle of 255", *cycle(255, 8)),
         ("random operation on 200 elements", *groupoid(200)),
+        ("cycle of 997", *cycle(997, 2)),
+        ("chain of 300", *chain(300)),
     ]
     for name, algebra, known in workloads:
-        before = resource.getrusage(resource.RUSAGE_CHILDREN).ru_utime
-        command = [sys.argv[1], "--workers", "1"]
-        run = subprocess.run(command, input=f"{algebra}con A\n".encode(), stdout=subprocess.PIPE, check=True)
-        seconds = resource.getrusage(resource.RUSAGE_CHILDREN).ru_utime - before
-        head = run.stdout.split(b"\n", 1)[0].decode()
-        verdict = "as known" if head == f"congruences {known}" else f"NOT {known}"
-        print(f"{name:34} {head:18} {seconds:8.2f} s  {verdict}")
+        command = [sys.argv[1], "--workers", "1", "--budget", str(BUDGET)]
+        out, seconds, peak = measured(command, f"{algebra}con A\n".encode())
+        head = out.split(b"\n", 1)[0].decode()
+        right = f"congruences {known}" if known <= BUDGET else f"exceeds {BUDGET}"
+        verdict = "as known" if head == right else f"NOT {known}"
+        print(f"{name:34} {head:18} {seconds:8.2f} s {peak:6.0f} MiB  {verdict}")
 
 
 if __name__ == "__main__":

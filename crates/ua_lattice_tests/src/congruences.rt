@@ -55,7 +55,7 @@ fn principal(rt: HostRuntime) -> Result<(), Fail> {
     Ok(())
 }
 
-/// Of the fifteen pairs there are two different principal congruences, and one where one is enough.
+/// Of the fifteen pairs there are two different principal congruences.
 #[test]
 fn different_ones(rt: HostRuntime) -> Result<(), Fail> {
     let alloc = rt.alloc();
@@ -63,10 +63,20 @@ fn different_ones(rt: HostRuntime) -> Result<(), Fail> {
     for workers in [1, 2, 16] {
         let rows = distinct_principals(&rt, alloc, &algebra, 100, workers)?;
         assert_eq!(rt; rows.len(), 2);
+        assert_eq!(rt; rows.width(), 6);
         assert!(rt; rows.find(&[0, 0, 0, 3, 3, 3]).is_some());
         assert!(rt; rows.find(&[0; 6]).is_some());
-        let first = distinct_principals(&rt, alloc, &algebra, 1, workers)?;
-        assert_eq!(rt; first.len(), 1);
+    }
+    Ok(())
+}
+
+#[test]
+fn no_more_than_wanted(rt: HostRuntime) -> Result<(), Fail> {
+    let alloc = rt.alloc();
+    let algebra = group(alloc)?;
+    for workers in [1, 2, 16] {
+        let rows = distinct_principals(&rt, alloc, &algebra, 1, workers)?;
+        assert_eq!(rt; rows.len(), 1);
     }
     Ok(())
 }
@@ -74,8 +84,11 @@ fn different_ones(rt: HostRuntime) -> Result<(), Fail> {
 #[test]
 fn entered(rt: HostRuntime) -> Result<(), Fail> {
     let mut rows = Rows::new(rt.alloc(), 3);
-    for (row, place) in [([0, 0, 2], 0), ([0, 1, 1], 1), ([0, 0, 2], 0)] {
-        assert_eq!(rt; enter(&mut rows, &row)?, place);
-    }
+    assert_eq!(rt; enter(&mut rows, &[0, 0, 2])?, 0);
+    assert_eq!(rt; rows.len(), 1);
+    assert_eq!(rt; enter(&mut rows, &[0, 1, 1])?, 1);
+    assert_eq!(rt; rows.len(), 2);
+    assert_eq!(rt; enter(&mut rows, &[0, 0, 2])?, 0);
+    assert_eq!(rt; rows.len(), 2);
     Ok(())
 }

@@ -6,6 +6,8 @@ mod clashes;
 #[cfg(test)]
 mod congruences;
 #[cfg(test)]
+mod constructions;
+#[cfg(test)]
 mod lattices;
 #[cfg(test)]
 mod partitions;

@@ -18,5 +18,6 @@ pub use operands::{
 pub use refusals::{Refusal, refusal_reply};
 pub use session::Session;
 pub use texts::{
-    push_counted, push_element, push_more, push_origin, push_part, push_place, push_rows, push_steps, push_vector,
+    push_counted, push_element, push_more, push_origin, push_part, push_place, push_rows,
+    push_steps, push_vector,
 };

@@ -3,6 +3,7 @@
 
 ghost use Rattle.std.specs.Prelude.{◌≡◌, ◌<◌, ◌∷◌, ◌++◌, ℕ, List, [], length, true, false, IfOk, codes};
 ghost use Rattle.std.specs.List.{flat_map, AllByRecursion};
+ghost use Rattle.ua_table.specs.declared.limits.TheConstants.{NESTING};
 ghost use Rattle.ua_table.specs.Names.{is_name};
 ghost use Rattle.ua_text.specs.declared.symbols.Role.{Role};
 ghost use Rattle.ua_text.specs.Signs.{Wanted, sign, AreSpelled, Front};
@@ -75,7 +76,7 @@ fn member(alloc: Global, tokens: &mut Tokens<'_>) -> Result<Command, Miss>
 
 /// An `eval` behind its first word.
 fn eval(alloc: Global, tokens: &mut Tokens<'_>) -> Result<Command, Miss>
-    ensures only { (a : Word) (p : Phrase) (v : Items) (ws : List Wanted) → is_name a.name ≡ true → IsNested 64 p → AreSpelled [] (term p) → IsShortVector v → Front (tokens_left tokens.old) (word a ∷ (term p ++ (vector v ++ ws))) [] → Gives result (λ x. (x ≡ Command.Eval a p v) × Front (tokens_left tokens.new) ws []) }
+    ensures only { (a : Word) (p : Phrase) (v : Items) (ws : List Wanted) → is_name a.name ≡ true → IsNested NESTING p → AreSpelled [] (term p) → IsShortVector v → Front (tokens_left tokens.old) (word a ∷ (term p ++ (vector v ++ ws))) [] → Gives result (λ x. (x ≡ Command.Eval a p v) × Front (tokens_left tokens.new) ws []) }
     ensures progress { IfOk result (λ x. length (tokens_left tokens.new) < length (tokens_left tokens.old)) }
     ensures source { source_of tokens.new ≡ source_of tokens.old }
 {

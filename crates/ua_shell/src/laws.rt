@@ -10,5 +10,4 @@ ghost use Rattle.ua_shell.specs.Outputs.{Output, BegunOutput};
 pub fn migration()
     ensures whole { (b : Bounds) (script : Script) (bytes : List ℕ) → Output b (migrated script) bytes ↔ Output b script bytes }
     ensures begun { (b : Bounds) (script : Script) (bytes : List ℕ) → BegunOutput b (migrated script) bytes ↔ BegunOutput b script bytes }
-{
-}
+{}

@@ -1,7 +1,8 @@
 //! What single tokens may be, and the numbers that they write.
 
-ghost use Rattle.std.specs.Prelude.{◌≡◌, ◌^◌, ℕ, IsTrue};
+ghost use Rattle.std.specs.Prelude.{◌≡◌, ◌^◌, ℕ, suc, IsTrue};
 ghost use Rattle.std.specs.Str.Parse.{digits_value};
+ghost use Rattle.ua_table.specs.declared.limits.TheConstants.{ARITY};
 ghost use Rattle.ua_text.specs.Machine.{passes, size_ok, number_below};
 ghost use Rattle.ua_text.specs.Versions.{size_limit, version_ok, item_ok};
 ghost use Rattle.ua_text.specs.Words.{among};
@@ -128,7 +129,7 @@ pub fn size_of(text: &[u8]) -> Elem
 
 /// How many values an operation has, if a token writes its arity.
 pub fn values_of(size: Elem, text: &[u8]) -> u64
-    ensures { IsTrue (number_below 5 text.now) → result ≡ size ^ digits_value 10 text.now }
+    ensures { IsTrue (number_below (suc ARITY) text.now) → result ≡ size ^ digits_value 10 text.now }
 {
     let arity = number_value(text).unwrap_or(0).min(4);
     u64::from(size).pow(arity)

@@ -43,7 +43,7 @@ fn blocks_in_canonical_print(rt: HostRuntime) -> Result<(), Fail> {
     Ok(())
 }
 
-/// The algebra whose block of version 1 the text begins with.
+/// A block alone, of version 1.
 #[test]
 fn an_algebra_is_read(rt: HostRuntime) {
     let read = read_algebra(rt.alloc(), &mut tokens(M));

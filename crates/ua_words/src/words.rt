@@ -6,7 +6,7 @@ ghost use Rattle.std.specs.Str.{bytes_eq};
 ghost use Rattle.clap.specs.Simple.{app_of};
 ghost use Rattle.ua_words.specs.Words.{Asks, AreAccepted, IsNumber};
 ghost use Rattle.ua_words.specs.Options.{options_app, GiveValues, KeepsValues};
-ghost use Rattle.ua_table.specs.declared.limits.TheConstants.{BUDGET, WORKERS};
+ghost use Rattle.ua_table.specs.declared.limits.TheConstants.{BUDGET, WORKERS, NUMBERS};
 
 use clap::error::ErrorKind;
 use clap::{Arg, Command};
@@ -74,7 +74,7 @@ fn values_of<'a>(alloc: Global, words: &'a [String]) -> Result<Option<Values<'a>
 
 /// The number that an option's value writes, from 1 to the greatest; with no value the usual one.
 fn number(value: Option<&str>, usual: u32, greatest: u32) -> Option<u32>
-    requires { greatest < 1000000000 }
+    requires { greatest < NUMBERS }
     ensures is { IfSome result (λ n. IsNumber usual greatest (option_map (λ text. text.now) value.entry) n) }
     ensures none { IfNone result ((n : ℕ) → IsNumber usual greatest (option_map (λ text. text.now) value.entry) n → ⊥) }
 {

@@ -22,9 +22,21 @@ fn refuses<R: Threads + Abort + Sync>(
 }
 
 /// The same fault in both versions, one line further down behind the line of the second.
+fn refuses_both<R: Threads + Abort + Sync>(
+    rt: &R,
+    alloc: Global,
+    script: &str,
+    fault: TextFault,
+) -> Result<(), Fail> {
+    refuses(rt, alloc, script, fault)?;
+    let TextFault { line, column, kind } = fault;
+    let line = line.saturating_add(1);
+    let script = format!(in alloc; "version 2\n{script}")?;
+    refuses(rt, alloc, &script, TextFault { line, column, kind })
+}
+
 #[test]
-fn faults_of_both_versions(rt: HostRuntime) -> Result<(), Fail> {
-    let alloc = rt.alloc();
+fn faults_of_blocks(rt: HostRuntime) -> Result<(), Fail> {
     for (script, line, column, kind) in [
         (
             "algebra M size 2\nop meet 2 = 0 0 0\nend\nclose M 2",
@@ -39,33 +51,29 @@ fn faults_of_both_versions(rt: HostRuntime) -> Result<(), Fail> {
             FaultKind::Value,
         ),
         ("algebra M size 2 end types M", 1, 22, FaultKind::Unbuilt),
+        ("algebra M size 2 end algebra M", 1, 30, FaultKind::Name),
+        ("algebra", 1, 8, FaultKind::End),
+    ] {
+        refuses_both(&rt, rt.alloc(), script, TextFault { line, column, kind })?;
+    }
+    Ok(())
+}
+
+#[test]
+fn faults_of_commands(rt: HostRuntime) -> Result<(), Fail> {
+    for (script, column, kind) in [
         (
             "algebra M size 2 end close M 2 least count",
-            1,
             38,
             FaultKind::Word,
         ),
-        ("algebra M size 2 end algebra M", 1, 30, FaultKind::Name),
-        ("algebra", 1, 8, FaultKind::End),
-        (
-            "algebra M size 2 end close M 2 [0 ?]",
-            1,
-            35,
-            FaultKind::Byte,
-        ),
-        (
-            "algebra M size 2 end close M 2 [0 =]",
-            1,
-            35,
-            FaultKind::Item,
-        ),
-        ("close M 2 =", 1, 11, FaultKind::Word),
-        ("con M version 2", 1, 7, FaultKind::Word),
+        ("algebra M size 2 end close M 2 [0 ?]", 35, FaultKind::Byte),
+        ("algebra M size 2 end close M 2 [0 =]", 35, FaultKind::Item),
+        ("close M 2 =", 11, FaultKind::Word),
+        ("con M version 2", 7, FaultKind::Word),
     ] {
-        refuses(&rt, alloc, script, TextFault { line, column, kind })?;
-        let line = line + 1;
-        let script = format!(in alloc; "version 2\n{script}")?;
-        refuses(&rt, alloc, &script, TextFault { line, column, kind })?;
+        let line = 1;
+        refuses_both(&rt, rt.alloc(), script, TextFault { line, column, kind })?;
     }
     Ok(())
 }

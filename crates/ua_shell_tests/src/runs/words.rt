@@ -1,7 +1,10 @@
 //! The words of the command line.
 
 use super::{MEET, run_with, words_of};
+use std::alloc::Global;
+use std::process::Abort;
 use std::test::Fail;
+use std::thread::Threads;
 use ua_shell::Status;
 
 /// Three vectors without operations, closed after each list of words.
@@ -28,10 +31,18 @@ fn words_set_the_budget(rt: HostRuntime) -> Result<(), Fail> {
     Ok(())
 }
 
-/// The source fails at its first call, so nothing is read where the status is another.
+/// Runs words that are in no stated form. The source fails at its first call, so nothing is read where the
+/// status is another.
+fn refuses<R: Threads + Abort + Sync>(rt: &R, alloc: Global, words: &[&str]) -> Result<(), Fail> {
+    let words = words_of(alloc, words)?;
+    let ended = run_with(rt, alloc, &words, MEET.as_bytes(), &[0], &[])?;
+    assert_eq!(rt; ended.status, Status::Usage, "{words:?}");
+    assert!(rt; ended.out.is_empty(), "{words:?}");
+    Ok(())
+}
+
 #[test]
-fn words_are_refused(rt: HostRuntime) -> Result<(), Fail> {
-    let alloc = rt.alloc();
+fn words_without_a_number(rt: HostRuntime) -> Result<(), Fail> {
     for words in [
         ["script.ua"].as_slice(),
         &[""],
@@ -49,7 +60,16 @@ fn words_are_refused(rt: HostRuntime) -> Result<(), Fail> {
         &["--workers", "+3"],
         &["--workers", "--budget=3"],
         &["--workers", "2", "--workers", "2"],
-        &["--workers=2", "--workers", "3"],
+    ] {
+        refuses(&rt, rt.alloc(), words)?;
+    }
+    Ok(())
+}
+
+#[test]
+fn words_are_refused(rt: HostRuntime) -> Result<(), Fail> {
+    for words in [
+        ["--workers=2", "--workers", "3"].as_slice(),
         &["--budget", "0"],
         &["--budget", "010"],
         &["--budget=1000001"],
@@ -66,10 +86,7 @@ fn words_are_refused(rt: HostRuntime) -> Result<(), Fail> {
         &["--generate", "0"],
         &["--jobs", "2"],
     ] {
-        let words = words_of(alloc, words)?;
-        let ended = run_with(&rt, alloc, &words, MEET.as_bytes(), &[0], &[])?;
-        assert_eq!(rt; ended.status, Status::Usage);
-        assert!(rt; ended.out.is_empty());
+        refuses(&rt, rt.alloc(), words)?;
     }
     Ok(())
 }

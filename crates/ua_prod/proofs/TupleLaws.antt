@@ -1,0 +1,82 @@
+-- The numbers of the tuples of some digits.
+use Rattle.std.proofs.Common.{◌≡◌, ℕ, zero, suc, ◌+◌, ◌*◌, ◌^◌, ◌<◌, List, [], ◌∷◌, ◌++◌, length, map, refl, sym, ap, ap₂, ◌∙◌, arith}
+use Rattle.std.specs.Prelude.{fold}
+use Rattle.std.specs.List.{AllByRecursion, flat_map}
+use Rattle.std.proofs.lemmas.List.{map-append, length-map}
+use Rattle.std.proofs.Math.Nat.{pow-zero}
+use Rattle.std.proofs.lemmas.List.Concat.{flat_map_single}
+use Rattle.std.proofs.lemmas.Grind.{flat_map-append, pow_more}
+use Rattle.ua_table.specs.Algebras.{numeral}
+use Rattle.ua_table.proofs.Digits.{next_digit}
+use Rattle.ua_table.proofs.Lists.{all_append}
+use Rattle.ua_table.proofs.SpanLaws.{length_pieces}
+use Rattle.ua_prod.specs.Constructions.{tuples_among}
+
+-- ---- lists of lists
+
+map_flat : {X Y Z : Type 0} (f : Y → Z) (g : X → List Y) (xs : List X) → map f (flat_map g xs) ≡ flat_map (λ x. map f (g x)) xs
+map_flat f g [] = refl
+map_flat f g (x ∷ xs) = map-append f (g x) (flat_map g xs) ∙ ap (λ ys. map f (g x) ++ ys) (map_flat f g xs)
+
+flat_flat : {X Y Z : Type 0} (h : Y → List Z) (g : X → List Y) (xs : List X) → flat_map h (flat_map g xs) ≡ flat_map (λ x. flat_map h (g x)) xs
+flat_flat h g [] = refl
+flat_flat h g (x ∷ xs) = flat_map-append h (g x) (flat_map g xs) ∙ ap (λ ys. flat_map h (g x) ++ ys) (flat_flat h g xs)
+
+flat_same : {X Y : Type 0} (g h : X → List Y) → ((x : X) → g x ≡ h x) → (xs : List X) → flat_map g xs ≡ flat_map h xs
+flat_same g h same [] = refl
+flat_same {Y = Y} g h same (x ∷ xs) = ap₂ (λ (ys zs : List Y). ys ++ zs) (same x) (flat_same g h same xs)
+
+pub map_map : {X Y Z : Type 0} (f : Y → Z) (g : X → Y) (xs : List X) → map f (map g xs) ≡ map (λ x. f (g x)) xs
+map_map f g [] = refl
+map_map f g (x ∷ xs) = ap (λ ys. f (g x) ∷ ys) (map_map f g xs)
+
+-- ---- numbers
+
+module _ (n : ℕ) (ds : List ℕ) where
+  -- the number with each digit behind it
+  abbrev with_each : ℕ → List ℕ
+  with_each m = map (λ x. m * n + x) ds
+
+  -- the numbers of the tuples, behind a first number
+  abbrev numbers_from : ℕ → ℕ → List ℕ
+  numbers_from m i = map (λ t. fold (λ number digit. number * n + digit) m t) (tuples_among ds i)
+
+  first_digit : (m i : ℕ) → numbers_from m (suc i) ≡ flat_map (λ x. numbers_from (m * n + x) i) ds
+  first_digit m i =
+      map_flat (λ t. fold (λ number digit. number * n + digit) m t) (λ x. map (λ t. x ∷ t) (tuples_among ds i)) ds
+      ∙ flat_same (λ x. map (λ t. fold (λ number digit. number * n + digit) m t) (map (λ t. x ∷ t) (tuples_among ds i))) (λ x. numbers_from (m * n + x) i) (λ x. map_map (λ t. fold (λ number digit. number * n + digit) m t) (λ t. x ∷ t) (tuples_among ds i)) ds
+
+  last_digit : (i m : ℕ) → flat_map with_each (numbers_from m i) ≡ numbers_from m (suc i)
+  last_digit zero m = flat_map-nil (with_each m) ∙ sym (first_digit m zero ∙ flat_map_single (λ x. m * n + x) ds)
+    where
+      flat_map-nil : (xs : List ℕ) → xs ++ [] ≡ xs
+      flat_map-nil [] = refl
+      flat_map-nil (x ∷ xs) = ap (λ ys. x ∷ ys) (flat_map-nil xs)
+  last_digit (suc i) m =
+      ap (flat_map with_each) (first_digit m i)
+      ∙ flat_flat with_each (λ x. numbers_from (m * n + x) i) ds
+      ∙ flat_same (λ x. flat_map with_each (numbers_from (m * n + x) i)) (λ x. numbers_from (m * n + x) (suc i)) (λ x. last_digit i (m * n + x)) ds
+      ∙ sym (first_digit m (suc i))
+
+  -- one place more
+  pub numbers_more : (i : ℕ) (numbers now : List ℕ) → numbers ≡ map (numeral n) (tuples_among ds i) → now ≡ flat_map with_each numbers → now ≡ map (numeral n) (tuples_among ds (i + 1))
+  numbers_more i numbers now before is =
+      let e : suc i ≡ i + 1 = omega arith in
+      is ∙ ap (flat_map with_each) before ∙ last_digit i 0 ∙ ap (λ k. map (numeral n) (tuples_among ds k)) e
+
+  module _ (below : AllByRecursion (λ x. x < n) ds) where
+    each_below : (m i : ℕ) → m < n ^ i → (xs : List ℕ) → AllByRecursion (λ x. x < n) xs → AllByRecursion (λ k. k < n ^ (i + 1)) (map (λ x. m * n + x) xs)
+    each_below m i low [] h = tt
+    each_below m i low (x ∷ xs) h = (next_digit n m i x low h.0, each_below m i low xs h.1)
+
+    pub numbers_below : (i : ℕ) (numbers : List ℕ) → AllByRecursion (λ m. m < n ^ i) numbers → AllByRecursion (λ m. m < n ^ (i + 1)) (flat_map with_each numbers)
+    numbers_below i [] h = tt
+    numbers_below i (m ∷ ms) h = all_append (λ k. k < n ^ (i + 1)) (with_each m) (flat_map with_each ms) (each_below m i h.0 ds below) (numbers_below i ms h.1)
+
+-- how many tuples there are
+pub count_tuples : (members : List ℕ) (k : ℕ) → length (tuples_among members k) ≡ length members ^ k
+count_tuples members zero = sym (pow-zero (length members))
+count_tuples members (suc k) =
+    length_pieces (λ x. map (λ t. x ∷ t) (tuples_among members k)) (length (tuples_among members k)) (λ x. length-map (tuples_among members k) (λ (t : List ℕ). x ∷ t)) members
+    ∙ ap (λ m. length members * m) (count_tuples members k)
+    ∙ (let e : suc k ≡ k + 1 = omega arith in let more = pow_more (length members) k in let is : length members * length members ^ k ≡ length members ^ (k + 1) = omega (arith, more) in is ∙ ap (λ i. length members ^ i) (sym e))
