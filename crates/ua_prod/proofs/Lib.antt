@@ -6,3 +6,4 @@ pub mod RowValues
 pub mod TupleLaws
 pub mod RenumberingLaws
 pub mod BlockNumbers
+pub mod ProductLaws

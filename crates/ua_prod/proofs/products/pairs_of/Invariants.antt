@@ -1,0 +1,9 @@
+use Rattle.std.proofs.Common.{◌≡◌, ◌/◌, ◌%◌, map}
+use Rattle.std.specs.List.{range_with_len}
+use Rattle.ua_prod.proofs.products.pairs_of.Given as goal
+
+abbrev pub invariant-loop-pair : goal.invariant-loop-pair
+invariant-loop-pair l = record {
+  firsts : l.firsts.items ≡ map (λ e. e / l.second) (range_with_len 0 l.pair);
+  seconds : l.seconds.items ≡ map (λ e. e % l.second) (range_with_len 0 l.pair);
+}
