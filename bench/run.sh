@@ -12,6 +12,9 @@ echo "== reading"
 bench/reading.py "$program"
 echo "== congruences"
 bench/congruences.py "$program"
+echo "== commands"
+bench/commands.py "$program"
+bench/normal_subgroups.py "$program" 14000
 echo "== closures"
 bench/closures.py "$program"
 if command -v rt > /dev/null && command -v g++ > /dev/null; then

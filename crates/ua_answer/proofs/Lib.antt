@@ -1,1 +1,5 @@
 mod Answering
+mod Refused
+pub mod OperandLaws
+mod Making
+mod Reducts

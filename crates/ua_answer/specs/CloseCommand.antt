@@ -29,10 +29,10 @@ MayCloseLeast p gens budget workers (Ok (Closed rows)) = (¬ IsWide p gens budge
 MayCloseLeast p gens budget workers answer = MayClose p gens budget workers answer
 
 -- the rows, those of the least listing, or their number alone
-abbrev pub CloseAnswer : Block → Bounds → ℕ → List Vector → Mode → List ℕ → Type 0
-CloseAnswer k b width gens Plain bytes = Says (MayClose (power_of k width) gens b.budget b.workers) (told (closure_text k b.budget)) bytes
-CloseAnswer k b width gens Least bytes = Says (MayCloseLeast (power_of k width) gens b.budget b.workers) (told (closure_text k b.budget)) bytes
-CloseAnswer k b width gens Count bytes = Says (MayCount (power_of k width) gens b.budget b.workers) (told (size_text b.budget)) bytes
+abbrev pub ClosureAnswer : Block → Bounds → Product → List Vector → Mode → List ℕ → Type 0
+ClosureAnswer k b p gens Plain bytes = Says (MayClose p gens b.budget b.workers) (told (closure_text k b.budget)) bytes
+ClosureAnswer k b p gens Least bytes = Says (MayCloseLeast p gens b.budget b.workers) (told (closure_text k b.budget)) bytes
+ClosureAnswer k b p gens Count bytes = Says (MayCount p gens b.budget b.workers) (told (size_text b.budget)) bytes
 
 abbrev pub CloseReply : List Block → Bounds → Word → Number → List Items → Mode → List ℕ → Type 0
-CloseReply s b w width gens m bytes = AnsweredOn s w (λ k. close_checks k width gens) (λ k. CloseAnswer k b width.value (vectors_of k gens) m) bytes
+CloseReply s b w width gens m bytes = AnsweredOn s w (λ k. close_checks k width gens) (λ k. ClosureAnswer k b (power_of k width.value) (vectors_of k gens) m) bytes

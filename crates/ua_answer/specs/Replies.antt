@@ -1,19 +1,32 @@
 -- What a command may be answered: a case for each form that is built, in tables as those of the grammar.
-use Rattle.std.specs.Prelude.{◌≡◌, ℕ, ◌≤◌, false, List, length}
+use Rattle.std.specs.Prelude.{◌≡◌, ℕ, ◌≤◌, false, List, [], ◌∷◌, ◌++◌, length, Option, None, Some, IfSome}
 use Rattle.ua_table.specs.declared.limits.TheConstants.{SCRIPT}
 use Rattle.ua_script.specs.declared.script.Mode.{Mode}
 use Rattle.ua_script.specs.declared.script.Mode.TheVariants.{Plain}
 use Rattle.ua_script.specs.declared.script.Provable.{Provable}
 use Rattle.ua_script.specs.declared.script.Provable.TheVariants.{Close, Member}
+use Rattle.ua_script.specs.declared.script.MakeForm.{MakeForm}
+use Rattle.ua_script.specs.declared.script.MakeForm.TheVariants.{Sub}
 use Rattle.ua_script.specs.declared.script.Command.{Command}
 use Rattle.ua_script.specs.declared.script.Command.TheVariants as commands
 use Rattle.ua_text.specs.declared.named.Block.{Block}
+use Rattle.ua_text.specs.Blocks.{unnamed}
 use Rattle.ua_reply.specs.Sessions.{Bounds}
+use Rattle.ua_answer.specs.declared.answered.Made.{Made}
 use Rattle.ua_answer.specs.CloseCommand.{CloseReply}
 use Rattle.ua_answer.specs.MemberCommand.{MemberReply}
+use Rattle.ua_answer.specs.FreeCommand.{FreeReply}
+use Rattle.ua_answer.specs.SubCommand.{SubReply}
+use Rattle.ua_answer.specs.OnesCommand.{OnesReply}
 use Rattle.ua_answer.specs.EvalCommand.{EvalReply}
 use Rattle.ua_answer.specs.CgCommand.{CgReply}
 use Rattle.ua_answer.specs.ConCommand.{ConReply}
+use Rattle.ua_answer.specs.HoldsCommand.{HoldsReply}
+use Rattle.ua_answer.specs.HomCommand.{HomReply}
+use Rattle.ua_answer.specs.CentralCommand.{CentralReply}
+use Rattle.ua_answer.specs.CommCommand.{CommReply}
+use Rattle.ua_answer.specs.SeriesCommand.{SeriesReply}
+use Rattle.ua_answer.specs.MakeCommand.{MakeReply}
 
 -- the forms that can be certified and are built, with no more vectors than a script has bytes
 abbrev pub IsProvableBuilt : Provable → Mode → Type 0
@@ -21,27 +34,63 @@ IsProvableBuilt (Close w width gens) m = length gens ≤ SCRIPT
 IsProvableBuilt (Member w width gens target) Plain = length gens ≤ SCRIPT
 IsProvableBuilt _ _ = ⊥
 
+-- the commands that leave the session as it was and are built, with no more elements than a script has bytes
+abbrev pub IsPlainBuilt : Command → Type 0
+IsPlainBuilt (commands.Ask what m false) = IsProvableBuilt what m
+IsPlainBuilt (commands.Free w k m) = Unit {0}
+IsPlainBuilt (commands.Sub w set) = length set.values ≤ SCRIPT
+IsPlainBuilt (commands.Ones w) = Unit {0}
+IsPlainBuilt (commands.Eval w term args) = Unit {0}
+IsPlainBuilt (commands.Cg w pairs) = Unit {0}
+IsPlainBuilt (commands.Con w) = Unit {0}
+IsPlainBuilt (commands.Holds w left right) = Unit {0}
+IsPlainBuilt (commands.Hom v w gens images) = length gens.values ≤ SCRIPT
+IsPlainBuilt (commands.Central w alpha beta delta) = Unit {0}
+IsPlainBuilt (commands.Comm w alpha beta) = Unit {0}
+IsPlainBuilt (commands.Series w kind) = Unit {0}
+IsPlainBuilt _ = ⊥
+
+-- the constructions, with no more elements than a script has bytes
+abbrev pub IsConstructionBuilt : MakeForm → Type 0
+IsConstructionBuilt (Sub w set) = length set.values ≤ SCRIPT
+IsConstructionBuilt _ = Unit {0}
+
 -- the commands that are built
 abbrev pub IsBuilt : Command → Type 0
-IsBuilt (commands.Ask what m false) = IsProvableBuilt what m
-IsBuilt (commands.Eval w term args) = Unit {0}
-IsBuilt (commands.Cg w pairs) = Unit {0}
-IsBuilt (commands.Con w) = Unit {0}
-IsBuilt _ = ⊥
+IsBuilt (commands.Make place name what) = IsConstructionBuilt what
+IsBuilt c = IsPlainBuilt c
 
 abbrev pub ProvableReply : List Block → Bounds → Provable → Mode → List ℕ → Type 0
 ProvableReply s b (Close w width gens) m bytes = CloseReply s b w width gens m bytes
 ProvableReply s b (Member w width gens target) Plain bytes = MemberReply s b w width gens target bytes
 ProvableReply s b _ _ bytes = ⊥
 
--- the bytes are a reply to the command in the session
-abbrev pub Reply : List Block → Bounds → Command → List ℕ → Type 0
-Reply s b (commands.Ask what m false) bytes = ProvableReply s b what m bytes
-Reply s b (commands.Eval w term args) bytes = EvalReply s w term args bytes
-Reply s b (commands.Cg w pairs) bytes = CgReply s w pairs bytes
-Reply s b (commands.Con w) bytes = ConReply s b w bytes
-Reply s b _ bytes = ⊥
+-- the bytes are a reply to a command that leaves the session as it was
+abbrev pub PlainReply : List Block → Bounds → Command → List ℕ → Type 0
+PlainReply s b (commands.Ask what m false) bytes = ProvableReply s b what m bytes
+PlainReply s b (commands.Free w k m) bytes = FreeReply s b w k m bytes
+PlainReply s b (commands.Sub w set) bytes = SubReply s w set bytes
+PlainReply s b (commands.Ones w) bytes = OnesReply s w bytes
+PlainReply s b (commands.Eval w term args) bytes = EvalReply s w term args bytes
+PlainReply s b (commands.Cg w pairs) bytes = CgReply s w pairs bytes
+PlainReply s b (commands.Con w) bytes = ConReply s b w bytes
+PlainReply s b (commands.Holds w left right) bytes = HoldsReply s w left right bytes
+PlainReply s b (commands.Hom v w gens images) bytes = HomReply s b v w gens images bytes
+PlainReply s b (commands.Central w alpha beta delta) bytes = CentralReply s b w alpha beta delta bytes
+PlainReply s b (commands.Comm w alpha beta) bytes = CommReply s b w alpha beta bytes
+PlainReply s b (commands.Series w kind) bytes = SeriesReply s b w kind bytes
+PlainReply s b _ bytes = ⊥
 
--- the session behind a command
-abbrev pub Leaves : List Block → Bounds → Command → List Block → Type 0
-Leaves s b c t = t ≡ s
+-- the bytes are a reply to the command in the session, which leaves that session t
+abbrev pub Reply : List Block → Bounds → Command → List ℕ → List Block → Type 0
+Reply s b (commands.Make place name what) bytes t = MakeReply s place name what bytes t
+Reply s b c bytes t = PlainReply s b c bytes × (t ≡ s)
+
+-- the session with what a command made, if it made an algebra
+abbrev pub left_by : List Block → Option Made → List Block
+left_by s None = s
+left_by s (Some made) = s ++ unnamed made.algebra ∷ []
+
+-- what a command made has the name that the command gives it
+abbrev pub IsNamedRight : Option Made → Type 0
+IsNamedRight made = IfSome made (λ m. m.name.now ≡ m.algebra.name)

@@ -2,14 +2,24 @@
 
 ghost use Rattle.std.specs.Prelude.{IfOk};
 ghost use Rattle.ua_reply.specs.Sessions.{bounds_of};
-ghost use Rattle.ua_answer.specs.Replies.{IsProvableBuilt, IsBuilt, ProvableReply, Reply};
+ghost use Rattle.ua_answer.specs.Replies.{IsProvableBuilt, IsPlainBuilt, IsBuilt, ProvableReply, PlainReply, Reply, left_by, IsNamedRight};
 
+use crate::answered::{Answered, said};
+use crate::central::answer_central;
 use crate::cg::answer_cg;
 use crate::close::answer_close;
+use crate::comm::answer_comm;
 use crate::con::answer_con;
 use crate::context::Context;
 use crate::eval::answer_eval;
+use crate::free::answer_free;
+use crate::holds::answer_holds;
+use crate::hom::answer_hom;
+use crate::make::answer_make;
 use crate::member::answer_member;
+use crate::ones::answer_ones;
+use crate::series::answer_series;
+use crate::sub::answer_sub;
 use std::alloc::AllocError;
 use std::thread::Threads;
 use ua_script::{Command, Mode, Provable};
@@ -40,13 +50,13 @@ fn answer_provable<R: Threads + Sync, G: Gate>(
     }
 }
 
-/// The reply to a command.
-pub fn answer<R: Threads + Sync, G: Gate>(
+/// The reply to a command that leaves the session as it was.
+fn answer_plain<R: Threads + Sync, G: Gate>(
     context: &Context<R, G>,
     command: &Command,
 ) -> Result<Vec<u8>, AllocError>
-    requires { IsBuilt command.now }
-    ensures { IfOk result (λ v. Reply context.now.session.now (bounds_of context.now.run.now.budget context.now.run.now.workers) command.now v.items) }
+    requires { IsPlainBuilt command.now }
+    ensures { IfOk result (λ v. PlainReply context.now.session.now (bounds_of context.now.run.now.budget context.now.run.now.workers) command.now v.items) }
 {
     match command {
         Command::Ask {
@@ -54,6 +64,9 @@ pub fn answer<R: Threads + Sync, G: Gate>(
             mode,
             cert: false,
         } => answer_provable(context, what, *mode),
+        Command::Free { algebra, k, mode } => answer_free(context, algebra, *k, *mode),
+        Command::Sub { algebra, set } => answer_sub(context, algebra, set),
+        Command::Ones { algebra } => answer_ones(context, algebra),
         Command::Eval {
             algebra,
             term,
@@ -61,6 +74,44 @@ pub fn answer<R: Threads + Sync, G: Gate>(
         } => answer_eval(context, algebra, term, args),
         Command::Cg { algebra, pairs } => answer_cg(context, algebra, pairs.as_slice()),
         Command::Con { algebra } => answer_con(context, algebra),
+        Command::Central {
+            algebra,
+            alpha,
+            beta,
+            delta,
+        } => answer_central(context, algebra, alpha, beta, delta),
+        Command::Comm {
+            algebra,
+            alpha,
+            beta,
+        } => answer_comm(context, algebra, alpha, beta),
+        Command::Series { algebra, kind } => answer_series(context, algebra, *kind),
+        Command::Holds {
+            algebra,
+            left,
+            right,
+        } => answer_holds(context, algebra, left, right),
+        Command::Hom {
+            first,
+            second,
+            gens,
+            images,
+        } => answer_hom(context, first, second, gens, images),
         _ => unreachable!(),
+    }
+}
+
+/// The answer to a command.
+pub fn answer<'a, R: Threads + Sync, G: Gate>(
+    context: &Context<R, G>,
+    command: &'a Command,
+) -> Result<Answered<'a>, AllocError>
+    requires { IsBuilt command.now }
+    ensures reply { IfOk result (λ v. Reply context.now.session.now (bounds_of context.now.run.now.budget context.now.run.now.workers) command.now v.reply.items (left_by context.now.session.now v.made)) }
+    ensures named { IfOk result (λ v. IsNamedRight v.made) }
+{
+    match command {
+        Command::Make { place, name, what } => answer_make(context, *place, name, what),
+        _ => Ok(said(answer_plain(context, command)?)),
     }
 }

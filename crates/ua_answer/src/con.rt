@@ -7,6 +7,7 @@ ghost use Rattle.ua_reply.specs.Texts.{lines, numbered};
 ghost use Rattle.ua_answer.specs.ConCommand.{pair_text, irreducibles_text, lattice_text, ConReply};
 
 use crate::context::Context;
+use crate::texts::push_parts;
 use std::alloc::{AllocError, Global};
 use std::thread::Threads;
 use ua_lattice::{Lattice, congruences};
@@ -14,17 +15,6 @@ use ua_part::{Part, push_number};
 use ua_reply::{Refusal, push_counted, push_more, push_part, refusal_reply};
 use ua_script::Word;
 use ua_table::Gate;
-
-/// Appends each partition, on a line of its own.
-fn push_parts(out: &mut Vec<u8>, parts: &[Part]) -> Result<(), AllocError>
-    ensures { OnOk result (out.new.items ≡ out.old.items ++ lines partition_text parts.now) }
-{
-    for part in parts {
-        push_part(out, part)?;
-        out.push(b'\n')?;
-    }
-    Ok(())
-}
 
 /// Appends each partition behind its number, on a line of its own.
 fn push_numbered(out: &mut Vec<u8>, parts: &[Part]) -> Result<(), AllocError>

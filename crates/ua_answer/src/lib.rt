@@ -1,13 +1,28 @@
 //! The reply to each command, one module each.
 #![tactic(auto)]
 
+mod answered;
 mod answers;
+mod central;
 mod cg;
 mod close;
+mod closing;
+mod comm;
 mod con;
+mod congruences;
 mod context;
 mod eval;
+mod free;
+mod holds;
+mod hom;
+mod make;
 mod member;
+mod ones;
+mod reduct;
+mod series;
+mod sub;
+mod texts;
 
+pub use answered::{Answered, Made};
 pub use answers::answer;
 pub use context::Context;

@@ -26,11 +26,8 @@ entered_new old p new is = record {
   there = subst (λ (ps : List Partition). Contains ps p) (sym is) (Contains-push old p);
 }
 
-pub entry_few : (old : List Partition) (p : Partition) (new : List Partition) → IsEntered old p new → length new ≤ length old + 1
+entry_few : (old : List Partition) (p : Partition) (new : List Partition) → IsEntered old p new → length new ≤ length old + 1
 entry_few old p new e = let n = length-append old e.more in let is = ap length e.is in let one = e.one in omega (arith, n, is, one)
-
-pub entry_more : (old : List Partition) (p : Partition) (new : List Partition) → IsEntered old p new → length old ≤ length new
-entry_more old p new e = let n = length-append old e.more in let is = ap length e.is in omega (arith, n, is)
 
 -- what is pushed stands at its place
 pub pushed_at : (old new : List Partition) (p : Partition) (place : ℕ) → new ≡ old ++ p ∷ [] → place ≡ length old → slice_get new place ≡ Some p

@@ -1,12 +1,14 @@
 //! The congruence that pairs generate: elements are united until every unary translation takes united
 //! elements to united elements.
 
-ghost use Rattle.std.specs.Prelude.{◌≡◌, ◌≢◌, ℕ, ◌<◌, ◌^◌, [], ◌∷◌, length, slice_index, IfOk, OnOk, IfSome};
+ghost use Rattle.std.specs.Prelude.{◌≡◌, ◌≢◌, ℕ, ◌<◌, ◌≤◌, ◌^◌, [], ◌∷◌, ◌++◌, length, slice_index, IfOk, OnOk, IfSome};
 ghost use Rattle.std.specs.List.{AllByRecursion};
+ghost use Rattle.ua_table.specs.declared.limits.TheConstants.{SIZE};
 ghost use Rattle.ua_table.specs.Algebras.{IsAlgebra, arities_of};
 ghost use Rattle.ua_part.specs.Partitions.{Partition, SameBlock, LiesBelow};
-ghost use Rattle.ua_prod.specs.Congruences.{IsCg, RelatesAll};
+ghost use Rattle.ua_prod.specs.Congruences.{IsCg, IsCongruence, RelatesAll};
 ghost use Rattle.ua_cong.specs.Closings.{AreElements, IsForced, IsCarried, IsCarriedAlong};
+ghost use Rattle.ua_cong.specs.Extensions.{led_pairs, IsCgAbove};
 ghost use Rattle.ua_cong.specs.Known.{IsKnown};
 ghost use Rattle.ua_cong.specs.States.{IsState, HasGrown};
 
@@ -274,4 +276,40 @@ pub fn cg(alloc: Global, a: &Algebra, pairs: &[(Elem, Elem)]) -> Result<Part, Al
     let known = Known::new(alloc, a.size());
     let sets = cg_sets(alloc, a, pairs, &known)?;
     Ok(sets.into_part())
+}
+
+/// Each element with the least member of its block, and then one pair more.
+fn pairs_above(alloc: Global, p: &Part, x: Elem, y: Elem) -> Result<Vec<(Elem, Elem)>, AllocError>
+    requires { length p.now ≤ SIZE }
+    ensures { IfOk result (λ pairs. pairs.items ≡ led_pairs p.now ++ (x, y) ∷ []) }
+{
+    let mut pairs = Vec::with_capacity(alloc, p.size() as usize + 1)?;
+    for b in 0..p.size() {
+        pairs.push((b as Elem, p.rep(b) as Elem))?;
+    }
+    pairs.push((x, y))?;
+    Ok(pairs)
+}
+
+/// The least congruence above this one that relates two elements. What this one relates has no work left.
+pub fn cg_above(alloc: Global, a: &Algebra, p: Part, x: Elem, y: Elem) -> Result<Part, AllocError>
+    requires congruence { IsCongruence a.now p }
+    requires first { x < a.now.size }
+    requires second { y < a.now.size }
+    ensures { IfOk result (IsCgAbove a.now p x y) }
+{
+    let known = Known::new(alloc, a.size());
+    let pairs = pairs_above(alloc, &p, x, y)?;
+    let problem = Problem {
+        algebra: a,
+        pairs: pairs.as_slice(),
+        known: &known,
+    };
+    let mut closing = Closing {
+        sets: DisjointSets::of(p),
+        work: Vec::new(alloc),
+    };
+    relate_pairs(&problem, &mut closing)?;
+    carry_all(&problem, &mut closing)?;
+    Ok(closing.sets.into_part())
 }

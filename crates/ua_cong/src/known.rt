@@ -61,8 +61,6 @@ pub fn learn(
     requires room { length known.old.rows.items < u32.MAX }
     ensures known { OnOk result (IsKnown _algebra.now known.new) }
     ensures pairs { OnOk result (known_pairs known.new ≡ known_pairs known.old ++ (first, second) ∷ []) }
-    ensures more { OnOk result (length known.old.rows.items ≤ length known.new.rows.items) }
-    ensures few { OnOk result (length known.new.rows.items ≤ length known.old.rows.items + 1) }
     ensures count { OnOk result (length known.new.pairs.items ≡ length known.old.pairs.items + 1) }
 {
     let place = enter(&mut known.rows, row)?;

@@ -1,17 +1,17 @@
 -- Congruences that are found as joins.
-use Rattle.std.proofs.Common.{◌≡◌, ℕ, ◌+◌, ◌<◌, ◌≤◌, List, [], ◌∷◌, ◌++◌, length, refl, sym, ap, ◌∙◌, subst, arith, ⊎_elim, append_assoc, append-nil, length-append}
+use Rattle.std.proofs.Common.{◌≡◌, ℕ, ◌+◌, ◌<◌, ◌≤◌, List, [], ◌∷◌, ◌++◌, length, sym, ap, ◌∙◌, subst, arith, ⊎_elim, append_assoc, append-nil, length-append}
 use Rattle.std.specs.Prelude.{true, Option, Some, None, Result, Ok, Err, IfSome, IfOk, is_some, slice_get, slice_index_or, Contains}
-use Rattle.std.specs.List.{AllByRecursion, AllZip}
+use Rattle.std.specs.List.{AllByRecursion}
 use Rattle.std.proofs.lemmas.Bool.{true≢false, cases_lt}
 use Rattle.std.proofs.lemmas.List.{get_or_append_left}
 use Rattle.std.proofs.lemmas.List.FromFn.{length-range_with_len}
 use Rattle.std.proofs.lemmas.List.Elements.{Contains-append_left, Contains-append_cases, Contains-get_or, Contains-push}
-use Rattle.ua_table.specs.Algebras.{FiniteAlgebra, IsAlgebra, value_at}
-use Rattle.ua_table.proofs.ApplyLemmas.{value-below}
+use Rattle.ua_table.specs.Algebras.{FiniteAlgebra, IsAlgebra}
 use Rattle.ua_table.proofs.Lists.{all_at, all_append, all_from_contains, any_default, Contains-slice_get, Contains-cases, Contains-none, Contains-head}
 use Rattle.ua_part.specs.Partitions.{Partition, IsPartition, SameBlock, LiesBelow, IsJoin, identity_on}
 use Rattle.ua_part.proofs.PartitionLaws.{same_itself, below_itself, below_through, below_both, identity-IsPartition, identity-same}
 use Rattle.ua_prod.specs.Congruences.{IsCongruence}
+use Rattle.ua_prod.proofs.CongruenceLaws.{identity-IsCongruence}
 use Rattle.ua_cong.specs.Entries.{IsEntered}
 use Rattle.ua_cong.proofs.Normal.{join-size}
 use Rattle.ua_lattice.specs.Lattices.{IsJoinClosed, IsJoinedWith}
@@ -34,27 +34,6 @@ identity_below n p size x y s =
     let l = s.left in
     let long = length-range_with_len 0 n in
     subst (SameBlock p x) (identity-same n x y s) (same_itself p x (omega (arith, l, long, size)))
-
-same_lists : (n : ℕ) (xs ys : List ℕ) → AllZip (SameBlock (identity_on n)) xs ys → xs ≡ ys
-same_lists n [] [] h = refl
-same_lists n [] (y ∷ ys) h = absurd h
-same_lists n (x ∷ xs) [] h = absurd h
-same_lists n (x ∷ xs) (y ∷ ys) h = (λ i. identity-same n x y h.0 i ∷ same_lists n xs ys h.1 i)
-
-below_all : (n : ℕ) (xs ys : List ℕ) → AllZip (SameBlock (identity_on n)) xs ys → AllByRecursion (λ x. x < n) xs
-below_all n [] ys h = tt
-below_all n (x ∷ xs) [] h = absurd h
-below_all n (x ∷ xs) (y ∷ ys) h = (let l = h.0.left in let long = length-range_with_len 0 n in omega (arith, l, long), below_all n xs ys h.1)
-
-pub identity-IsCongruence : (a : FiniteAlgebra) → IsAlgebra a → IsCongruence a (identity_on a.size)
-identity-IsCongruence a h = record {
-  partition = identity-IsPartition a.size;
-  size = length-range_with_len 0 a.size;
-  compatible = λ f xs ys w count related.
-      let below = value-below a f xs h w count (below_all a.size xs ys related) in
-      subst (λ (zs : List ℕ). SameBlock (identity_on a.size) (value_at a f xs) (value_at a f zs)) (same_lists a.size xs ys related)
-      (same_itself (identity_on a.size) (value_at a f xs) (let long = length-range_with_len 0 a.size in omega (arith, below, long)));
-}
 
 -- the join with what lies below is the partition itself
 pub join_with_lower : (p q : Partition) → IsPartition q → LiesBelow p q → IsJoin q p q

@@ -1,6 +1,10 @@
 //! All congruences of an algebra, with their order.
 
 ghost use Rattle.std.specs.Prelude.{◌≡◌, ◌<◌, ◌≤◌, length, IfOk};
+ghost use Rattle.std.specs.List.{AllByRecursion};
+ghost use Rattle.ua_table.specs.declared.limits.TheConstants.{WORKERS};
+ghost use Rattle.ua_prod.specs.Congruences.{IsCongruence};
+ghost use Rattle.ua_cong.specs.Principals.{HasPrincipals};
 ghost use Rattle.ua_lattice.specs.Answers.{IsLatticeOf};
 
 use crate::covers::covers_of;
@@ -29,6 +33,24 @@ pub enum Lattice {
     Exceeds(Vec<Part>),
 }
 
+/// The different principal congruences of all pairs of elements, in order.
+fn ordered_principals<R: Threads + Sync>(
+    rt: &R,
+    alloc: Global,
+    a: &Algebra,
+    workers: u32,
+) -> Result<Vec<Part>, AllocError>
+    requires some { 1 ≤ workers }
+    requires few { workers ≤ WORKERS }
+    ensures congruences { IfOk result (λ parts. AllByRecursion (IsCongruence a.now) parts.items) }
+    ensures all { IfOk result (λ parts. HasPrincipals a.now parts.items) }
+{
+    // The size of an algebra is within its limit.
+    let _size = a.size();
+    let rows = distinct_principals(rt, alloc, a, workers)?;
+    in_order(alloc, &rows)
+}
+
 /// All congruences of an algebra, where there are no more than the budget of a run.
 ///
 /// The principal congruences are found by the run's workers, and all others are joins of them. With n
@@ -43,11 +65,7 @@ pub fn congruences<R: Threads + Sync, G: Gate>(
 ) -> Result<Lattice, AllocError>
     ensures { IfOk result (IsLatticeOf a.now run.now.budget) }
 {
-    let principals = distinct_principals(rt, alloc, a, run.budget + 1, run.workers)?;
-    let parts = in_order(alloc, &principals)?;
-    if principals.len() > run.budget {
-        return Ok(Lattice::Exceeds(parts));
-    }
+    let parts = ordered_principals(rt, alloc, a, run.workers)?;
     let mut joiner = Joiner::new(alloc, a.size())?;
     let search = Search {
         algebra: a,

@@ -1,8 +1,14 @@
 pub mod Numerals
 pub mod Rows
 pub mod Compatible
+pub mod CongruenceLaws
 pub mod ClashLaws
 pub mod RowValues
 pub mod TupleLaws
 pub mod RenumberingLaws
 pub mod BlockNumbers
+pub mod ReductLaws
+pub mod SizeLaws
+pub mod EscapeLaws
+pub mod ProductLaws
+pub mod DrawLaws

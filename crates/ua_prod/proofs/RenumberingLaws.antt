@@ -17,14 +17,18 @@ refused (Ok x) e same ok = cc
 refused (Err f) e same ok = let bad : false ≡ true = ok in cc
 
 -- what is read of a list is below k where its members are, and 0 is
-read_below : (k : ℕ) (xs : List ℕ) (i : ℕ) → 0 < k → AllByRecursion (λ x. x < k) xs → slice_index xs i < k
+pub read_below : (k : ℕ) (xs : List ℕ) (i : ℕ) → 0 < k → AllByRecursion (λ x. x < k) xs → slice_index xs i < k
 read_below k [] i some h = some
 read_below k (x ∷ xs) zero some h = h.0
 read_below k (x ∷ xs) (suc i) some h = read_below k xs i some h.1
 
-all_mapped : {X : Type 0} (P : ℕ → Type 0) (f : X → ℕ) → ((x : X) → P (f x)) → (xs : List X) → AllByRecursion P (map f xs)
+pub all_mapped : {X : Type 0} (P : ℕ → Type 0) (f : X → ℕ) → ((x : X) → P (f x)) → (xs : List X) → AllByRecursion P (map f xs)
 all_mapped P f each [] = tt
 all_mapped P f each (x ∷ xs) = (each x, all_mapped P f each xs)
+
+pub all_both : {X : Type 0} (P Q : X → Type 0) (xs : List X) → AllByRecursion P xs → AllByRecursion Q xs → AllByRecursion (λ x. P x × Q x) xs
+all_both P Q [] h k = tt
+all_both P Q (x ∷ xs) h k = ((h.0, k.0), all_both P Q xs h.1 k.1)
 
 module _ (members numbers : List ℕ) (some : 0 < length members) (n : ℕ) (few : length members ≤ n) (below : AllByRecursion (λ x. x < length members) numbers) where
   as_many : (o : Operation) → length (renumbered members numbers o).values ≡ length members ^ o.arity

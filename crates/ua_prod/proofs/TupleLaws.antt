@@ -4,6 +4,7 @@ use Rattle.std.specs.Prelude.{fold}
 use Rattle.std.specs.List.{AllByRecursion, flat_map}
 use Rattle.std.proofs.lemmas.List.{map-append, length-map}
 use Rattle.std.proofs.Math.Nat.{pow-zero}
+use Rattle.std.proofs.lemmas.List.Folds.{flat_map-map}
 use Rattle.std.proofs.lemmas.List.Concat.{flat_map_single}
 use Rattle.std.proofs.lemmas.Grind.{flat_map-append, pow_more}
 use Rattle.ua_table.specs.Algebras.{numeral}
@@ -80,3 +81,12 @@ count_tuples members (suc k) =
     length_pieces (λ x. map (λ t. x ∷ t) (tuples_among members k)) (length (tuples_among members k)) (λ x. length-map (tuples_among members k) (λ (t : List ℕ). x ∷ t)) members
     ∙ ap (λ m. length members * m) (count_tuples members k)
     ∙ (let e : suc k ≡ k + 1 = omega arith in let more = pow_more (length members) k in let is : length members * length members ^ k ≡ length members ^ (k + 1) = omega (arith, more) in is ∙ ap (λ i. length members ^ i) (sym e))
+
+-- the tuples of what f makes of some members
+pub tuples_mapped : (f : ℕ → ℕ) (xs : List ℕ) (k : ℕ) → tuples_among (map f xs) k ≡ map (map f) (tuples_among xs k)
+tuples_mapped f xs zero = refl
+tuples_mapped f xs (suc k) =
+    flat_map-map (λ y. map (λ t. y ∷ t) (tuples_among (map f xs) k)) f xs
+    ∙ flat_same (λ x. map (λ t. f x ∷ t) (tuples_among (map f xs) k)) (λ x. map (map f) (map (λ t. x ∷ t) (tuples_among xs k)))
+    (λ x. ap (map (λ t. f x ∷ t)) (tuples_mapped f xs k) ∙ map_map (λ t. f x ∷ t) (map f) (tuples_among xs k) ∙ sym (map_map (map f) (λ t. x ∷ t) (tuples_among xs k))) xs
+    ∙ sym (map_flat (map f) (λ x. map (λ t. x ∷ t) (tuples_among xs k)) xs)

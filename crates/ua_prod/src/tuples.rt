@@ -1,13 +1,14 @@
 //! The numbers of tuples.
 
-ghost use Rattle.std.specs.Prelude.{◌≡◌, ◌+◌, ◌*◌, ◌^◌, ◌<◌, ◌≤◌, ◌++◌, map, IfOk, OnOk};
+ghost use Rattle.std.specs.Prelude.{◌≡◌, ◌+◌, ◌*◌, ◌^◌, ◌<◌, ◌≤◌, ◌++◌, length, map, IfOk, OnOk};
 ghost use Rattle.std.specs.List.{AllByRecursion, flat_map};
 ghost use Rattle.ua_table.specs.declared.limits.TheConstants.{SIZE, VALUES};
 ghost use Rattle.ua_table.specs.Algebras.{numeral};
 ghost use Rattle.ua_prod.specs.Constructions.{tuples_among};
+ghost use Rattle.ua_prod.specs.Searches.{AreArguments};
 
 use std::alloc::{AllocError, Global};
-use ua_table::Elem;
+use ua_table::{Elem, OpTable};
 
 /// Appends a number with each of the digits behind it.
 fn push_digits(
@@ -63,4 +64,34 @@ pub fn tuple_numbers(
         numbers = with_digits(alloc, numbers.as_slice(), base, digits)?;
     }
     Ok(numbers)
+}
+
+/// The digits of a number in this base, the last the lowest.
+fn write_digits(digits: &mut [Elem], number: usize, base: u32)
+    requires some { 0 < base }
+    requires small { base ≤ SIZE }
+    requires number { number < base ^ length digits.old }
+    ensures number { numeral base digits.new ≡ number }
+    ensures below { AllByRecursion (λ x. x < base) digits.new }
+{
+    let base = base as usize;
+    let mut rest = number;
+    for place in (0..digits.len()).rev() {
+        digits[place] = (rest % base) as Elem;
+        rest /= base;
+    }
+}
+
+/// The arguments whose tuple has this number, and 0 past the arity.
+pub fn arguments(table: &OpTable, number: usize) -> [Elem; 4]
+    requires { number < length table.now.values }
+    ensures { AreArguments table.now number result }
+{
+    let mut args = [0; 4];
+    write_digits(
+        &mut args[..usize::from(table.arity())],
+        number,
+        table.size(),
+    );
+    args
 }

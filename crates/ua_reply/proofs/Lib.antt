@@ -1,4 +1,5 @@
-mod CheckLaws
+pub mod CheckLaws
 mod OperandLaws
+mod PartLaws
 mod Rows
 mod SessionLaws

@@ -67,8 +67,11 @@ length_step : (width : ℕ) (v : Items) (b : Bool) → (length v.values == width
 length_step width v true e h = eqb-true (length v.values) width e
 length_step width v false e h = cc
 
+pub length_passed : (width : ℕ) (v : Items) → Passes (length_in width v) → length v.values ≡ width
+length_passed width v h = length_step width v (length v.values == width) refl h.shape
+
 pub vector_length : (k : Block) (width : ℕ) (v : Items) → Passes (vector_in k width v) → length v.values ≡ width
-vector_length k width v h = length_step width v (length v.values == width) refl (parts_pass (elements_in k v.values) (length_in width v) h).1.shape
+vector_length k width v h = length_passed width v (parts_pass (elements_in k v.values) (length_in width v) h).1
 
 -- the entries of a vector that passes pass
 pub entries_pass : (k : Block) (width : ℕ) (v : Items) → Passes (vector_in k width v) → Passes (elements_in k v.values)

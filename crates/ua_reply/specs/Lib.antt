@@ -3,5 +3,6 @@ pub mod Texts
 pub mod Refusals
 pub mod Checks
 pub mod Operands
+pub mod Parts
 pub mod Closures
 pub mod Replies

@@ -24,3 +24,8 @@ Answered checks known Answer bytes = MatchOption (first_error checks) (SaysOf kn
 -- the reply to a command on the algebra of one name
 abbrev pub AnsweredOn : List Block → Word → (Block → Checks) → (Block → List ℕ → Type 0) → List ℕ → Type 0
 AnsweredOn s w checks Answer bytes = Answered (checks_in (lookup s w.name) w.place checks) (lookup s w.name) Answer bytes
+
+-- the reply to a command on the algebras of two names
+abbrev pub AnsweredOnBoth : List Block → Word → Word → (Block → Block → Checks) → (Block → Block → List ℕ → Type 0) → List ℕ → Type 0
+AnsweredOnBoth s v w checks Answer bytes =
+    AnsweredOn s v (λ k. checks_in (lookup s w.name) w.place (checks k)) (λ k. SaysOf (lookup s w.name) (Answer k)) bytes

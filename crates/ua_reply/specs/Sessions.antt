@@ -2,6 +2,13 @@
 use Rattle.std.specs.Prelude.{◌≡◌, ℕ, ◌<◌, nat_eq, List, length, find, slice_get, Option, None, MatchOption}
 use Rattle.std.specs.Cmp.Lexicographic.{pointwise}
 use Rattle.ua_text.specs.declared.named.Block.{Block}
+use Rattle.ua_reply.specs.declared.known.Holder.{Holder}
+use Rattle.ua_reply.specs.declared.known.Holder.TheVariants.{Written, Made}
+
+-- the block that is held
+abbrev pub held : Holder → Block
+held (Written block) = block.now
+held (Made block) = block
 
 -- what the session knows of this name
 abbrev pub lookup : List Block → List ℕ → Option Block

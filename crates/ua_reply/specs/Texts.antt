@@ -7,7 +7,7 @@ use Rattle.ua_table.specs.declared.origins.Origin.{Origin}
 use Rattle.ua_table.specs.declared.origins.Origin.TheVariants.{Gen, Op}
 use Rattle.ua_table.specs.Algebras.{Vector, Operation, arities_of}
 use Rattle.ua_table.specs.Listings.{Row}
-use Rattle.ua_part.specs.Blocks.{more_numbers}
+use Rattle.ua_part.specs.Blocks.{more_numbers, spaced}
 use Rattle.ua_text.specs.declared.tokens.Place.{Place}
 use Rattle.ua_text.specs.declared.named.Block.{Block}
 
@@ -40,10 +40,22 @@ element_text k x = unwrap_or (slice_get k.names x) (decimal x)
 abbrev pub more_elements : Block → Vector → List ℕ
 more_elements k v = flat_map (λ x. 32 ∷ element_text k x) v
 
+-- elements with single blanks between them
+abbrev pub elements_text : Block → List ℕ → List ℕ
+elements_text k [] = []
+elements_text k (x ∷ xs) = element_text k x ++ more_elements k xs
+
 -- [0 1], or [bot top]
 abbrev pub vector_text : Block → Vector → List ℕ
-vector_text k [] = codes "[]"
-vector_text k (x ∷ v) = codes "[" ++ element_text k x ++ more_elements k v ++ codes "]"
+vector_text k v = codes "[" ++ elements_text k v ++ codes "]"
+
+-- {0 1}, or {bot top}
+abbrev pub set_text : Block → List ℕ → List ℕ
+set_text k xs = codes "{" ++ elements_text k xs ++ codes "}"
+
+-- [0 1], by numbers alone
+abbrev pub tuple_text : List ℕ → List ℕ
+tuple_text ns = codes "[" ++ spaced ns ++ codes "]"
 
 abbrev pub name_of : Option Operation → List ℕ
 name_of None = []

@@ -10,7 +10,7 @@ use std::alloc::{AllocError, Global};
 use ua_close::{Answer, CloseError, Closure, Size};
 
 /// The reply where nothing was closed. Want of memory has none.
-fn cause_reply(alloc: Global, cause: CloseError) -> Result<Vec<u8>, AllocError>
+pub fn cause_reply(alloc: Global, cause: CloseError) -> Result<Vec<u8>, AllocError>
     ensures { IfOk result (λ v. cause_text cause ≡ Some v.items) }
 {
     match cause {

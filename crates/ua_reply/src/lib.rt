@@ -5,19 +5,22 @@ mod checks;
 mod closures;
 mod known;
 mod operands;
+mod parts;
 mod refusals;
 mod session;
 mod texts;
 
 pub use checks::FirstErrors;
-pub use closures::{closure_reply, member_reply, size_reply};
+pub use closures::{cause_reply, closure_reply, member_reply, size_reply};
 pub use known::Known;
 pub use operands::{
-    elements, elements_in, pairs, positive, power, term_in, vector, vector_in, vectors, vectors_in,
+    elements, elements_in, length_in, pairs, positive, power, term_in, vector, vector_in, vectors,
+    vectors_in,
 };
-pub use refusals::{Refusal, refusal_reply};
+pub use parts::{part, part_in};
+pub use refusals::{Refusal, congruence_reply, refusal_reply};
 pub use session::Session;
 pub use texts::{
-    push_counted, push_element, push_more, push_origin, push_part, push_place, push_rows,
-    push_steps, push_vector,
+    push_counted, push_element, push_more, push_origin, push_part, push_place, push_rows, push_set,
+    push_steps, push_tuple, push_vector,
 };

@@ -79,11 +79,12 @@ pub fn elements_in(known: &Known, entries: &[Entry]) -> FirstErrors
 }
 
 /// Whether a vector has so many entries.
-fn length_is(width: u32, v: &Items) -> FirstErrors
-    ensures { AreFirst (length_in width v.now) result }
+pub fn length_in(width: usize, v: &Items) -> FirstErrors
+    ensures first { AreFirst (length_in width v.now) result }
+    ensures length { Passes (length_in width v.now) → length v.now.values ≡ width }
 {
     let mut errors = FirstErrors::none();
-    if v.values.as_slice().len() != width as usize {
+    if v.values.as_slice().len() != width {
         errors.shape = Some(v.place);
     }
     errors
@@ -93,7 +94,7 @@ fn length_is(width: u32, v: &Items) -> FirstErrors
 pub fn vector_in(known: &Known, width: u32, v: &Items) -> FirstErrors
     ensures { AreFirst (vector_in known.now width v.now) result }
 {
-    elements_in(known, v.values.as_slice()).and(length_is(width, v))
+    elements_in(known, v.values.as_slice()).and(length_in(width as usize, v))
 }
 
 /// Whether each vector has so many entries, each an element.

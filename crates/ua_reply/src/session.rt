@@ -1,12 +1,14 @@
 //! What a script has introduced, found by name.
 
 ghost use Rattle.std.specs.Prelude.{◌≡◌, ◌++◌, [], ◌∷◌, option_copied, OnOk, OnErr};
+ghost use Rattle.ua_text.specs.Blocks.{unnamed};
 ghost use Rattle.ua_reply.specs.Sessions.{lookup};
 
 use crate::known::Known;
 use indexmap::IndexMap;
 use std::alloc::{AllocError, Global};
 use std::marker::Model;
+use ua_table::{Algebra, Name};
 use ua_text::Block;
 
 /// What a script has introduced so far, in order. A look-up by name takes constant time on the average.
@@ -54,18 +56,37 @@ impl<'a> Session<'a> {
         Some(&self.knowns[*place])
     }
 
-    /// A block joins the session. After want of memory the session is as it was.
-    pub fn introduce(&mut self, block: &'a Block) -> Result<(), AllocError>
-        ensures ok { OnOk result (self.new ≡ self.old ++ block.now ∷ []) }
+    /// What is known joins the session under its name. After want of memory the session is as it was.
+    fn enter(&mut self, name: &'a [u8], known: Known<'a>) -> Result<(), AllocError>
+        requires { name.now ≡ known.algebra.name }
+        ensures ok { OnOk result (self.new ≡ self.old ++ known.entry ∷ []) }
         ensures err { OnErr result (self.new ≡ self.old) }
     {
-        let known = Known::new(self.alloc, block)?;
         self.knowns.reserve(1)?;
-        let name = block.algebra.name().text();
         if self.places.get(name).is_none() {
             self.places.insert(name, self.knowns.len())?;
         }
         self.knowns.push(known).unwrap();
         Ok(())
+    }
+
+    /// A block joins the session. After want of memory the session is as it was.
+    pub fn introduce(&mut self, block: &'a Block) -> Result<(), AllocError>
+        ensures ok { OnOk result (self.new ≡ self.old ++ block.now ∷ []) }
+        ensures err { OnErr result (self.new ≡ self.old) }
+    {
+        let known = Known::written(self.alloc, block)?;
+        self.enter(block.algebra.name().text(), known)
+    }
+
+    /// An algebra that a command made joins the session under this name, which is its own. After want of
+    /// memory the session is as it was.
+    pub fn introduce_made(&mut self, name: &'a Name, algebra: Algebra) -> Result<(), AllocError>
+        requires { name.now ≡ algebra.name }
+        ensures ok { OnOk result (self.new ≡ self.old ++ unnamed algebra ∷ []) }
+        ensures err { OnErr result (self.new ≡ self.old) }
+    {
+        let known = Known::made(self.alloc, algebra)?;
+        self.enter(name.text(), known)
     }
 }

@@ -2,7 +2,7 @@
 
 ghost use Rattle.std.specs.Prelude.{◌≡◌, ◌++◌, OnOk};
 ghost use Rattle.ua_part.specs.Blocks.{more_numbers, partition_text};
-ghost use Rattle.ua_reply.specs.Texts.{line, lines, numbered, counted, element_text, more_elements, vector_text, place_text, application_text, origin_text, row_text};
+ghost use Rattle.ua_reply.specs.Texts.{line, lines, numbered, counted, element_text, more_elements, elements_text, vector_text, set_text, tuple_text, place_text, application_text, origin_text, row_text};
 
 use crate::known::Known;
 use std::alloc::AllocError;
@@ -54,14 +54,56 @@ fn push_more_elements(out: &mut Vec<u8>, known: &Known, v: &[Elem]) -> Result<()
     Ok(())
 }
 
+/// Appends elements with single blanks between them.
+fn push_elements(out: &mut Vec<u8>, known: &Known, xs: &[Elem]) -> Result<(), AllocError>
+    ensures { OnOk result (out.new.items ≡ out.old.items ++ elements_text known.now xs.now) }
+{
+    let Some((first, others)) = xs.split_first() else {
+        return Ok(());
+    };
+    push_element(out, known, *first)?;
+    push_more_elements(out, known, others)
+}
+
 /// Appends a vector in brackets.
 pub fn push_vector(out: &mut Vec<u8>, known: &Known, v: &[Elem]) -> Result<(), AllocError>
     ensures { OnOk result (out.new.items ≡ out.old.items ++ vector_text known.now v.now) }
 {
     out.push(b'[')?;
-    if let Some((first, others)) = v.split_first() {
-        push_element(out, known, *first)?;
-        push_more_elements(out, known, others)?;
+    push_elements(out, known, v)?;
+    out.push(b']')?;
+    Ok(())
+}
+
+/// Appends a set of elements in braces.
+pub fn push_set(out: &mut Vec<u8>, known: &Known, set: &[Elem]) -> Result<(), AllocError>
+    ensures { OnOk result (out.new.items ≡ out.old.items ++ set_text known.now set.now) }
+{
+    out.push(b'{')?;
+    push_elements(out, known, set)?;
+    out.push(b'}')?;
+    Ok(())
+}
+
+/// Appends the number of each element behind a blank.
+fn push_more_numbers(out: &mut Vec<u8>, ns: &[Elem]) -> Result<(), AllocError>
+    ensures { OnOk result (out.new.items ≡ out.old.items ++ more_numbers ns.now) }
+{
+    for n in ns {
+        out.push(b' ')?;
+        push_number(out, u128::from(*n))?;
+    }
+    Ok(())
+}
+
+/// Appends a tuple in brackets, by the numbers of its elements.
+pub fn push_tuple(out: &mut Vec<u8>, ns: &[Elem]) -> Result<(), AllocError>
+    ensures { OnOk result (out.new.items ≡ out.old.items ++ tuple_text ns.now) }
+{
+    out.push(b'[')?;
+    if let Some((first, others)) = ns.split_first() {
+        push_number(out, u128::from(*first))?;
+        push_more_numbers(out, others)?;
     }
     out.push(b']')?;
     Ok(())

@@ -21,7 +21,9 @@ ghost use Rattle.ua_term.specs.Terms.{term};
 ghost use Rattle.ua_script.specs.Grammar.{word, number, vector, mode, command};
 ghost use Rattle.ua_script.specs.Reading.{IsShort, IsShortVector, begins_item, IsReadableItem, first_words, found_first};
 
-use crate::readers::{amount, mode, vector, vectors, word};
+use crate::congruences::{central, cg, comm, con, descent};
+use crate::constructions::make;
+use crate::readers::{amount, mode, place_of, vector, vectors, word};
 use crate::script::{Command, Mode, Provable};
 use std::alloc::Global;
 use ua_table::limits::NESTING;
@@ -90,25 +92,72 @@ fn eval(alloc: Global, tokens: &mut Tokens<'_>) -> Result<Command, Miss>
     })
 }
 
-/// A `cg` behind its first word.
-fn cg(alloc: Global, tokens: &mut Tokens<'_>) -> Result<Command, Miss>
-    ensures only { (a : Word) (vs : List Items) (ws : List Wanted) → is_name a.name ≡ true → AllByRecursion IsShortVector vs → begins_item ws → Front (tokens_left tokens.old) (word a ∷ (flat_map vector vs ++ ws)) [] → Gives result (λ x. (x ≡ Command.Cg a vs) × Front (tokens_left tokens.new) ws []) }
+/// A `free` behind its first word.
+fn free(alloc: Global, tokens: &mut Tokens<'_>) -> Result<Command, Miss>
+    ensures only { (a : Word) (k : Number) (m : Mode) (ws : List Wanted) → is_name a.name ≡ true → IsShort k → begins_item ws → Front (tokens_left tokens.old) (word a ∷ number Role.Amount k ∷ (mode m ++ ws)) [] → Gives result (λ x. (x ≡ Command.Free a k m) × Front (tokens_left tokens.new) ws []) }
     ensures progress { IfOk result (λ x. length (tokens_left tokens.new) < length (tokens_left tokens.old)) }
     ensures source { source_of tokens.new ≡ source_of tokens.old }
 {
     let algebra = word(alloc, tokens)?;
-    let pairs = vectors(alloc, tokens)?;
-    Ok(Command::Cg { algebra, pairs })
+    let k = amount(tokens)?;
+    let mode = mode(tokens)?;
+    Ok(Command::Free { algebra, k, mode })
 }
 
-/// A `con` behind its first word.
-fn con(alloc: Global, tokens: &mut Tokens<'_>) -> Result<Command, Miss>
-    ensures only { (a : Word) (ws : List Wanted) → is_name a.name ≡ true → Front (tokens_left tokens.old) (word a ∷ ws) [] → Gives result (λ x. (x ≡ Command.Con a) × Front (tokens_left tokens.new) ws []) }
+/// A `sub` behind its first word.
+fn sub(alloc: Global, tokens: &mut Tokens<'_>) -> Result<Command, Miss>
+    ensures only { (a : Word) (v : Items) (ws : List Wanted) → is_name a.name ≡ true → IsShortVector v → Front (tokens_left tokens.old) (word a ∷ (vector v ++ ws)) [] → Gives result (λ x. (x ≡ Command.Sub a v) × Front (tokens_left tokens.new) ws []) }
     ensures progress { IfOk result (λ x. length (tokens_left tokens.new) < length (tokens_left tokens.old)) }
     ensures source { source_of tokens.new ≡ source_of tokens.old }
 {
     let algebra = word(alloc, tokens)?;
-    Ok(Command::Con { algebra })
+    let set = vector(alloc, tokens)?;
+    Ok(Command::Sub { algebra, set })
+}
+
+/// An `ones` behind its first word.
+fn ones(alloc: Global, tokens: &mut Tokens<'_>) -> Result<Command, Miss>
+    ensures only { (a : Word) (ws : List Wanted) → is_name a.name ≡ true → Front (tokens_left tokens.old) (word a ∷ ws) [] → Gives result (λ x. (x ≡ Command.Ones a) × Front (tokens_left tokens.new) ws []) }
+    ensures progress { IfOk result (λ x. length (tokens_left tokens.new) < length (tokens_left tokens.old)) }
+    ensures source { source_of tokens.new ≡ source_of tokens.old }
+{
+    let algebra = word(alloc, tokens)?;
+    Ok(Command::Ones { algebra })
+}
+
+/// A `holds` behind its first word.
+fn holds(alloc: Global, tokens: &mut Tokens<'_>) -> Result<Command, Miss>
+    ensures only { (a : Word) (p q : Phrase) (ws : List Wanted) → is_name a.name ≡ true → IsNested NESTING p → AreSpelled [] (term p) → IsNested NESTING q → AreSpelled [] (term q) → begins_item ws → Front (tokens_left tokens.old) (word a ∷ (term p ++ (sign Role.Exact (codes "=") ∷ (term q ++ ws)))) [] → Gives result (λ x. (x ≡ Command.Holds a p q) × Front (tokens_left tokens.new) ws []) }
+    ensures progress { IfOk result (λ x. length (tokens_left tokens.new) < length (tokens_left tokens.old)) }
+    ensures source { source_of tokens.new ≡ source_of tokens.old }
+{
+    let algebra = word(alloc, tokens)?;
+    let left = term(alloc, tokens, NESTING as u8)?;
+    exact(tokens, b"=")?;
+    let right = term(alloc, tokens, NESTING as u8)?;
+    Ok(Command::Holds {
+        algebra,
+        left,
+        right,
+    })
+}
+
+/// A `hom` behind its first word.
+fn hom(alloc: Global, tokens: &mut Tokens<'_>) -> Result<Command, Miss>
+    ensures only { (a b : Word) (v w : Items) (ws : List Wanted) → is_name a.name ≡ true → is_name b.name ≡ true → IsShortVector v → IsShortVector w → Front (tokens_left tokens.old) (word a ∷ word b ∷ (vector v ++ (vector w ++ ws))) [] → Gives result (λ x. (x ≡ Command.Hom a b v w) × Front (tokens_left tokens.new) ws []) }
+    ensures progress { IfOk result (λ x. length (tokens_left tokens.new) < length (tokens_left tokens.old)) }
+    ensures source { source_of tokens.new ≡ source_of tokens.old }
+{
+    let first = word(alloc, tokens)?;
+    let second = word(alloc, tokens)?;
+    let gens = vector(alloc, tokens)?;
+    let images = vector(alloc, tokens)?;
+    Ok(Command::Hom {
+        first,
+        second,
+        gens,
+        images,
+    })
 }
 
 /// The commands that are built.
@@ -119,6 +168,15 @@ enum FirstWord {
     Eval,
     Cg,
     Con,
+    Free,
+    Sub,
+    Ones,
+    Holds,
+    Hom,
+    Central,
+    Comm,
+    Series,
+    Make,
 }
 
 impl FirstWord {
@@ -135,6 +193,15 @@ impl FirstWord {
             FirstWord::Eval => b"eval",
             FirstWord::Cg => b"cg",
             FirstWord::Con => b"con",
+            FirstWord::Free => b"free",
+            FirstWord::Sub => b"sub",
+            FirstWord::Ones => b"ones",
+            FirstWord::Holds => b"holds",
+            FirstWord::Hom => b"hom",
+            FirstWord::Central => b"central",
+            FirstWord::Comm => b"comm",
+            FirstWord::Series => b"series",
+            FirstWord::Make => b"make",
         }
     }
 }
@@ -145,6 +212,15 @@ const FIRST_WORDS: &[FirstWord] = &[
     FirstWord::Eval,
     FirstWord::Cg,
     FirstWord::Con,
+    FirstWord::Free,
+    FirstWord::Sub,
+    FirstWord::Ones,
+    FirstWord::Holds,
+    FirstWord::Hom,
+    FirstWord::Central,
+    FirstWord::Comm,
+    FirstWord::Series,
+    FirstWord::Make,
 ];
 
 /// The command that begins with this word.
@@ -172,6 +248,15 @@ pub fn command(alloc: Global, tokens: &mut Tokens<'_>) -> Result<Command, Miss>
         Some(FirstWord::Eval) => eval(alloc, tokens),
         Some(FirstWord::Cg) => cg(alloc, tokens),
         Some(FirstWord::Con) => con(alloc, tokens),
+        Some(FirstWord::Free) => free(alloc, tokens),
+        Some(FirstWord::Sub) => sub(alloc, tokens),
+        Some(FirstWord::Ones) => ones(alloc, tokens),
+        Some(FirstWord::Holds) => holds(alloc, tokens),
+        Some(FirstWord::Hom) => hom(alloc, tokens),
+        Some(FirstWord::Central) => central(alloc, tokens),
+        Some(FirstWord::Comm) => comm(alloc, tokens),
+        Some(FirstWord::Series) => descent(alloc, tokens),
+        Some(FirstWord::Make) => make(alloc, place_of(&first), tokens),
         None => Err(Miss::Other),
     }
 }

@@ -1,2 +1,4 @@
 mod Serving
 mod Built
+mod Generating
+mod Endings

@@ -1,4 +1,4 @@
 mod Walking
 mod Choices
 mod Numbers
-mod OptionValues
+pub mod OptionValues

@@ -14,11 +14,12 @@ use Rattle.clap.specs.declared.parser.matches.Found.{Found}
 use Rattle.clap.proofs.WalkLemmas.{first_value-rows, list_any-map}
 use Rattle.ua_table.specs.declared.limits.TheConstants.{BUDGET, WORKERS}
 use Rattle.ua_words.specs.declared.words.TheConstants.{USUAL_WORKERS, USUAL_BUDGET}
+use Rattle.ua_words.specs.declared.words.Settings.{Settings}
 use Rattle.ua_words.specs.declared.words.Values.{Values}
-use Rattle.ua_words.specs.Words.{OptionName, Workers, Budget, name_text, Choice, EachOnce, IsNumber, value_of, Asks, AreAccepted}
+use Rattle.ua_words.specs.Words.{OptionName, Workers, Budget, Generate, name_text, Choice, EachOnce, IsNumber, IsSeed, value_of, Asks, AreAccepted}
 use Rattle.ua_words.specs.Options.{AreValues, GiveValues, HasValues, IsPlain, KeepsValues, options_app}
 use Rattle.ua_words.proofs.Choices.{given_passes, is_simple_app, is_simple_options, passing_gives, plain_dashless_words}
-use Rattle.ua_words.proofs.Numbers.{number_plain}
+use Rattle.ua_words.proofs.Numbers.{number_plain, same_number, same_seed, seed_plain}
 use Rattle.ua_words.proofs.Walking.{HaveNoDashes}
 
 pub no_dashes : (words : List (String Global)) → false ≡ list_any (λ word. bytes_eq (string_bytes word) (codes "--")) words → HaveNoDashes (map string_bytes words)
@@ -41,6 +42,7 @@ pub record Matched (words : List Text) (values : Values) : Type 0 where
   pub rows : is_simple app ≡ true → rows_of found ≡ matches_of app words
   pub workers : option_map (λ text. text.now) values.workers ≡ first_value found (codes "workers")
   pub budget : option_map (λ text. text.now) values.budget ≡ first_value found (codes "budget")
+  pub generate : option_map (λ text. text.now) values.generate ≡ first_value found (codes "generate")
 
 row_values : (words : List Text) (values : Values) (choices : List Choice) → Matched words values
     → ((n : OptionName) → first_of (name_text n) (matches_of options_app words) ≡ value_of n choices) → AreValues choices values
@@ -49,6 +51,7 @@ row_values words values choices m are =
     record {
       workers = m.workers ∙ (first_value-rows m.found (codes "workers") ∙ (ap (first_of (codes "workers")) rows ∙ are Workers));
       budget = m.budget ∙ (first_value-rows m.found (codes "budget") ∙ (ap (first_of (codes "budget")) rows ∙ are Budget));
+      generate = m.generate ∙ (first_value-rows m.found (codes "generate") ∙ (ap (first_of (codes "generate")) rows ∙ are Generate));
     }
 
 pub matched_given : (words : List Text) (values : Values) → HaveNoDashes words → Matched words values → GiveValues words values
@@ -71,25 +74,53 @@ failed_refused app words k app_is kinds memory choices give plain =
 
 -- ---- settings
 
-plain_choices : (choices : List Choice) → EachOnce choices → (w b : ℕ) → IsNumber USUAL_WORKERS WORKERS (value_of Workers choices) w → IsNumber USUAL_BUDGET BUDGET (value_of Budget choices) b → AllByRecursion IsPlain choices
-plain_choices [] once w b ws bs = tt
-plain_choices (c ∷ choices) once w b ws bs = by_name c.name refl (plain_choices choices once.1)
+-- the numbers that options with these values ask for
+record AskFor (choices : List Choice) : Type 0 where
+  workers : ℕ
+  is_workers : IsNumber USUAL_WORKERS WORKERS (value_of Workers choices) workers
+  budget : ℕ
+  is_budget : IsNumber USUAL_BUDGET BUDGET (value_of Budget choices) budget
+  seed : Option ℕ
+  is_seed : IsSeed (value_of Generate choices) seed
+
+plain_choices : (choices : List Choice) → EachOnce choices → AskFor choices → AllByRecursion IsPlain choices
+plain_choices [] once asked = tt
+plain_choices (c ∷ choices) once asked = by_name c.name refl (plain_choices choices once.1)
   where
-    by_name : (n : OptionName) → c.name ≡ n
-        → ((v d : ℕ) → IsNumber USUAL_WORKERS WORKERS (value_of Workers choices) v → IsNumber USUAL_BUDGET BUDGET (value_of Budget choices) d → AllByRecursion IsPlain choices) → AllByRecursion IsPlain (c ∷ choices)
+    by_name : (n : OptionName) → c.name ≡ n → (AskFor choices → AllByRecursion IsPlain choices) → AllByRecursion IsPlain (c ∷ choices)
     by_name Workers e rest =
-        let own : IsNumber USUAL_WORKERS WORKERS (Some c.value) w = rw e at ws in
-        let others : IsNumber USUAL_BUDGET BUDGET (value_of Budget choices) b = rw e at bs in
-        let none : value_of Workers choices ≡ None = rw e at once.0 in
-        (number_plain USUAL_WORKERS WORKERS c.value w (lit< tt) own, rest USUAL_WORKERS b (rw none refl) others)
+        let own : IsNumber USUAL_WORKERS WORKERS (Some c.value) asked.workers = rw e at asked.is_workers in
+        let none : value_of Workers choices ≡ None = rw e at once.0 in (
+          number_plain USUAL_WORKERS WORKERS c.value asked.workers (lit< tt) own,
+          rest (record { workers = USUAL_WORKERS; is_workers = rw none refl; budget = asked.budget; is_budget = rw e at asked.is_budget; seed = asked.seed; is_seed = rw e at asked.is_seed }),
+        )
     by_name Budget e rest =
-        let own : IsNumber USUAL_BUDGET BUDGET (Some c.value) b = rw e at bs in
-        let others : IsNumber USUAL_WORKERS WORKERS (value_of Workers choices) w = rw e at ws in
-        let none : value_of Budget choices ≡ None = rw e at once.0 in
-        (number_plain USUAL_BUDGET BUDGET c.value b (lit< tt) own, rest w USUAL_BUDGET others (rw none refl))
+        let own : IsNumber USUAL_BUDGET BUDGET (Some c.value) asked.budget = rw e at asked.is_budget in
+        let none : value_of Budget choices ≡ None = rw e at once.0 in (
+          number_plain USUAL_BUDGET BUDGET c.value asked.budget (lit< tt) own,
+          rest (record { workers = asked.workers; is_workers = rw e at asked.is_workers; budget = USUAL_BUDGET; is_budget = rw none refl; seed = asked.seed; is_seed = rw e at asked.is_seed }),
+        )
+    by_name Generate e rest =
+        let own : IsSeed (Some c.value) asked.seed = rw e at asked.is_seed in
+        let none : value_of Generate choices ≡ None = rw e at once.0 in (
+          seed_plain c.value asked.seed own,
+          rest (record { workers = asked.workers; is_workers = rw e at asked.is_workers; budget = asked.budget; is_budget = rw e at asked.is_budget; seed = None; is_seed = rw none refl }),
+        )
+
+asked_plain : (words : List Text) (s : Settings) (a : Asks words s) → AllByRecursion IsPlain a.choices
+asked_plain words s a =
+    let asked : AskFor a.choices = record {
+      workers = s.workers;
+      is_workers = a.workers;
+      budget = s.budget;
+      is_budget = a.budget;
+      seed = s.generate;
+      is_seed = a.generate;
+    } in
+    plain_choices a.choices a.given.once asked
 
 pub accepted_values : (words : List Text) (found : Option Values) → KeepsValues words found → (a : AreAccepted words) → HasValues a.asked.choices found
-accepted_values words found kept a = kept a.asked.choices a.asked.given (plain_choices a.asked.choices a.asked.given.once a.settings.workers a.settings.budget a.asked.workers a.asked.budget)
+accepted_values words found kept a = kept a.asked.choices a.asked.given (asked_plain words a.settings a.asked)
 
 pub nothing_kept : (words : List Text) (found : Option Values) → KeepsValues words found → found ≡ None → AreAccepted words → ⊥
 nothing_kept words found kept none a = subst (HasValues a.asked.choices) none (accepted_values words found kept a)
@@ -109,13 +140,32 @@ no_budget words found values kept some none a =
     let v = kept_values words found values kept some a in
     none a.settings.budget (rw v.budget a.asked.budget)
 
-pub given_asked : (words : List Text) (found : Option Values) (values : Values) (workers budget : ℕ) → IfSome found (GiveValues words) → found ≡ Some values → IsNumber USUAL_WORKERS WORKERS (option_map (λ text. text.now) values.workers) workers
-    → IsNumber USUAL_BUDGET BUDGET (option_map (λ text. text.now) values.budget) budget → Asks words (record { workers = workers; budget = budget })
-given_asked words found values workers budget given some w b =
+pub no_seed : (words : List Text) (found : Option Values) (values : Values) → KeepsValues words found → found ≡ Some values
+    → ((n : Option ℕ) → IsSeed (option_map (λ text. text.now) values.generate) n → ⊥) → AreAccepted words → ⊥
+no_seed words found values kept some none a =
+    let v = kept_values words found values kept some a in
+    none a.settings.generate (rw v.generate a.asked.generate)
+
+pub given_asked : (words : List Text) (found : Option Values) (values : Values) (workers budget : ℕ) (seed : Option ℕ) → IfSome found (GiveValues words) → found ≡ Some values
+    → IsNumber USUAL_WORKERS WORKERS (option_map (λ text. text.now) values.workers) workers → IsNumber USUAL_BUDGET BUDGET (option_map (λ text. text.now) values.budget) budget
+    → IsSeed (option_map (λ text. text.now) values.generate) seed → Asks words (record { workers = workers; budget = budget; generate = seed })
+given_asked words found values workers budget seed given some w b s =
     let g : GiveValues words values = subst (λ (o : Option Values). IfSome o (GiveValues words)) some given in
     record {
       choices = g.choices;
       given = g.given;
       workers = subst (λ (value : Option (List ℕ)). IsNumber USUAL_WORKERS WORKERS value workers) g.values_are.workers w;
       budget = subst (λ (value : Option (List ℕ)). IsNumber USUAL_BUDGET BUDGET value budget) g.values_are.budget b;
+      generate = subst (λ (value : Option (List ℕ)). IsSeed value seed) g.values_are.generate s;
     }
+
+-- the same words ask for the same
+pub asked_once : (words : List Text) (s t : Settings) → Asks words s → Asks words t → s ≡ t
+asked_once words s t a b =
+    let left = (given_passes words a.choices a.given (asked_plain words s a)).1 in
+    let right = (given_passes words b.choices b.given (asked_plain words t b)).1 in
+    let same : (n : OptionName) → value_of n b.choices ≡ value_of n a.choices = λ n. sym (right n) ∙ left n in
+    let w = same_number USUAL_WORKERS WORKERS (value_of Workers a.choices) s.workers t.workers (lit< tt) a.workers (subst (λ value. IsNumber USUAL_WORKERS WORKERS value t.workers) (same Workers) b.workers) in
+    let g = same_number USUAL_BUDGET BUDGET (value_of Budget a.choices) s.budget t.budget (lit< tt) a.budget (subst (λ value. IsNumber USUAL_BUDGET BUDGET value t.budget) (same Budget) b.budget) in
+    let n = same_seed (value_of Generate a.choices) s.generate t.generate a.generate (subst (λ value. IsSeed value t.generate) (same Generate) b.generate) in
+    λ j. record { workers = w j; budget = g j; generate = n j }

@@ -4,20 +4,23 @@ use Rattle.std.specs.List.{flat_map}
 use Rattle.std.specs.Fmt.{decimal}
 use Rattle.ua_table.specs.declared.limits.TheConstants.{BUDGET, WORKERS}
 use Rattle.ua_words.specs.declared.words.Settings.{Settings}
-use Rattle.ua_words.specs.declared.words.TheConstants.{USUAL_WORKERS, USUAL_BUDGET}
+use Rattle.ua_words.specs.declared.words.TheConstants.{USUAL_WORKERS, USUAL_BUDGET, SEED}
 
 -- the options
 pub data OptionName : Type 0 where
   Workers : OptionName
   Budget : OptionName
+  Generate : OptionName
 
 abbrev pub name_text : OptionName → List ℕ
 name_text Workers = codes "workers"
 name_text Budget = codes "budget"
+name_text Generate = codes "generate"
 
 abbrev pub same_name : OptionName → OptionName → Bool
 same_name Workers Workers = true
 same_name Budget Budget = true
+same_name Generate Generate = true
 same_name _ _ = false
 
 -- an option as it is given: its value is a text, and stands in the word of the name or in the next one
@@ -47,11 +50,20 @@ pub record Give (words : List (List ℕ)) (choices : List Choice) : Type 0 where
   pub words_are : words ≡ flat_map choice_words choices
   pub once : EachOnce choices
 
--- n is the number that the value writes, in decimal digits without a sign or a leading zero, from 1 to the greatest; with
--- no value it is the usual one
+-- the value writes n, in decimal digits without a sign or a leading zero, and n is at most the greatest
+abbrev pub Writes : ℕ → List ℕ → ℕ → Type 0
+Writes greatest value n = (value ≡ decimal n) × (n ≤ greatest)
+
+-- n is the number that the value writes, from 1 to the greatest; with no value it is the usual one
 abbrev pub IsNumber : (usual greatest : ℕ) → Option (List ℕ) → ℕ → Type 0
 IsNumber usual greatest None n = n ≡ usual
-IsNumber usual greatest (Some value) n = (value ≡ decimal n) × (1 ≤ n) × (n ≤ greatest)
+IsNumber usual greatest (Some value) n = Writes greatest value n × (1 ≤ n)
+
+-- the number that the value writes; with no value there is none
+abbrev pub IsSeed : Option (List ℕ) → Option ℕ → Type 0
+IsSeed None seed = seed ≡ None
+IsSeed (Some value) None = ⊥
+IsSeed (Some value) (Some n) = Writes SEED value n
 
 -- the words are options with numbers, and the settings are these numbers
 pub record Asks (words : List (List ℕ)) (settings : Settings) : Type 0 where
@@ -59,6 +71,7 @@ pub record Asks (words : List (List ℕ)) (settings : Settings) : Type 0 where
   pub given : Give words choices
   pub workers : IsNumber USUAL_WORKERS WORKERS (value_of Workers choices) settings.workers
   pub budget : IsNumber USUAL_BUDGET BUDGET (value_of Budget choices) settings.budget
+  pub generate : IsSeed (value_of Generate choices) settings.generate
 
 -- the words are in the stated form
 pub record AreAccepted (words : List (List ℕ)) : Type 0 where

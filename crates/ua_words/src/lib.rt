@@ -1,6 +1,7 @@
 //! The words of the command line.
 #![tactic(auto)]
 
+pub mod laws;
 mod words;
 
-pub use words::{Settings, USUAL_BUDGET, USUAL_WORKERS, settings_of};
+pub use words::{SEED, Settings, USUAL_BUDGET, USUAL_WORKERS, settings_of};

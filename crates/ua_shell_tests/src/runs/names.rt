@@ -54,6 +54,10 @@ fn names_by_one_worker(rt: HostRuntime) -> Result<(), Fail> {
                 "member M 2 [bot top] [top bot] = [1 1]",
                 "no 3\n[bot bot] 2 meet 2 1\n[bot top] 0 gen 0\n[top bot] 1 gen 1\n",
             ),
+            (
+                "central M |0 1| |0 1| |0|1|",
+                "central no [bot bot bot top]\nsteps 3\n0 gen 1\n1 gen 5\n2 meet 1 0\n",
+            ),
         ],
     )
 }

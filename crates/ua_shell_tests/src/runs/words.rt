@@ -83,7 +83,9 @@ fn words_are_refused(rt: HostRuntime) -> Result<(), Fail> {
         &["help"],
         &["--version"],
         &["-V"],
-        &["--generate", "0"],
+        &["--generate", "2147483648"],
+        &["--generate"],
+        &["--generate", "0", "--generate=0"],
         &["--jobs", "2"],
     ] {
         refuses(&rt, rt.alloc(), words)?;

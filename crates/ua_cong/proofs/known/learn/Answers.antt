@@ -1,18 +1,12 @@
 use Rattle.std.proofs.Common.{◌∷◌, [], ℕ, map, ap, ◌∙◌}
 use Rattle.std.proofs.lemmas.List.{map-append}
-use Rattle.ua_cong.proofs.EntryLaws.{learned, entry_more, entry_few}
+use Rattle.ua_cong.proofs.EntryLaws.{learned}
 use Rattle.ua_cong.proofs.known.learn.Goals as goal
 
 pub returns-clause-known : goal.returns-clause-known
 returns-clause-known c =
     learned c.args._algebra.now c.args.known.now (record { pairs = c.push.new.self; rows = c.enter.new.rows }) c.args.first c.args.second c.in_ok-place.place c.args.row.now c.requires.known c.requires.elements c.requires.principal
     c.in_ok-place.ensures.entered c.in_ok-place.ensures.place c.in_ok-place.ensures.width c.in_ok-push.ensures.items
-
-pub returns-clause-more : goal.returns-clause-more
-returns-clause-more c = entry_more c.args.known.now.rows.items c.args.row.now c.enter.new.rows.items c.in_ok-place.ensures.entered
-
-pub returns-clause-few : goal.returns-clause-few
-returns-clause-few c = entry_few c.args.known.now.rows.items c.args.row.now c.enter.new.rows.items c.in_ok-place.ensures.entered
 
 pub returns-clause-pairs : goal.returns-clause-pairs
 returns-clause-pairs c =

@@ -6,6 +6,5 @@ returns-clause-principals g c =
     let known = c.in_ok-known.known in
     record {
       principal = c.in_ok-known.ensures.known.rows;
-      few = c.in_ok-known.ensures.most;
-      all = λ fewer. all_known c.args.a.now known c.in_ok-known.ensures.known (c.in_ok-known.ensures.all fewer);
+      all = all_known c.args.a.now known c.in_ok-known.ensures.known c.in_ok-known.ensures.all;
     }

@@ -10,10 +10,9 @@ use Rattle.ua_cong.proofs.pairs.known_principals.Goals as goal
 pub batches-init : goal.batches-init
 batches-init g c = record {
   known = c.new-known.ensures.known c.args.a.now (sym c.size-2.ensures.size);
-  most = (let none = ap length c.new-known.ensures.rows in omega (arith, none));
   few = (let none = ap length c.new-known.ensures.pairs in omega (arith, none));
   within = omega arith;
-  all = λ fewer. ap (map (λ (e : ℕ × ℕ × ℕ). (e.0, e.1))) c.new-known.ensures.pairs;
+  all = ap (map (λ (e : ℕ × ℕ × ℕ). (e.0, e.1))) c.new-known.ensures.pairs;
 }
 
 pub advance-requires-clause-elements : goal.advance-requires-clause-elements
@@ -22,6 +21,17 @@ advance-requires-clause-elements g c _ _ =
     let pairs : c.deref.result.now ≡ pairs_below a.size = c.deref.ensures.value ∙ c.in_ok-pairs.ensures ∙ ap pairs_below c.size.ensures.size in
     all_of_slice (AreElements a) _ _ c.deref.result.now (subst (AllByRecursion (AreElements a)) (sym pairs) (all_elements a))
 
+pub advance-requires-clause-room : goal.advance-requires-clause-room
+advance-requires-clause-room g c _ _ =
+    let few = few_pairs c.args.a.now.size c.size.ensures.algebra.small in
+    let all = ap length (c.in_ok-pairs.ensures ∙ ap pairs_below c.size.ensures.size) in
+    let long = c.len-in-batches.ensures in
+    let count = c.in_ok-pairs.pairs.ok.0 in
+    let known = c.batches.invariant.few in
+    let within = c.batches.invariant.within in
+    let slice = length-take (c.batches.start + c.min.result - c.batches.start) (drop c.batches.start c.deref.result.now) in
+    omega (arith, few, all, long, count, known, within, slice, c.min.ensures)
+
 pub batches-preserved : goal.batches-preserved
 batches-preserved g c =
     let all = c.in_ok-pairs.pairs.items in
@@ -29,18 +39,16 @@ batches-preserved g c =
     let end = c.batches.start + c.min.result in
     let long : c.len-in-batches.result ≡ length c.in_ok-pairs.pairs.items = (let b1 = c.len-in-batches.ensures in let b2 = c.in_ok-pairs.pairs.ok.0 in omega (arith, b1, b2)) in
     let high : c.batches.start + c.min.result ≤ length c.in_ok-pairs.pairs.items = (let w = c.batches.invariant.within in omega (arith, c.min.ensures, long, w)) in
-    let more = c.in_ok-advance.ensures.more in
     record {
       known = c.in_ok-advance.ensures.known;
-      most = c.in_ok-advance.ensures.most;
       few = (
-          let one = c.in_ok-advance.ensures.few in
+          let one = c.in_ok-advance.ensures.count in
           let two = c.batches.invariant.few in
           let slice = length-take (c.batches.start + c.min.result - c.batches.start) (drop c.batches.start c.deref.result.now) in
           omega (arith, one, two, slice));
       within = high;
-      all = λ fewer. batch_more all (known_pairs c.batches.known) (known_pairs c.advance.new.known) start end (omega arith) (c.batches.invariant.all (omega (arith, more, fewer)))
-          (c.in_ok-advance.ensures.all fewer ∙ ap (λ (xs : List (ℕ × ℕ)). known_pairs c.batches.known ++ take (c.batches.start + c.min.result - c.batches.start) (drop c.batches.start xs)) c.deref.ensures.value);
+      all = batch_more all (known_pairs c.batches.known) (known_pairs c.advance.new.known) start end (omega arith) c.batches.invariant.all
+          (c.in_ok-advance.ensures.all ∙ ap (λ (xs : List (ℕ × ℕ)). known_pairs c.batches.known ++ take (c.batches.start + c.min.result - c.batches.start) (drop c.batches.start xs)) c.deref.ensures.value);
     }
 
 pub returns-clause-few : goal.returns-clause-few

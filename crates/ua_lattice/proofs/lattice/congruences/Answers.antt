@@ -5,33 +5,19 @@ use Rattle.ua_part.specs.Partitions.{Partition, IsPart}
 use Rattle.ua_prod.specs.Congruences.{IsCongruence}
 use Rattle.ua_lattice.specs.Lattices.{IsCongruenceList, AreCovers, AreIrreducible}
 use Rattle.ua_lattice.specs.Joins.{IsSpannedLattice, AreAmong}
-use Rattle.ua_lattice.proofs.PrincipalLaws.{congruence_part, principal_congruences}
-use Rattle.ua_lattice.proofs.WholeLaws.{arranged_length, arranged_principals, arranged_congruences, exceeding_list, spanned_list, congruence_list, covers_within}
+use Rattle.ua_lattice.proofs.PrincipalLaws.{congruence_part}
+use Rattle.ua_lattice.proofs.WholeLaws.{arranged_length, exceeding_list, spanned_list, congruence_list, covers_within}
 use Rattle.ua_lattice.proofs.lattice.congruences.Goals as goal
-
--- the principal congruences alone are more
-pub returns-then-len-run : goal.returns-then-len-run
-returns-then-len-run g c =
-    let a = c.args.a.now in
-    let rows = c.in_ok-principals.principals.items in
-    let few = c.in_ok-principals.ensures.principals.few in
-    let more = c.if-len-run.true in
-    let long = c.len.ensures.len in
-    exceeding_list rows c.in_ok-parts.parts.items c.in_ok-parts.ensures a c.args.run.now.budget (principal_congruences a rows c.in_ok-principals.ensures.principals.principal) (omega (arith, few, more, long))
 
 pub returns-then-not-whole : goal.returns-then-not-whole
 returns-then-not-whole g c =
     exceeding_list c.take_in_all.new.found.rows.items c.in_ok-list.list.items c.in_ok-list.ensures c.args.a.now c.args.run.now.budget c.in_ok-whole.ensures.congruences (c.in_ok-whole.ensures.exceeds c.if-not-whole.true)
 
--- the principal congruences in order
 pub take_in_all-requires-clause-parts : goal.take_in_all-requires-clause-parts
-take_in_all-requires-clause-parts g c =
-    let a = c.args.a.now in
-    let rows = c.in_ok-principals.principals.items in
-    subst (AllByRecursion (IsCongruence a)) (sym c.as_slice.ensures.value) (arranged_congruences rows c.in_ok-parts.parts.items c.in_ok-parts.ensures a (principal_congruences a rows c.in_ok-principals.ensures.principals.principal))
+take_in_all-requires-clause-parts g c = subst (AllByRecursion (IsCongruence c.args.a.now)) (sym c.as_slice.ensures.value) c.in_ok-parts.ensures.congruences
 
-pub in_order-requires-2 : goal.in_order-requires-2
-in_order-requires-2 g c =
+pub in_order-requires : goal.in_order-requires
+in_order-requires g c =
     let a = c.args.a.now in
     all_weaker (IsCongruence a) IsPart (λ p k. congruence_part a p c.size.ensures.algebra.small k) c.take_in_all.new.found.rows.items c.in_ok-whole.ensures.congruences
 
@@ -41,10 +27,9 @@ covers_of-requires-clause-list g c =
     let a = c.args.a.now in
     let rows = c.take_in_all.new.found.rows.items in
     let whole = c.if-not-whole.false in
-    let principals = c.in_ok-principals.ensures.principals.all (let n = c.len.ensures.len in let few = c.if-len-run.false in omega (arith, n, few)) in
     let parts = subst (λ (ps : List Partition). AreAmong ps rows) c.as_slice.ensures.value (c.in_ok-whole.ensures.there whole) in
     subst (IsCongruenceList a) (sym c.as_slice-2.ensures.value)
-    (congruence_list rows c.in_ok-list.list.items c.in_ok-list.ensures a c.take_in_all.new.found.generators.items (c.in_ok-whole.ensures.found whole) c.in_ok-parts.parts.items (arranged_principals c.in_ok-principals.principals.items c.in_ok-parts.parts.items c.in_ok-parts.ensures a c.in_ok-principals.principals.items principals (λ p k. k)) parts)
+    (congruence_list rows c.in_ok-list.list.items c.in_ok-list.ensures a c.take_in_all.new.found.generators.items (c.in_ok-whole.ensures.found whole) c.in_ok-parts.parts.items c.in_ok-parts.ensures.all parts)
 
 pub covers_of-requires-clause-spanned : goal.covers_of-requires-clause-spanned
 covers_of-requires-clause-spanned g c =
@@ -66,15 +51,15 @@ irreducibles_of-requires-clause-within g c =
     let list = c.in_ok-list.list.items in
     let covers = c.in_ok-covers.covers.items in
     let h = subst (λ (ps : List Partition). AreCovers ps covers) c.as_slice-2.ensures.value c.in_ok-covers.ensures in
-    let n : length list ≡ c.len-2.result = (let l = c.len-2.ensures in let k = c.in_ok-list.list.ok.0 in omega (arith, l, k)) in
-    subst (λ (ps : List (ℕ × ℕ)). AllByRecursion (λ (pair : ℕ × ℕ). pair.1 < c.len-2.result) ps) (sym c.as_slice-3.ensures.value) (subst (λ m. AllByRecursion (λ (pair : ℕ × ℕ). pair.1 < m) covers) n (covers_within list covers h))
+    let n : length list ≡ c.len.result = (let l = c.len.ensures in let k = c.in_ok-list.list.ok.0 in omega (arith, l, k)) in
+    subst (λ (ps : List (ℕ × ℕ)). AllByRecursion (λ (pair : ℕ × ℕ). pair.1 < c.len.result) ps) (sym c.as_slice-3.ensures.value) (subst (λ m. AllByRecursion (λ (pair : ℕ × ℕ). pair.1 < m) covers) n (covers_within list covers h))
 
 pub irreducibles_of-requires-clause-count : goal.irreducibles_of-requires-clause-count
 irreducibles_of-requires-clause-count g c =
     let long = arranged_length c.take_in_all.new.found.rows.items c.in_ok-list.list.items c.in_ok-list.ensures in
     let few = c.in_ok-whole.ensures.within c.if-not-whole.false in
     let small = c.args.run.now.small_budget in
-    let l = c.len-2.ensures in
+    let l = c.len.ensures in
     let k = c.in_ok-list.list.ok.0 in
     omega (arith, long, few, small, l, k)
 
@@ -86,12 +71,11 @@ returns g c =
     let covers = c.in_ok-covers.covers.items in
     let irreducibles = c.in_ok-irreducibles.irreducibles.items in
     let whole = c.if-not-whole.false in
-    let principals = c.in_ok-principals.ensures.principals.all (let n = c.len.ensures.len in let few = c.if-len-run.false in omega (arith, n, few)) in
     let parts = subst (λ (ps : List Partition). AreAmong ps rows) c.as_slice.ensures.value (c.in_ok-whole.ensures.there whole) in
     let long = arranged_length rows list c.in_ok-list.ensures in
     let few = c.in_ok-whole.ensures.within whole in
     record {
-      all_of_them = congruence_list rows list c.in_ok-list.ensures a c.take_in_all.new.found.generators.items (c.in_ok-whole.ensures.found whole) c.in_ok-parts.parts.items (arranged_principals c.in_ok-principals.principals.items c.in_ok-parts.parts.items c.in_ok-parts.ensures a c.in_ok-principals.principals.items principals (λ p k. k)) parts;
+      all_of_them = congruence_list rows list c.in_ok-list.ensures a c.take_in_all.new.found.generators.items (c.in_ok-whole.ensures.found whole) c.in_ok-parts.parts.items c.in_ok-parts.ensures.all parts;
       within = omega (arith, long, few);
       covering = subst (λ (ps : List Partition). AreCovers ps covers) c.as_slice-2.ensures.value c.in_ok-covers.ensures;
       irreducible = subst (λ (ps : List (ℕ × ℕ)). AreIrreducible ps irreducibles) c.as_slice-3.ensures.value c.in_ok-irreducibles.ensures;

@@ -1,0 +1,74 @@
+#!/usr/bin/env python3
+"""Times `free`, `sub`, `ones`, `hom`, `holds`, `comm`, `series` and `make`, with one worker: bench/commands.py PROGRAM
+
+For each command the first words that its reply is to have and the processor time of the program are printed, and whether
+these are its first words.
+"""
+
+import itertools
+import sys
+
+from congruences import block, measured
+
+
+def integers(modulus):
+    """The integers by a modulus under addition."""
+    return block(modulus, [(2, lambda a, b: (a + b) % modulus)])
+
+
+def even_permutations(letters):
+    """The alternating group on so many letters."""
+    def is_even(member):
+        return sum(a > b for a, b in itertools.combinations(member, 2)) % 2 == 0
+
+    members = [member for member in itertools.permutations(range(letters)) if is_even(member)]
+    number = {member: place for place, member in enumerate(members)}
+    return block(len(members), [(2, lambda a, b: number[tuple(members[a][letter] for letter in members[b])])])
+
+
+def ring(modulus):
+    """The ring of integers by a modulus."""
+    return block(modulus, [(2, lambda a, b: (a + b) % modulus), (2, lambda a, b: a * b % modulus)])
+
+
+def full(size):
+    """The partition with one block."""
+    return "|" + " ".join(map(str, range(size))) + "|"
+
+
+def nested(variables):
+    """The sum of these variables, parentheses to the right."""
+    *front, last = variables
+    for variable in reversed(front):
+        last = f"f0({variable},{last})"
+    return last
+
+
+def main():
+    if len(sys.argv) != 2:
+        sys.exit(__doc__)
+    lattice = block(2, [(2, min), (2, max)])
+    variables = [f"x{number}" for number in range(8)]
+    identity = f"{nested(variables)} = {nested(variables[::-1])}"
+    workloads = [
+        ("free lattice L 4", lattice, "free A 4 count", "closed 166"),
+        ("free group of exponent 2 on 8", integers(2), "free A 8 count", "closed 256"),
+        ("subgroup of the integers by 1,000", integers(1000), "sub A [7]", "{0 1 2"),
+        ("ones of the integers by 1,000", integers(1000), "ones A", "ones 1000"),
+        ("map of the integers by 1,000", integers(1000), "hom A A [1] [3]", "map 1000"),
+        ("identity in 8 variables, size 8", integers(8), f"holds A {identity}", "holds"),
+        ("identity in 8 variables, size 9", integers(9), f"holds A {identity}", "holds"),
+        ("commutator in the group A4", even_permutations(4), f"comm A {full(12)} {full(12)}", "|0 "),
+        ("derived series of the group A4", even_permutations(4), "series A derived", "series 3"),
+        ("commutator in the ring of 8", ring(8), f"comm A {full(8)} {full(8)}", full(8)),
+        ("product of 40 by 25", integers(25).replace("algebra A", "algebra B", 1) + integers(40), "make C product A B", "algebra C size 1000"),
+    ]
+    for name, blocks, command, known in workloads:
+        words = [sys.argv[1], "--workers", "1"]
+        out, seconds, _ = measured(words, f"{blocks}{command}\n".encode())
+        verdict = "as known" if out.startswith(known.encode()) else "NOT so"
+        print(f"{name:34} {known:20} {seconds:8.2f} s  {verdict}")
+
+
+if __name__ == "__main__":
+    main()

@@ -1,0 +1,5 @@
+pub mod CommutatorLaws
+pub mod GrowthLaws
+pub mod SeriesLaws
+pub mod MemberLaws
+pub mod ExistenceLaws

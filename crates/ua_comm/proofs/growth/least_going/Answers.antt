@@ -1,0 +1,12 @@
+use Rattle.std.proofs.Common.{sym, ap, ◌∙◌, subst}
+use Rattle.ua_table.specs.Listings.{vectors_of}
+use Rattle.ua_part.specs.Partitions.{identity_on}
+use Rattle.ua_comm.specs.Growths.{IsGrowing}
+use Rattle.ua_comm.proofs.GrowthLaws.{growing_none}
+use Rattle.ua_comm.proofs.growth.least_going.Goals as goal
+
+pub grow-init : goal.grow-init
+grow-init c =
+    let a = c.args.a.now in
+    subst (IsGrowing a (vectors_of c.args.list.now)) (sym (c.in_ok-delta.ensures ∙ ap identity_on c.size.ensures.size))
+    (growing_none a (vectors_of c.args.list.now) c.size.ensures.algebra.algebra)

@@ -1,0 +1,4 @@
+pub mod Commutators
+pub mod Growths
+pub mod Series
+pub mod Permitted

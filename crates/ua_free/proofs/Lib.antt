@@ -1,0 +1,4 @@
+pub mod OrderLaws
+pub mod WalkLaws
+pub mod VariableLaws
+pub mod MemberLaws

@@ -1,0 +1,337 @@
+-- The parts of commands in the forms that are built. A further form is a further case here.
+use Rattle.std.proofs.Common.{◌≡◌, ℕ, ◌<◌, true, false, Some, Option, List, [], ◌∷◌, ◌++◌, length, map, codes, refl, sym, ap, ◌∙◌, subst, append_assoc, arith}
+use Rattle.std.specs.Prelude.{Contains}
+use Rattle.std.specs.List.{AllByRecursion, flat_map}
+use Rattle.std.proofs.lemmas.Bool.{false≢true}
+use Rattle.std.proofs.lemmas.List.{append-nil}
+use Rattle.ua_table.specs.declared.limits.TheConstants.{NESTING}
+use Rattle.ua_table.specs.Names.{is_name}
+use Rattle.ua_text.specs.declared.symbols.Role.TheVariants as roles
+use Rattle.ua_text.specs.declared.tokens.Place.{Place}
+use Rattle.ua_text.specs.Words.{among}
+use Rattle.ua_text.specs.Pieces.{Placed}
+use Rattle.ua_text.specs.Signs.{Wanted, sign, AreSpelled, Front}
+use Rattle.ua_text.proofs.WordLemmas.{contains_among}
+use Rattle.ua_text.proofs.SpelledLemmas.{spelled_left, spelled_right}
+use Rattle.ua_term.specs.Phrases.{Phrase, IsNested}
+use Rattle.ua_term.specs.Terms.{term}
+use Rattle.ua_term.proofs.TermReading.{spelled_alone}
+use Rattle.ua_script.specs.declared.script.Command.{Command}
+use Rattle.ua_script.specs.declared.script.Word.{Word}
+use Rattle.ua_script.specs.declared.script.Number.{Number}
+use Rattle.ua_script.specs.declared.script.Entry.{Entry}
+use Rattle.ua_script.specs.declared.script.Entry.TheVariants as entries
+use Rattle.ua_script.specs.declared.script.Items.{Items}
+use Rattle.ua_script.specs.declared.script.Mode.{Mode}
+use Rattle.ua_script.specs.declared.script.Mode.TheVariants as modes
+use Rattle.ua_script.specs.declared.script.PartText.{PartText}
+use Rattle.ua_script.specs.declared.script.SeriesWord.{SeriesWord}
+use Rattle.ua_script.specs.declared.script.MakeForm.{MakeForm}
+use Rattle.ua_script.specs.declared.script.MakeForm.TheVariants.{Product, Quotient, Sub, Reduct}
+use Rattle.ua_script.specs.declared.script.Provable.TheVariants as provables
+use Rattle.ua_script.specs.declared.script.Command.TheVariants as commands
+use Rattle.ua_script.specs.declared.script.Item.TheVariants as items
+use Rattle.ua_script.specs.Grammar.{word, further, number, entry, vector, part, part_blocks, series_word, IsPart, names, mode, construction, IsConstruction, forms_built}
+use Rattle.ua_script.specs.declared.commands.FirstWord.{FirstWord}
+use Rattle.ua_script.specs.declared.commands.FirstWord.TheVariants as firsts
+use Rattle.ua_script.specs.Reading.{IsShort, IsShortEntry, IsShortVector, IsShortBlock, IsNamed, IsShortConstruction, IsReadableItem, first_text, first_words, found_first}
+use Rattle.ua_script.proofs.ReadLemmas.{close_of}
+use Rattle.ua_script.proofs.Beginnings.{begun}
+
+-- the parts of a `close`, and the tokens behind its word
+pub record IsClose (c : Command) (rest : List Wanted) : Type 0 where
+  pub algebra : Word
+  pub width : Number
+  pub gens : List Items
+  pub asked : Mode
+  pub is : c ≡ close_of algebra width gens asked
+  pub named : is_name algebra.name ≡ true
+  pub short : IsShort width
+  pub each : AllByRecursion IsShortVector gens
+  pub behind : rest ≡ word algebra ∷ number roles.Amount width ∷ (flat_map vector gens ++ mode asked)
+
+-- the parts of a `member`, and the tokens behind its word
+pub record IsMember (c : Command) (rest : List Wanted) : Type 0 where
+  pub algebra : Word
+  pub width : Number
+  pub gens : List Items
+  pub target : Items
+  pub is : c ≡ commands.Ask (provables.Member algebra width gens target) modes.Plain false
+  pub named : is_name algebra.name ≡ true
+  pub short : IsShort width
+  pub each : AllByRecursion IsShortVector gens
+  pub last : IsShortVector target
+  pub behind : rest ≡ word algebra ∷ number roles.Amount width ∷ (flat_map vector gens ++ (sign roles.Exact (codes "=") ∷ vector target))
+
+-- the parts of an `eval`, and the tokens behind its word
+pub record IsEval (c : Command) (rest : List Wanted) : Type 0 where
+  pub algebra : Word
+  pub written : Phrase
+  pub args : Items
+  pub is : c ≡ commands.Eval algebra written args
+  pub named : is_name algebra.name ≡ true
+  pub nested : IsNested NESTING written
+  pub spelled : AreSpelled [] (term written)
+  pub short : IsShortVector args
+  pub behind : rest ≡ word algebra ∷ (term written ++ vector args)
+
+-- the parts of a `cg`, and the tokens behind its word
+pub record IsCg (c : Command) (rest : List Wanted) : Type 0 where
+  pub algebra : Word
+  pub pairs : List Items
+  pub is : c ≡ commands.Cg algebra pairs
+  pub named : is_name algebra.name ≡ true
+  pub each : AllByRecursion IsShortVector pairs
+  pub behind : rest ≡ word algebra ∷ flat_map vector pairs
+
+-- the parts of a `con`, and the tokens behind its word
+pub record IsCon (c : Command) (rest : List Wanted) : Type 0 where
+  pub algebra : Word
+  pub is : c ≡ commands.Con algebra
+  pub named : is_name algebra.name ≡ true
+  pub behind : rest ≡ word algebra ∷ []
+
+-- the parts of a `free`, and the tokens behind its word
+pub record IsFree (c : Command) (rest : List Wanted) : Type 0 where
+  pub algebra : Word
+  pub count : Number
+  pub asked : Mode
+  pub is : c ≡ commands.Free algebra count asked
+  pub named : is_name algebra.name ≡ true
+  pub short : IsShort count
+  pub behind : rest ≡ word algebra ∷ number roles.Amount count ∷ mode asked
+
+-- the parts of a `sub`, and the tokens behind its word
+pub record IsSub (c : Command) (rest : List Wanted) : Type 0 where
+  pub algebra : Word
+  pub set : Items
+  pub is : c ≡ commands.Sub algebra set
+  pub named : is_name algebra.name ≡ true
+  pub short : IsShortVector set
+  pub behind : rest ≡ word algebra ∷ vector set
+
+-- the parts of an `ones`, and the tokens behind its word
+pub record IsOnes (c : Command) (rest : List Wanted) : Type 0 where
+  pub algebra : Word
+  pub is : c ≡ commands.Ones algebra
+  pub named : is_name algebra.name ≡ true
+  pub behind : rest ≡ word algebra ∷ []
+
+-- the parts of a `holds`, and the tokens behind its word
+pub record IsHolds (c : Command) (rest : List Wanted) : Type 0 where
+  pub algebra : Word
+  pub left : Phrase
+  pub right : Phrase
+  pub is : c ≡ commands.Holds algebra left right
+  pub named : is_name algebra.name ≡ true
+  pub nested_left : IsNested NESTING left
+  pub spelled_left : AreSpelled [] (term left)
+  pub nested_right : IsNested NESTING right
+  pub spelled_right : AreSpelled [] (term right)
+  pub behind : rest ≡ word algebra ∷ (term left ++ (sign roles.Exact (codes "=") ∷ term right))
+
+-- the parts of a `hom`, and the tokens behind its word
+pub record IsHom (c : Command) (rest : List Wanted) : Type 0 where
+  pub first : Word
+  pub second : Word
+  pub gens : Items
+  pub images : Items
+  pub is : c ≡ commands.Hom first second gens images
+  pub named : is_name first.name ≡ true
+  pub named_second : is_name second.name ≡ true
+  pub short : IsShortVector gens
+  pub short_images : IsShortVector images
+  pub behind : rest ≡ word first ∷ word second ∷ (vector gens ++ vector images)
+
+-- the parts of a `make`, and the tokens behind its word
+pub record IsMake (c : Command) (rest : List Wanted) : Type 0 where
+  pub place : Place
+  pub name : Word
+  pub what : MakeForm
+  pub is : c ≡ commands.Make place name what
+  pub named : IsNamed name
+  pub short : IsShortConstruction what
+  pub behind : rest ≡ word name ∷ construction what
+
+-- the parts of a `central`, and the tokens behind its word
+pub record IsCentral (c : Command) (rest : List Wanted) : Type 0 where
+  pub algebra : Word
+  pub alpha : PartText
+  pub beta : PartText
+  pub delta : PartText
+  pub is : c ≡ commands.Central algebra alpha beta delta
+  pub named : is_name algebra.name ≡ true
+  pub short_alpha : AllByRecursion IsShortBlock alpha.blocks
+  pub short_beta : AllByRecursion IsShortBlock beta.blocks
+  pub short_delta : AllByRecursion IsShortBlock delta.blocks
+  pub behind : rest ≡ word algebra ∷ ((part alpha ++ part beta) ++ part delta)
+
+-- the parts of a `comm`, and the tokens behind its word
+pub record IsComm (c : Command) (rest : List Wanted) : Type 0 where
+  pub algebra : Word
+  pub alpha : PartText
+  pub beta : PartText
+  pub is : c ≡ commands.Comm algebra alpha beta
+  pub named : is_name algebra.name ≡ true
+  pub short_alpha : AllByRecursion IsShortBlock alpha.blocks
+  pub short_beta : AllByRecursion IsShortBlock beta.blocks
+  pub behind : rest ≡ word algebra ∷ (part alpha ++ part beta)
+
+-- the parts of a `series`, and the tokens behind its word
+pub record IsSeries (c : Command) (rest : List Wanted) : Type 0 where
+  pub algebra : Word
+  pub kind : SeriesWord
+  pub is : c ≡ commands.Series algebra kind
+  pub named : is_name algebra.name ≡ true
+  pub behind : rest ≡ word algebra ∷ sign roles.Exact (series_word kind) ∷ []
+
+-- the parts of a command that begins with a word
+abbrev pub IsForm : FirstWord → Command → List Wanted → Type 0
+IsForm firsts.Close c rest = IsClose c rest
+IsForm firsts.Member c rest = IsMember c rest
+IsForm firsts.Eval c rest = IsEval c rest
+IsForm firsts.Cg c rest = IsCg c rest
+IsForm firsts.Con c rest = IsCon c rest
+IsForm firsts.Free c rest = IsFree c rest
+IsForm firsts.Sub c rest = IsSub c rest
+IsForm firsts.Ones c rest = IsOnes c rest
+IsForm firsts.Holds c rest = IsHolds c rest
+IsForm firsts.Hom c rest = IsHom c rest
+IsForm firsts.Central c rest = IsCentral c rest
+IsForm firsts.Comm c rest = IsComm c rest
+IsForm firsts.Series c rest = IsSeries c rest
+IsForm firsts.Make c rest = IsMake c rest
+
+short_entries : (es : List Entry) → AreSpelled forms_built (map entry es) → AllByRecursion IsShortEntry es
+short_entries [] h = tt
+short_entries (entries.Number n ∷ es) h = (h.0, short_entries es h.1)
+short_entries (entries.Word w ∷ es) h = (h.0, short_entries es h.1)
+
+short_vector : (v : Items) → AreSpelled forms_built (vector v) → IsShortVector v
+short_vector v h = short_entries v.values (spelled_left forms_built (map entry v.values) (sign roles.Closes (codes "]") ∷ []) h.1)
+
+short_vectors : (vs : List Items) → AreSpelled forms_built (flat_map vector vs) → AllByRecursion IsShortVector vs
+short_vectors [] h = tt
+short_vectors (v ∷ vs) h = (short_vector v (spelled_left forms_built (vector v) (flat_map vector vs) h), short_vectors vs (spelled_right forms_built (vector v) (flat_map vector vs) h))
+
+short_names : (ns : List Word) → AreSpelled forms_built (map further ns) → AllByRecursion IsNamed ns
+short_names [] h = tt
+short_names (n ∷ ns) h = (h.0, short_names ns h.1)
+
+short_listed : (ns : List Word) → AreSpelled forms_built (names ns) → AllByRecursion IsNamed ns
+short_listed [] h = tt
+short_listed (n ∷ ns) h = (h.0, short_names ns h.1)
+
+short_numbers : (ns : List Number) → AreSpelled forms_built (map (number roles.Inner) ns) → AllByRecursion IsShort ns
+short_numbers [] h = tt
+short_numbers (n ∷ ns) h = (h.0, short_numbers ns h.1)
+
+short_further : (bs : List (List Number)) → AllByRecursion (λ (b : List Number). 0 < length b) bs → AreSpelled forms_built (part_blocks roles.More bs) → AllByRecursion IsShortBlock bs
+short_further [] some h = tt
+short_further ([] ∷ bs) some h = absurd (let no = some.0 in omega (arith, no))
+short_further ((n ∷ ns) ∷ bs) some h =
+    let bar = sign roles.Bar (codes "|") ∷ [] in
+    let inner = spelled_left forms_built (map (number roles.Inner) ns ++ bar) (part_blocks roles.More bs) h.1 in
+    ((some.0, (h.0, short_numbers ns (spelled_left forms_built (map (number roles.Inner) ns) bar inner))), short_further bs some.1 (spelled_right forms_built (map (number roles.Inner) ns ++ bar) (part_blocks roles.More bs) h.1))
+
+short_blocks : (bs : List (List Number)) → AllByRecursion (λ (b : List Number). 0 < length b) bs → AreSpelled forms_built (part_blocks roles.Inner bs) → AllByRecursion IsShortBlock bs
+short_blocks [] some h = tt
+short_blocks ([] ∷ bs) some h = absurd (let no = some.0 in omega (arith, no))
+short_blocks ((n ∷ ns) ∷ bs) some h =
+    let bar = sign roles.Bar (codes "|") ∷ [] in
+    let inner = spelled_left forms_built (map (number roles.Inner) ns ++ bar) (part_blocks roles.More bs) h.1 in
+    ((some.0, (h.0, short_numbers ns (spelled_left forms_built (map (number roles.Inner) ns) bar inner))), short_further bs some.1 (spelled_right forms_built (map (number roles.Inner) ns ++ bar) (part_blocks roles.More bs) h.1))
+
+short_part : (p : PartText) → IsPart p → AreSpelled forms_built (part p) → AllByRecursion IsShortBlock p.blocks
+short_part p i h = short_blocks p.blocks i.each h.1
+
+short_construction : (v : ℕ) (m : MakeForm) → IsConstruction v m → AreSpelled forms_built (construction m) → IsShortConstruction m
+short_construction v (Product a b) i h = (h.1.0, h.1.1.0)
+short_construction v (Quotient a p) i h = (h.1.0, short_part p i h.1.1)
+short_construction v (Sub a x) i h = (h.1.0, short_vector x h.1.1)
+short_construction v (Reduct a ops) i h = (h.1.0, short_listed ops (spelled_left forms_built (names ops) (sign roles.Closes (codes ")") ∷ []) h.1.1.1))
+
+not_built : {P : Type 0} (t : List ℕ) → among t forms_built ≡ false → Contains forms_built t → P
+not_built t e h = absurd (false≢true (sym e ∙ contains_among forms_built t h))
+
+-- the word and the parts of a command
+pub record Formed (c : Command) : Type 0 where
+  pub first : FirstWord
+  pub named : (begun c).word ≡ first_text first
+  pub found : found_first (begun c).word first_words ≡ Some first
+  pub parts : IsForm first c (begun c).rest
+
+pub form_of : {v : ℕ} (c : Command) → IsReadableItem v (items.Command c) → Formed c
+form_of (commands.Ask (provables.Close a w vs) m false) r =
+    let s = spelled_left forms_built (sign roles.Begins (codes "close") ∷ word a ∷ number roles.Amount w ∷ flat_map vector vs) (mode m) r.spelled in
+    record { first = firsts.Close; named = refl; found = refl; parts = record { algebra = a; width = w; gens = vs; asked = m; is = refl; named = s.1.0; short = s.1.1.0; each = short_vectors vs s.1.1.1; behind = refl } }
+form_of (commands.Ask (provables.Member a w vs t) modes.Plain false) r =
+    let s = spelled_left forms_built (sign roles.Begins (codes "member") ∷ word a ∷ number roles.Amount w ∷ (flat_map vector vs ++ (sign roles.Exact (codes "=") ∷ vector t))) [] r.spelled in
+    let q = spelled_right forms_built (flat_map vector vs) (sign roles.Exact (codes "=") ∷ vector t) s.1.1.1 in
+    record { first = firsts.Member; named = refl; found = refl; parts = record { algebra = a; width = w; gens = vs; target = t; is = refl; named = s.1.0; short = s.1.1.0; each = short_vectors vs (spelled_left forms_built (flat_map vector vs) (sign roles.Exact (codes "=") ∷ vector t) s.1.1.1); last = short_vector t q.1; behind = append-nil (word a ∷ number roles.Amount w ∷ (flat_map vector vs ++ (sign roles.Exact (codes "=") ∷ vector t))) } }
+form_of (commands.Ask (provables.Member a w vs t) modes.Least false) r = absurd r.formed.0
+form_of (commands.Ask (provables.Member a w vs t) modes.Count false) r = absurd r.formed.0
+form_of (commands.Eval a t args) r =
+    let s = r.spelled.1.1 in
+    record { first = firsts.Eval; named = refl; found = refl; parts = record { algebra = a; written = t; args = args; is = refl; named = r.spelled.1.0; nested = r.formed.0; spelled = spelled_alone forms_built t (spelled_left forms_built (term t) (vector args) s); short = short_vector args (spelled_right forms_built (term t) (vector args) s); behind = refl } }
+form_of (commands.Cg a pairs) r = record { first = firsts.Cg; named = refl; found = refl; parts = record { algebra = a; pairs = pairs; is = refl; named = r.spelled.1.0; each = short_vectors pairs r.spelled.1.1; behind = refl } }
+form_of (commands.Con a) r = record { first = firsts.Con; named = refl; found = refl; parts = record { algebra = a; is = refl; named = r.spelled.1.0; behind = refl } }
+form_of (commands.Free a k m) r = record { first = firsts.Free; named = refl; found = refl; parts = record { algebra = a; count = k; asked = m; is = refl; named = r.spelled.1.0; short = r.spelled.1.1.0; behind = refl } }
+form_of (commands.Sub a set) r = record { first = firsts.Sub; named = refl; found = refl; parts = record { algebra = a; set = set; is = refl; named = r.spelled.1.0; short = short_vector set r.spelled.1.1; behind = refl } }
+form_of (commands.Ones a) r = record { first = firsts.Ones; named = refl; found = refl; parts = record { algebra = a; is = refl; named = r.spelled.1.0; behind = refl } }
+form_of (commands.Holds a left right) r =
+    let s = r.spelled.1.1 in
+    let q = spelled_right forms_built (term left) (sign roles.Exact (codes "=") ∷ term right) s in
+    record { first = firsts.Holds; named = refl; found = refl; parts = record { algebra = a; left = left; right = right; is = refl; named = r.spelled.1.0; nested_left = r.formed.0; spelled_left = spelled_alone forms_built left (spelled_left forms_built (term left) (sign roles.Exact (codes "=") ∷ term right) s); nested_right = r.formed.1; spelled_right = spelled_alone forms_built right q.1; behind = refl } }
+form_of (commands.Hom a b gens images) r =
+    let s = r.spelled.1.1.1 in
+    record { first = firsts.Hom; named = refl; found = refl; parts = record { first = a; second = b; gens = gens; images = images; is = refl; named = r.spelled.1.0; named_second = r.spelled.1.1.0; short = short_vector gens (spelled_left forms_built (vector gens) (vector images) s); short_images = short_vector images (spelled_right forms_built (vector gens) (vector images) s); behind = refl } }
+form_of (commands.Central a alpha beta delta) r =
+    let s = r.spelled.1.1 in
+    let t = spelled_left forms_built (part alpha ++ part beta) (part delta) s in
+    record { first = firsts.Central; named = refl; found = refl; parts = record { algebra = a; alpha = alpha; beta = beta; delta = delta; is = refl; named = r.spelled.1.0; short_alpha = short_part alpha r.formed.0 (spelled_left forms_built (part alpha) (part beta) t); short_beta = short_part beta r.formed.1 (spelled_right forms_built (part alpha) (part beta) t); short_delta = short_part delta r.formed.2 (spelled_right forms_built (part alpha ++ part beta) (part delta) s); behind = refl } }
+form_of (commands.Comm a alpha beta) r =
+    let s = r.spelled.1.1 in
+    record { first = firsts.Comm; named = refl; found = refl; parts = record { algebra = a; alpha = alpha; beta = beta; is = refl; named = r.spelled.1.0; short_alpha = short_part alpha r.formed.0 (spelled_left forms_built (part alpha) (part beta) s); short_beta = short_part beta r.formed.1 (spelled_right forms_built (part alpha) (part beta) s); behind = refl } }
+form_of (commands.Series a kind) r = record { first = firsts.Series; named = refl; found = refl; parts = record { algebra = a; kind = kind; is = refl; named = r.spelled.1.0; behind = refl } }
+form_of {v} (commands.Make place name what) r = record { first = firsts.Make; named = refl; found = refl; parts = record { place = place; name = name; what = what; is = refl; named = r.spelled.1.0; short = short_construction v what r.formed r.spelled.1.1; behind = refl } }
+form_of (commands.Ask (provables.Cond a n) m false) r = not_built (codes "cond") refl r.spelled.0
+form_of (commands.Ask (provables.Nu a k) m false) r = not_built (codes "nu") refl r.spelled.0
+form_of (commands.Ask (provables.Jonsson a) m false) r = not_built (codes "jonsson") refl r.spelled.0
+form_of (commands.Ask (provables.Hm a) m false) r = not_built (codes "hm") refl r.spelled.0
+form_of (commands.Ask what m true) r = not_built (codes "cert") refl r.spelled.0
+form_of (commands.Types a) r = not_built (codes "types") refl r.spelled.0
+form_of (commands.Check a json) r = not_built (codes "check") refl r.spelled.0
+
+pub close_front : (c : Command) (rest ws : List Wanted) (ts : List Placed) (q : IsClose c rest) → Front ts (rest ++ ws) [] → Front ts (word q.algebra ∷ number roles.Amount q.width ∷ (flat_map vector q.gens ++ (mode q.asked ++ ws))) []
+close_front c rest ws ts q f = subst (λ z. Front ts (word q.algebra ∷ number roles.Amount q.width ∷ z) []) (append_assoc (flat_map vector q.gens) (mode q.asked) ws) (subst (λ z. Front ts (z ++ ws) []) q.behind f)
+
+pub member_front : (c : Command) (rest ws : List Wanted) (ts : List Placed) (q : IsMember c rest) → Front ts (rest ++ ws) [] → Front ts (word q.algebra ∷ number roles.Amount q.width ∷ (flat_map vector q.gens ++ (sign roles.Exact (codes "=") ∷ (vector q.target ++ ws)))) []
+member_front c rest ws ts q f = subst (λ z. Front ts (word q.algebra ∷ number roles.Amount q.width ∷ z) []) (append_assoc (flat_map vector q.gens) (sign roles.Exact (codes "=") ∷ vector q.target) ws) (subst (λ z. Front ts (z ++ ws) []) q.behind f)
+
+pub eval_front : (c : Command) (rest ws : List Wanted) (ts : List Placed) (q : IsEval c rest) → Front ts (rest ++ ws) [] → Front ts (word q.algebra ∷ (term q.written ++ (vector q.args ++ ws))) []
+eval_front c rest ws ts q f = subst (λ z. Front ts (word q.algebra ∷ z) []) (append_assoc (term q.written) (vector q.args) ws) (subst (λ z. Front ts (z ++ ws) []) q.behind f)
+
+pub holds_front : (c : Command) (rest ws : List Wanted) (ts : List Placed) (q : IsHolds c rest) → Front ts (rest ++ ws) [] → Front ts (word q.algebra ∷ (term q.left ++ (sign roles.Exact (codes "=") ∷ (term q.right ++ ws)))) []
+holds_front c rest ws ts q f = subst (λ z. Front ts (word q.algebra ∷ z) []) (append_assoc (term q.left) (sign roles.Exact (codes "=") ∷ term q.right) ws) (subst (λ z. Front ts (z ++ ws) []) q.behind f)
+
+pub hom_front : (c : Command) (rest ws : List Wanted) (ts : List Placed) (q : IsHom c rest) → Front ts (rest ++ ws) [] → Front ts (word q.first ∷ word q.second ∷ (vector q.gens ++ (vector q.images ++ ws))) []
+hom_front c rest ws ts q f = subst (λ z. Front ts (word q.first ∷ word q.second ∷ z) []) (append_assoc (vector q.gens) (vector q.images) ws) (subst (λ z. Front ts (z ++ ws) []) q.behind f)
+
+pub central_front : (c : Command) (rest ws : List Wanted) (ts : List Placed) (q : IsCentral c rest) → Front ts (rest ++ ws) [] → Front ts (word q.algebra ∷ (part q.alpha ++ (part q.beta ++ (part q.delta ++ ws)))) []
+central_front c rest ws ts q f =
+    subst (λ z. Front ts (word q.algebra ∷ z) []) (append_assoc (part q.alpha ++ part q.beta) (part q.delta) ws ∙ append_assoc (part q.alpha) (part q.beta) (part q.delta ++ ws)) (subst (λ z. Front ts (z ++ ws) []) q.behind f)
+
+pub comm_front : (c : Command) (rest ws : List Wanted) (ts : List Placed) (q : IsComm c rest) → Front ts (rest ++ ws) [] → Front ts (word q.algebra ∷ (part q.alpha ++ (part q.beta ++ ws))) []
+comm_front c rest ws ts q f = subst (λ z. Front ts (word q.algebra ∷ z) []) (append_assoc (part q.alpha) (part q.beta) ws) (subst (λ z. Front ts (z ++ ws) []) q.behind f)
+
+-- the other commands are read as they stand there
+pub plain_front : (rest text ws : List Wanted) (ts : List Placed) → rest ≡ text → Front ts (rest ++ ws) [] → Front ts (text ++ ws) []
+plain_front rest text ws ts e f = subst (λ z. Front ts (z ++ ws) []) e f
+
+-- the parts of the command whose word was found
+pub form_found : {v : ℕ} (c : Command) (r : IsReadableItem v (items.Command c)) (text : List ℕ) (found : Option FirstWord) (first : FirstWord) → text ≡ (begun c).word → found ≡ found_first text first_words → found ≡ Some first → IsForm first c (begun c).rest
+form_found c r text found first t e s =
+    let m = form_of c r in
+    let is : m.first ≡ first = let h = sym m.found ∙ sym (ap (λ z. found_first z first_words) t) ∙ sym e ∙ s in cc in
+    subst (λ z. IsForm z c (begun c).rest) is m.parts

@@ -1,0 +1,28 @@
+use Rattle.std.proofs.Common.{rules, ◌≡◌, ◌∷◌, ◌++◌, [], refl}
+use Rattle.ua_script.specs.Grammar.{part}
+use Rattle.ua_script.proofs.congruences.comm.Goals as goal
+
+pub returns-in_err-algebra-clause-only : goal.returns-in_err-algebra-clause-only
+returns-in_err-algebra-clause-only c = λ a p q ws named sp sq n f.
+    let e = c.in_err-algebra.ensures.only a (part p ++ (part q ++ ws)) named f in search rules
+
+pub returns-in_err-alpha-clause-only : goal.returns-in_err-alpha-clause-only
+returns-in_err-alpha-clause-only c = λ a p q ws named sp sq n f.
+    let s0 = c.in_ok-algebra.ensures.only a (part p ++ (part q ++ ws)) named f in
+    let e = c.in_err-alpha.ensures.only p (part q ++ ws) sp refl s0.1 in search rules
+
+pub returns-in_err-beta-clause-only : goal.returns-in_err-beta-clause-only
+returns-in_err-beta-clause-only c = λ a p q ws named sp sq n f.
+    let s0 = c.in_ok-algebra.ensures.only a (part p ++ (part q ++ ws)) named f in
+    let s1 = c.in_ok-alpha.ensures.only p (part q ++ ws) sp refl s0.1 in
+    let e = c.in_err-beta.ensures.only q ws sq n s1.1 in search rules
+
+pub returns-clause-only : goal.returns-clause-only
+returns-clause-only c = λ a p q ws named sp sq n f.
+    let s0 = c.in_ok-algebra.ensures.only a (part p ++ (part q ++ ws)) named f in
+    let s1 = c.in_ok-alpha.ensures.only p (part q ++ ws) sp refl s0.1 in
+    let s2 = c.in_ok-beta.ensures.only q ws sq n s1.1 in
+    let e0 = s0.0 in
+    let e1 = s1.0 in
+    let e2 = s2.0 in
+    (cc, s2.1)

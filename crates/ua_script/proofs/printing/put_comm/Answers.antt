@@ -1,0 +1,13 @@
+use Rattle.std.proofs.Common.{◌∷◌, ◌++◌, [], codes}
+use Rattle.ua_text.specs.declared.symbols.Role.TheVariants as roles
+use Rattle.ua_text.specs.Signs.{sign}
+use Rattle.ua_text.proofs.Prints.{shows_both, on_ok}
+use Rattle.ua_script.specs.Grammar.{word, part}
+use Rattle.ua_script.proofs.printing.put_comm.Goals as goal
+
+pub returns : goal.returns
+returns c =
+    let p = c.args.printer.now in
+    let named = shows_both p c.put.new.self c.put_word.new.printer (sign roles.Begins (codes "comm") ∷ []) (word c.args.algebra.now ∷ []) c.in_ok-put.ensures c.in_ok-put_word.ensures in
+    on_ok c.put_part-2.result c.put_part-2.ensures (λ t. shows_both p c.put_word.new.printer c.put_part-2.new.printer (sign roles.Begins (codes "comm") ∷ word c.args.algebra.now ∷ []) (part c.args.alpha.now ++ part c.args.beta.now) named
+    (shows_both c.put_word.new.printer c.put_part.new.printer c.put_part-2.new.printer (part c.args.alpha.now) (part c.args.beta.now) c.in_ok-put_part.ensures t))

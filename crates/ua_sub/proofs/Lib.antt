@@ -1,0 +1,4 @@
+pub mod MemberLaws
+pub mod HomLaws
+pub mod FlawLaws
+pub mod ExtensionLaws

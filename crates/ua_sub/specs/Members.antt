@@ -1,0 +1,25 @@
+-- The elements that elements of an algebra generate.
+use Rattle.std.specs.Prelude.{ℕ, List, [], ◌∷◌, map, Contains, ◌↔◌, Vec}
+use Rattle.std.specs.declared.alloc.Global.{Global}
+use Rattle.std.specs.List.{AllZip}
+use Rattle.std.specs.List.Sorted.{IsStrictlyIncreasing}
+use Rattle.ua_table.specs.Algebras.{FiniteAlgebra, Vector}
+use Rattle.ua_table.specs.Counting.{numbers_below}
+use Rattle.ua_table.specs.Generated.{Sg}
+
+-- the vectors of one coordinate with these entries
+abbrev pub singles : List ℕ → List Vector
+singles xs = map (λ x. x ∷ []) xs
+
+-- the elements that these generate, ascending
+pub record AreMembers (a : FiniteAlgebra) (gens members : List ℕ) : Type 0 where
+  pub ascending : IsStrictlyIncreasing members
+  pub exact : (x : ℕ) → Contains members x ↔ Sg (a ∷ []) (singles gens) (x ∷ [])
+
+-- what the lists hold
+abbrev pub contents : List (Vec ℕ Global) → List (List ℕ)
+contents lists = map (λ (v : Vec ℕ Global). v.items) lists
+
+-- what each element alone generates, in order
+abbrev pub AreOnes : FiniteAlgebra → List (List ℕ) → Type 0
+AreOnes a lists = AllZip (λ x members. AreMembers a (x ∷ []) members) (numbers_below a.size) lists

@@ -1,0 +1,12 @@
+//! Subalgebras, and homomorphisms.
+#![tactic(auto)]
+
+pub mod calls;
+mod flaws;
+mod homs;
+pub mod laws;
+mod members;
+
+pub use flaws::{HomFlaw, is_hom};
+pub use homs::{Hom, HomError};
+pub use members::{ones, sub};
