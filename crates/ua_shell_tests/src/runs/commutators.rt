@@ -17,10 +17,7 @@ fn centrality(rt: HostRuntime) -> Result<(), Fail> {
         rt.alloc(),
         COMMUTATORS,
         &[
-            (
-                "central Z4 |0 1 2 3| |0 1 2 3| |0|1|2|3|",
-                "central yes\n",
-            ),
+            ("central Z4 |0 1 2 3| |0 1 2 3| |0|1|2|3|", "central yes\n"),
             ("central L |0 1| |0 1| |0 1|", "central yes\n"),
             (
                 "central S |0 1 2|3 4 5| |0 1 2|5 4 3| |0|1|2|3|4|5|",
@@ -53,20 +50,14 @@ fn commutators_and_series(rt: HostRuntime) -> Result<(), Fail> {
         rt.alloc(),
         COMMUTATORS,
         &[
-            (
-                "comm S |0 1 2 3 4 5| |0 1 2 3 4 5|",
-                "|0 1 2|3 4 5|\n",
-            ),
+            ("comm S |0 1 2 3 4 5| |0 1 2 3 4 5|", "|0 1 2|3 4 5|\n"),
             ("comm Z4 |3 2 1 0| |0 1 2 3|", "|0|1|2|3|\n"),
             ("comm L |0 1| |0 1|", "|0 1|\n"),
             (
                 "series S derived",
                 "series 3\n|0 1 2 3 4 5|\n|0 1 2|3 4 5|\n|0|1|2|3|4|5|\n",
             ),
-            (
-                "series S lower",
-                "series 2\n|0 1 2 3 4 5|\n|0 1 2|3 4 5|\n",
-            ),
+            ("series S lower", "series 2\n|0 1 2 3 4 5|\n|0 1 2|3 4 5|\n"),
             ("series L derived", "series 1\n|0 1|\n"),
         ],
     )

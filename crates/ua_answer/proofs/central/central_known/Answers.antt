@@ -38,7 +38,7 @@ returns-in-Refused-3 g c =
     let three = subst (IsOperand k delta) c.in-Refused-3.is c.in_ok-part-3.ensures in
     of_congruence k alpha (λ p. OfCongruence k beta (λ q. OfCongruence k delta (CentralSays k b p q))) first c.in-Refused-3.reply.items one.0 one.1
     (of_congruence k beta (λ q. OfCongruence k delta (CentralSays k b first q)) second c.in-Refused-3.reply.items two.0 two.1
-      (of_refused k delta (CentralSays k b first second) c.in-Refused-3.reply.items three))
+    (of_refused k delta (CentralSays k b first second) c.in-Refused-3.reply.items three))
 
 pub returns : goal.returns
 returns g c =
@@ -58,6 +58,6 @@ returns g c =
     let permitted = subst (λ (a : FiniteAlgebra). MayBeCentral a first second third b.budget b.workers answer) c.algebra-algebra.ensures c.central-answer.ensures.permitted in
     IfOk-weaker c.central_reply.result _ _
     (λ v text. of_congruence k alpha (λ p. OfCongruence k beta (λ q. OfCongruence k delta (CentralSays k b p q))) first v.items one.0 one.1
-      (of_congruence k beta (λ q. OfCongruence k delta (CentralSays k b first q)) second v.items two.0 two.1
-        (of_congruence k delta (CentralSays k b first second) third v.items three.0 three.1 (record { answer = answer; permitted = permitted; told = text }))))
+    (of_congruence k beta (λ q. OfCongruence k delta (CentralSays k b first q)) second v.items two.0 two.1
+    (of_congruence k delta (CentralSays k b first second) third v.items three.0 three.1 (record { answer = answer; permitted = permitted; told = text }))))
     c.central_reply.ensures

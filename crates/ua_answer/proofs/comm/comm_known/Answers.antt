@@ -37,5 +37,5 @@ returns g c =
     let permitted = subst (λ (a : FiniteAlgebra). MayCommute a first second b.budget answer) c.algebra.ensures c.commutator-answer.ensures.permitted in
     IfOk-weaker c.comm_reply.result _ _
     (λ v text. of_congruence k alpha (λ p. OfCongruence k beta (CommSays k b p)) first v.items one.0 one.1
-      (of_congruence k beta (CommSays k b first) second v.items two.0 two.1 (record { answer = answer; permitted = permitted; told = text })))
+    (of_congruence k beta (CommSays k b first) second v.items two.0 two.1 (record { answer = answer; permitted = permitted; told = text })))
     c.comm_reply.ensures
