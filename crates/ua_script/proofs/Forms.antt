@@ -25,13 +25,14 @@ use Rattle.ua_script.specs.declared.script.Items.{Items}
 use Rattle.ua_script.specs.declared.script.Mode.{Mode}
 use Rattle.ua_script.specs.declared.script.Mode.TheVariants as modes
 use Rattle.ua_script.specs.declared.script.PartText.{PartText}
+use Rattle.ua_script.specs.declared.script.CondWord.{CondWord}
 use Rattle.ua_script.specs.declared.script.SeriesWord.{SeriesWord}
 use Rattle.ua_script.specs.declared.script.MakeForm.{MakeForm}
 use Rattle.ua_script.specs.declared.script.MakeForm.TheVariants.{Product, Quotient, Sub, Reduct}
 use Rattle.ua_script.specs.declared.script.Provable.TheVariants as provables
 use Rattle.ua_script.specs.declared.script.Command.TheVariants as commands
 use Rattle.ua_script.specs.declared.script.Item.TheVariants as items
-use Rattle.ua_script.specs.Grammar.{word, further, number, entry, vector, part, part_blocks, series_word, IsPart, names, mode, construction, IsConstruction, forms_built}
+use Rattle.ua_script.specs.Grammar.{word, further, number, entry, vector, part, part_blocks, cond_word, series_word, IsPart, names, mode, construction, IsConstruction, forms_built}
 use Rattle.ua_script.specs.declared.commands.FirstWord.{FirstWord}
 use Rattle.ua_script.specs.declared.commands.FirstWord.TheVariants as firsts
 use Rattle.ua_script.specs.Reading.{IsShort, IsShortEntry, IsShortVector, IsShortBlock, IsNamed, IsShortConstruction, IsReadableItem, first_text, first_words, found_first}
@@ -185,6 +186,51 @@ pub record IsSeries (c : Command) (rest : List Wanted) : Type 0 where
   pub named : is_name algebra.name ≡ true
   pub behind : rest ≡ word algebra ∷ sign roles.Exact (series_word kind) ∷ []
 
+-- the parts of a `types`, and the tokens behind its word
+pub record IsTypes (c : Command) (rest : List Wanted) : Type 0 where
+  pub algebra : Word
+  pub is : c ≡ commands.Types algebra
+  pub named : is_name algebra.name ≡ true
+  pub behind : rest ≡ word algebra ∷ []
+
+-- the parts of a `cond`, and the tokens behind its word
+pub record IsCond (c : Command) (rest : List Wanted) : Type 0 where
+  pub algebra : Word
+  pub condition : CondWord
+  pub is : c ≡ commands.Ask (provables.Cond algebra condition) modes.Plain false
+  pub named : is_name algebra.name ≡ true
+  pub behind : rest ≡ word algebra ∷ sign roles.Exact (cond_word condition) ∷ []
+
+-- the parts of a `nu`, and the tokens behind its word
+pub record IsNu (c : Command) (rest : List Wanted) : Type 0 where
+  pub algebra : Word
+  pub arity : Number
+  pub is : c ≡ commands.Ask (provables.Nu algebra arity) modes.Plain false
+  pub named : is_name algebra.name ≡ true
+  pub short : IsShort arity
+  pub behind : rest ≡ word algebra ∷ number roles.Amount arity ∷ []
+
+-- the parts of a `jonsson`, and the tokens behind its word
+pub record IsJonsson (c : Command) (rest : List Wanted) : Type 0 where
+  pub algebra : Word
+  pub is : c ≡ commands.Ask (provables.Jonsson algebra) modes.Plain false
+  pub named : is_name algebra.name ≡ true
+  pub behind : rest ≡ word algebra ∷ []
+
+-- the parts of an `hm`, and the tokens behind its word
+pub record IsHm (c : Command) (rest : List Wanted) : Type 0 where
+  pub algebra : Word
+  pub is : c ≡ commands.Ask (provables.Hm algebra) modes.Plain false
+  pub named : is_name algebra.name ≡ true
+  pub behind : rest ≡ word algebra ∷ []
+
+-- the parts of a `day`, and the tokens behind its word
+pub record IsDay (c : Command) (rest : List Wanted) : Type 0 where
+  pub algebra : Word
+  pub is : c ≡ commands.Day algebra
+  pub named : is_name algebra.name ≡ true
+  pub behind : rest ≡ word algebra ∷ []
+
 -- the parts of a command that begins with a word
 abbrev pub IsForm : FirstWord → Command → List Wanted → Type 0
 IsForm firsts.Close c rest = IsClose c rest
@@ -200,6 +246,12 @@ IsForm firsts.Hom c rest = IsHom c rest
 IsForm firsts.Central c rest = IsCentral c rest
 IsForm firsts.Comm c rest = IsComm c rest
 IsForm firsts.Series c rest = IsSeries c rest
+IsForm firsts.Types c rest = IsTypes c rest
+IsForm firsts.Cond c rest = IsCond c rest
+IsForm firsts.Nu c rest = IsNu c rest
+IsForm firsts.Jonsson c rest = IsJonsson c rest
+IsForm firsts.Hm c rest = IsHm c rest
+IsForm firsts.Day c rest = IsDay c rest
 IsForm firsts.Make c rest = IsMake c rest
 
 short_entries : (es : List Entry) → AreSpelled forms_built (map entry es) → AllByRecursion IsShortEntry es
@@ -295,12 +347,21 @@ form_of (commands.Comm a alpha beta) r =
     record { first = firsts.Comm; named = refl; found = refl; parts = record { algebra = a; alpha = alpha; beta = beta; is = refl; named = r.spelled.1.0; short_alpha = short_part alpha r.formed.0 (spelled_left forms_built (part alpha) (part beta) s); short_beta = short_part beta r.formed.1 (spelled_right forms_built (part alpha) (part beta) s); behind = refl } }
 form_of (commands.Series a kind) r = record { first = firsts.Series; named = refl; found = refl; parts = record { algebra = a; kind = kind; is = refl; named = r.spelled.1.0; behind = refl } }
 form_of {v} (commands.Make place name what) r = record { first = firsts.Make; named = refl; found = refl; parts = record { place = place; name = name; what = what; is = refl; named = r.spelled.1.0; short = short_construction v what r.formed r.spelled.1.1; behind = refl } }
-form_of (commands.Ask (provables.Cond a n) m false) r = not_built (codes "cond") refl r.spelled.0
-form_of (commands.Ask (provables.Nu a k) m false) r = not_built (codes "nu") refl r.spelled.0
-form_of (commands.Ask (provables.Jonsson a) m false) r = not_built (codes "jonsson") refl r.spelled.0
-form_of (commands.Ask (provables.Hm a) m false) r = not_built (codes "hm") refl r.spelled.0
+form_of (commands.Ask (provables.Cond a n) modes.Plain false) r = record { first = firsts.Cond; named = refl; found = refl; parts = record { algebra = a; condition = n; is = refl; named = r.spelled.1.0; behind = refl } }
+form_of (commands.Ask (provables.Nu a k) modes.Plain false) r = record { first = firsts.Nu; named = refl; found = refl; parts = record { algebra = a; arity = k; is = refl; named = r.spelled.1.0; short = r.spelled.1.1.0; behind = refl } }
+form_of (commands.Ask (provables.Jonsson a) modes.Plain false) r = record { first = firsts.Jonsson; named = refl; found = refl; parts = record { algebra = a; is = refl; named = r.spelled.1.0; behind = refl } }
+form_of (commands.Ask (provables.Hm a) modes.Plain false) r = record { first = firsts.Hm; named = refl; found = refl; parts = record { algebra = a; is = refl; named = r.spelled.1.0; behind = refl } }
+form_of (commands.Ask (provables.Cond a n) modes.Least false) r = absurd r.formed.0
+form_of (commands.Ask (provables.Cond a n) modes.Count false) r = absurd r.formed.0
+form_of (commands.Ask (provables.Nu a k) modes.Least false) r = absurd r.formed.0
+form_of (commands.Ask (provables.Nu a k) modes.Count false) r = absurd r.formed.0
+form_of (commands.Ask (provables.Jonsson a) modes.Least false) r = absurd r.formed.0
+form_of (commands.Ask (provables.Jonsson a) modes.Count false) r = absurd r.formed.0
+form_of (commands.Ask (provables.Hm a) modes.Least false) r = absurd r.formed.0
+form_of (commands.Ask (provables.Hm a) modes.Count false) r = absurd r.formed.0
+form_of (commands.Types a) r = record { first = firsts.Types; named = refl; found = refl; parts = record { algebra = a; is = refl; named = r.spelled.1.0; behind = refl } }
+form_of (commands.Day a) r = record { first = firsts.Day; named = refl; found = refl; parts = record { algebra = a; is = refl; named = r.spelled.1.0; behind = refl } }
 form_of (commands.Ask what m true) r = not_built (codes "cert") refl r.spelled.0
-form_of (commands.Types a) r = not_built (codes "types") refl r.spelled.0
 form_of (commands.Check a json) r = not_built (codes "check") refl r.spelled.0
 
 pub close_front : (c : Command) (rest ws : List Wanted) (ts : List Placed) (q : IsClose c rest) → Front ts (rest ++ ws) [] → Front ts (word q.algebra ∷ number roles.Amount q.width ∷ (flat_map vector q.gens ++ (mode q.asked ++ ws))) []

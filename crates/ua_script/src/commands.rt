@@ -21,7 +21,8 @@ ghost use Rattle.ua_term.specs.Terms.{term};
 ghost use Rattle.ua_script.specs.Grammar.{word, number, vector, mode, command};
 ghost use Rattle.ua_script.specs.Reading.{IsShort, IsShortVector, begins_item, IsReadableItem, first_words, found_first};
 
-use crate::congruences::{central, cg, comm, con, descent};
+use crate::conditions::{cond, day, hm, jonsson, nu};
+use crate::congruences::{central, cg, comm, con, descent, types};
 use crate::constructions::make;
 use crate::readers::{amount, mode, place_of, vector, vectors, word};
 use crate::script::{Command, Mode, Provable};
@@ -176,6 +177,12 @@ enum FirstWord {
     Central,
     Comm,
     Series,
+    Types,
+    Cond,
+    Nu,
+    Jonsson,
+    Hm,
+    Day,
     Make,
 }
 
@@ -201,6 +208,12 @@ impl FirstWord {
             FirstWord::Central => b"central",
             FirstWord::Comm => b"comm",
             FirstWord::Series => b"series",
+            FirstWord::Types => b"types",
+            FirstWord::Cond => b"cond",
+            FirstWord::Nu => b"nu",
+            FirstWord::Jonsson => b"jonsson",
+            FirstWord::Hm => b"hm",
+            FirstWord::Day => b"day",
             FirstWord::Make => b"make",
         }
     }
@@ -220,6 +233,12 @@ const FIRST_WORDS: &[FirstWord] = &[
     FirstWord::Central,
     FirstWord::Comm,
     FirstWord::Series,
+    FirstWord::Types,
+    FirstWord::Cond,
+    FirstWord::Nu,
+    FirstWord::Jonsson,
+    FirstWord::Hm,
+    FirstWord::Day,
     FirstWord::Make,
 ];
 
@@ -256,6 +275,12 @@ pub fn command(alloc: Global, tokens: &mut Tokens<'_>) -> Result<Command, Miss>
         Some(FirstWord::Central) => central(alloc, tokens),
         Some(FirstWord::Comm) => comm(alloc, tokens),
         Some(FirstWord::Series) => descent(alloc, tokens),
+        Some(FirstWord::Types) => types(alloc, tokens),
+        Some(FirstWord::Cond) => cond(alloc, tokens),
+        Some(FirstWord::Nu) => nu(alloc, tokens),
+        Some(FirstWord::Jonsson) => jonsson(alloc, tokens),
+        Some(FirstWord::Hm) => hm(alloc, tokens),
+        Some(FirstWord::Day) => day(alloc, tokens),
         Some(FirstWord::Make) => make(alloc, place_of(&first), tokens),
         None => Err(Miss::Other),
     }

@@ -41,6 +41,16 @@ pub fn con(alloc: Global, tokens: &mut Tokens<'_>) -> Result<Command, Miss>
     Ok(Command::Con { algebra })
 }
 
+/// A `types` behind its first word.
+pub fn types(alloc: Global, tokens: &mut Tokens<'_>) -> Result<Command, Miss>
+    ensures only { (a : Word) (ws : List Wanted) → IsNamed a → Front (tokens_left tokens.old) (word a ∷ ws) [] → Gives result (λ x. (x ≡ Command.Types a) × Front (tokens_left tokens.new) ws []) }
+    ensures progress { IfOk result (λ x. length (tokens_left tokens.new) < length (tokens_left tokens.old)) }
+    ensures source { source_of tokens.new ≡ source_of tokens.old }
+{
+    let algebra = word(alloc, tokens)?;
+    Ok(Command::Types { algebra })
+}
+
 /// A `central` behind its first word.
 pub fn central(alloc: Global, tokens: &mut Tokens<'_>) -> Result<Command, Miss>
     ensures only { (a : Word) (p q r : PartText) (ws : List Wanted) → IsNamed a → AllByRecursion IsShortBlock p.blocks → AllByRecursion IsShortBlock q.blocks → AllByRecursion IsShortBlock r.blocks → begins_number ws ≡ false → Front (tokens_left tokens.old) (word a ∷ (part p ++ (part q ++ (part r ++ ws)))) [] → Gives result (λ x. (x ≡ Command.Central a p q r) × Front (tokens_left tokens.new) ws []) }

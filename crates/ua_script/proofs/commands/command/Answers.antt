@@ -7,7 +7,7 @@ use Rattle.ua_text.specs.Reading.{Gives}
 use Rattle.ua_script.specs.declared.script.Command.TheVariants as commands
 use Rattle.ua_script.specs.declared.commands.FirstWord.TheVariants as firsts
 use Rattle.ua_script.specs.Reading.{first_words, found_first}
-use Rattle.ua_script.specs.Grammar.{word, number, vector, mode, series_word, construction}
+use Rattle.ua_script.specs.Grammar.{word, number, vector, mode, cond_word, series_word, construction}
 use Rattle.ua_script.proofs.Beginnings.{begun, its_word, behind_word}
 use Rattle.ua_script.proofs.Forms.{form_of, form_found, close_front, member_front, eval_front, holds_front, hom_front, central_front, comm_front, plain_front}
 use Rattle.ua_script.proofs.commands.command.Goals as goal
@@ -133,6 +133,60 @@ returns-in-Some-Series-clause-only c = λ v k ws r b f.
     let q = form_found k r c.in_ok-first.first.text.now c.first_word.result firsts.Series (its_word g.first g.word c.in_ok-first.first.text.now g.spelled s.0) c.first_word.ensures found in
     subst (λ z. Gives c.descent.result (λ x. (x ≡ z) × Front (tokens_left c.descent.new.tokens) ws [])) (sym q.is)
     (c.descent.ensures.only q.algebra q.kind ws q.named (plain_front g.rest (word q.algebra ∷ sign roles.Exact (series_word q.kind) ∷ []) ws (tokens_left c.next.new.tokens) q.behind s.2))
+
+pub returns-in-Some-Types-clause-only : goal.returns-in-Some-Types-clause-only
+returns-in-Some-Types-clause-only c = λ v k ws r b f.
+    let g = begun k in
+    let s = c.in_ok-first.ensures.only g.first (g.rest ++ ws) [] (behind_word k (tokens_left c.args.tokens.now) ws f) in
+    let found : c.first_word.result ≡ Some firsts.Types = let h = c.in-Some-Types.is in cc in
+    let q = form_found k r c.in_ok-first.first.text.now c.first_word.result firsts.Types (its_word g.first g.word c.in_ok-first.first.text.now g.spelled s.0) c.first_word.ensures found in
+    subst (λ z. Gives c.types.result (λ x. (x ≡ z) × Front (tokens_left c.types.new.tokens) ws [])) (sym q.is)
+    (c.types.ensures.only q.algebra ws q.named (plain_front g.rest (word q.algebra ∷ []) ws (tokens_left c.next.new.tokens) q.behind s.2))
+
+pub returns-in-Some-Cond-clause-only : goal.returns-in-Some-Cond-clause-only
+returns-in-Some-Cond-clause-only c = λ v k ws r b f.
+    let g = begun k in
+    let s = c.in_ok-first.ensures.only g.first (g.rest ++ ws) [] (behind_word k (tokens_left c.args.tokens.now) ws f) in
+    let found : c.first_word.result ≡ Some firsts.Cond = let h = c.in-Some-Cond.is in cc in
+    let q = form_found k r c.in_ok-first.first.text.now c.first_word.result firsts.Cond (its_word g.first g.word c.in_ok-first.first.text.now g.spelled s.0) c.first_word.ensures found in
+    subst (λ z. Gives c.cond.result (λ x. (x ≡ z) × Front (tokens_left c.cond.new.tokens) ws [])) (sym q.is)
+    (c.cond.ensures.only q.algebra q.condition ws q.named (plain_front g.rest (word q.algebra ∷ sign roles.Exact (cond_word q.condition) ∷ []) ws (tokens_left c.next.new.tokens) q.behind s.2))
+
+pub returns-in-Some-Nu-clause-only : goal.returns-in-Some-Nu-clause-only
+returns-in-Some-Nu-clause-only c = λ v k ws r b f.
+    let g = begun k in
+    let s = c.in_ok-first.ensures.only g.first (g.rest ++ ws) [] (behind_word k (tokens_left c.args.tokens.now) ws f) in
+    let found : c.first_word.result ≡ Some firsts.Nu = let h = c.in-Some-Nu.is in cc in
+    let q = form_found k r c.in_ok-first.first.text.now c.first_word.result firsts.Nu (its_word g.first g.word c.in_ok-first.first.text.now g.spelled s.0) c.first_word.ensures found in
+    subst (λ z. Gives c.nu.result (λ x. (x ≡ z) × Front (tokens_left c.nu.new.tokens) ws [])) (sym q.is)
+    (c.nu.ensures.only q.algebra q.arity ws q.named q.short (plain_front g.rest (word q.algebra ∷ number roles.Amount q.arity ∷ []) ws (tokens_left c.next.new.tokens) q.behind s.2))
+
+pub returns-in-Some-Jonsson-clause-only : goal.returns-in-Some-Jonsson-clause-only
+returns-in-Some-Jonsson-clause-only c = λ v k ws r b f.
+    let g = begun k in
+    let s = c.in_ok-first.ensures.only g.first (g.rest ++ ws) [] (behind_word k (tokens_left c.args.tokens.now) ws f) in
+    let found : c.first_word.result ≡ Some firsts.Jonsson = let h = c.in-Some-Jonsson.is in cc in
+    let q = form_found k r c.in_ok-first.first.text.now c.first_word.result firsts.Jonsson (its_word g.first g.word c.in_ok-first.first.text.now g.spelled s.0) c.first_word.ensures found in
+    subst (λ z. Gives c.jonsson.result (λ x. (x ≡ z) × Front (tokens_left c.jonsson.new.tokens) ws [])) (sym q.is)
+    (c.jonsson.ensures.only q.algebra ws q.named (plain_front g.rest (word q.algebra ∷ []) ws (tokens_left c.next.new.tokens) q.behind s.2))
+
+pub returns-in-Some-Hm-clause-only : goal.returns-in-Some-Hm-clause-only
+returns-in-Some-Hm-clause-only c = λ v k ws r b f.
+    let g = begun k in
+    let s = c.in_ok-first.ensures.only g.first (g.rest ++ ws) [] (behind_word k (tokens_left c.args.tokens.now) ws f) in
+    let found : c.first_word.result ≡ Some firsts.Hm = let h = c.in-Some-Hm.is in cc in
+    let q = form_found k r c.in_ok-first.first.text.now c.first_word.result firsts.Hm (its_word g.first g.word c.in_ok-first.first.text.now g.spelled s.0) c.first_word.ensures found in
+    subst (λ z. Gives c.hm.result (λ x. (x ≡ z) × Front (tokens_left c.hm.new.tokens) ws [])) (sym q.is)
+    (c.hm.ensures.only q.algebra ws q.named (plain_front g.rest (word q.algebra ∷ []) ws (tokens_left c.next.new.tokens) q.behind s.2))
+
+pub returns-in-Some-Day-clause-only : goal.returns-in-Some-Day-clause-only
+returns-in-Some-Day-clause-only c = λ v k ws r b f.
+    let g = begun k in
+    let s = c.in_ok-first.ensures.only g.first (g.rest ++ ws) [] (behind_word k (tokens_left c.args.tokens.now) ws f) in
+    let found : c.first_word.result ≡ Some firsts.Day = let h = c.in-Some-Day.is in cc in
+    let q = form_found k r c.in_ok-first.first.text.now c.first_word.result firsts.Day (its_word g.first g.word c.in_ok-first.first.text.now g.spelled s.0) c.first_word.ensures found in
+    subst (λ z. Gives c.day.result (λ x. (x ≡ z) × Front (tokens_left c.day.new.tokens) ws [])) (sym q.is)
+    (c.day.ensures.only q.algebra ws q.named (plain_front g.rest (word q.algebra ∷ []) ws (tokens_left c.next.new.tokens) q.behind s.2))
 
 pub returns-in-Some-Make-clause-only : goal.returns-in-Some-Make-clause-only
 returns-in-Some-Make-clause-only c = λ v k ws r b f.
