@@ -19,7 +19,7 @@ pub fn skips(symbol: Symbol) -> bool
 {
     match symbol {
         Symbol::Many { .. } | Symbol::Modes | Symbol::Behind(_) => true,
-        Symbol::Start | Symbol::Vectors | Symbol::Naming(_) => true,
+        Symbol::Start | Symbol::Vectors | Symbol::Identities(_) | Symbol::Naming(_) => true,
         Symbol::Entries { count, .. } => count == 0,
         _ => false,
     }
@@ -58,7 +58,7 @@ pub fn offers_here(grammar: &Grammar, symbol: Symbol, role: Role) -> bool
         Symbol::Items => is_role(role, Role::Begins) && grammar.opens(Table::Commands),
         Symbol::Start => is_role(role, Role::Line),
         Symbol::Version => is_role(role, Role::Amount),
-        Symbol::Vectors => is_role(role, Role::Opens),
+        Symbol::Vectors | Symbol::Identities(_) => is_role(role, Role::Opens),
         Symbol::Inside => is_role(role, Role::Inner) || is_role(role, Role::Closes),
         Symbol::Naming(_) => is_role(role, Role::Exact),
         Symbol::Elements(0) => is_role(role, Role::Closes),
@@ -100,6 +100,7 @@ pub fn follow(
         Symbol::Start => stack.push(Symbol::Version)?,
         Symbol::Vectors => push_vector(stack)?,
         Symbol::Inside => push_unless(stack, text == b"]".as_slice(), symbol)?,
+        Symbol::Identities(list) => stack.push_identity(list)?,
         Symbol::Naming(size) => push_names(stack, size)?,
         Symbol::Elements(0) => {}
         Symbol::Elements(count) => stack.push(Symbol::Elements(count - 1))?,
