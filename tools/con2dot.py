@@ -1,8 +1,9 @@
 #!/usr/bin/env python3
 """Draws the congruences of a `con` reply as a Hasse diagram for Graphviz: con2dot.py [--numbers] < REPLY
 
-The first reply of `con` in the input is taken, and lines before it and behind it are passed over. The least congruence
-is at the bottom, and those that cover exactly one are boxes. With --numbers, and where there are 60 congruences or more
+The first reply of `con` in the input is taken, and lines before it and behind it are passed over, but for the first reply
+of `types` behind it: where there is one, each edge has the type of its cover, or a question mark where it exceeds. The
+least congruence is at the bottom, and those that cover exactly one are boxes. With --numbers, and where there are 60 congruences or more
 or one is written with more than 40 characters, a congruence is drawn as its number alone.
 """
 
@@ -35,6 +36,14 @@ class Lines:
         if "exceeds" in firsts:
             raise Fault(f"{firsts.index('exceeds') + 1}:1", "a reply `exceeds` has no covers")
         raise Fault(f"{len(self.lines) + 1}:1", f"there is no line `{word} N`")
+
+    def finds(self, word):
+        """Stands before the next line that begins with the word, if there is one."""
+        for number in range(self.number, len(self.lines)):
+            if self.lines[number].partition(" ")[0] == word:
+                self.number = number
+                return True
+        return False
 
     def take(self, what):
         self.number += 1
@@ -85,6 +94,23 @@ def irreducibles_of(lines, count):
     return set(lines.numbers("join irreducibles", words[2:], count))
 
 
+def types_of(lines, covers):
+    """The label of each cover, where the input has the types of these covers."""
+    if not lines.finds("types"):
+        return [None] * len(covers)
+    if lines.counted("types") != len(covers):
+        raise lines.fault(f"the congruences have {len(covers)} covers")
+    labels = []
+    for lower, upper in covers:
+        words = lines.take("a type").split()
+        if words[:2] != [str(lower), str(upper)]:
+            raise lines.fault(f"the type of the cover {lower} {upper} is needed")
+        if words[2:] != ["exceeds"] and (words[2:3] != ["type"] or words[3:4] not in [[t] for t in "12345"]):
+            raise lines.fault("`type T` with a number from 1 to 5, or `exceeds`, is needed")
+        labels.append("?" if words[2:] == ["exceeds"] else words[3])
+    return labels
+
+
 def heights_of(covers, count):
     """The length of the longest chain below each: covers name the lower one by the smaller number."""
     heights = [0] * count
@@ -93,7 +119,12 @@ def heights_of(covers, count):
     return heights
 
 
-def drawing(parts, covers, irreducibles, numbers):
+def edge(cover, label):
+    shown = "" if label is None else f' [label="{label}"]'
+    return f"  n{cover[0]} -> n{cover[1]}{shown};"
+
+
+def drawing(parts, covers, labels, irreducibles, numbers):
     lines = ["digraph congruences {", "  rankdir=BT;", "  node [shape=plaintext];", "  edge [arrowhead=none];"]
     for index, part in enumerate(parts):
         label = str(index) if numbers else f"{index}\\n{part}"
@@ -103,7 +134,7 @@ def drawing(parts, covers, irreducibles, numbers):
     for height in sorted(set(heights)):
         layer = " ".join(f"n{index};" for index in range(len(parts)) if heights[index] == height)
         lines.append(f"  {{ rank=same; {layer} }}")
-    lines += [f"  n{lower} -> n{upper};" for lower, upper in covers]
+    lines += [edge(cover, label) for cover, label in zip(covers, labels)]
     return "\n".join(lines + ["}", ""])
 
 
@@ -118,8 +149,9 @@ def main():
         parts = parts_of(lines)
         covers = covers_of(lines, len(parts))
         irreducibles = irreducibles_of(lines, len(parts))
+        labels = types_of(lines, covers)
         numbers = options.numbers or len(parts) >= MANY or max(map(len, parts), default=0) > WIDE
-        return drawing(parts, covers, irreducibles, numbers)
+        return drawing(parts, covers, labels, irreducibles, numbers)
 
     run("con2dot", convert)
 

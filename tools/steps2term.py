@@ -1,8 +1,9 @@
 #!/usr/bin/env python3
-"""Turns the steps of a `member` reply into a term: steps2term.py [--step I] [--limit N] < REPLY
+"""Turns the steps of a reply into a term: steps2term.py [--step I] [--limit N] < REPLY
 
 The input is a reply `yes N` with its steps, or the steps alone. Where a line `yes N` stands in it, lines before it and
-behind its steps are passed over. Generator I is written as the variable xI.
+behind its steps are passed over. Generator I is written as the variable xI. Where a line `chain M` stands in the input and
+no line `yes N` before it, each term of the chain comes on a line of its own.
 """
 
 import argparse
@@ -11,21 +12,48 @@ import re
 from blocks import Fault, is_operation_name, number_of, run
 
 HEAD = re.compile(r"yes ([0-9]{1,9})")
+CHAIN = re.compile(r"chain ([0-9]{1,9})")
 WITHOUT = ("no", "exceeds", "error")
 
 
-def lines_of(text):
-    """The lines that steps are to stand in, each with its number."""
-    lines = list(enumerate(text.removesuffix("\n").split("\n"), 1))
-    for place, (number, line) in enumerate(lines):
+def numbered(text):
+    """The lines, each with its number."""
+    return list(enumerate(text.removesuffix("\n").split("\n"), 1))
+
+
+def behind(lines, place, count):
+    """So many lines behind the one at the place."""
+    steps = lines[place + 1 : place + 1 + count]
+    if len(steps) < count:
+        raise Fault(f"{lines[place][0]}:1", f"{count} steps are to follow, and {len(steps)} do")
+    return steps
+
+
+def chain_of(lines, place, greatest):
+    """The lines of the steps of each term of a chain whose first line stands at the place."""
+    terms = []
+    place += 1
+    for index in range(greatest + 1):
+        number, line = lines[place] if place < len(lines) else (len(lines) + 1, "")
+        head = re.fullmatch(rf"term {index} steps ([0-9]{{1,9}})", line.strip())
+        if not head:
+            raise Fault(f"{number}:1", f"`term {index} steps N` is needed")
+        terms.append(behind(lines, place, int(head.group(1))))
+        place += 1 + len(terms[-1])
+    return terms
+
+
+def lists_of(text):
+    """The lines that steps are to stand in, a list for each term, and whether they are a chain's."""
+    lines = numbered(text)
+    for place, (_, line) in enumerate(lines):
         head = HEAD.fullmatch(line.strip())
         if head:
-            count = int(head.group(1))
-            steps = lines[place + 1 : place + 1 + count]
-            if len(steps) < count:
-                raise Fault(f"{number}:1", f"{count} steps are to follow, and {len(steps)} do")
-            return steps
-    return [(number, line) for number, line in lines if line.strip()]
+            return [behind(lines, place, int(head.group(1)))], False
+        chain = CHAIN.fullmatch(line.strip())
+        if chain:
+            return chain_of(lines, place, int(chain.group(1))), True
+    return [[(number, line) for number, line in lines if line.strip()]], False
 
 
 def columned(line):
@@ -64,10 +92,9 @@ def step_of(number, line, index, arities):
     return name, args
 
 
-def steps_of(text):
-    arities = {}
+def steps_of(lines, arities):
     steps = []
-    for number, line in lines_of(text):
+    for number, line in lines:
         steps.append(step_of(number, line, len(steps), arities))
     if not steps:
         raise Fault("1:1", "there is no step")
@@ -103,6 +130,15 @@ def term_of(steps, step):
     return "".join(pieces)
 
 
+def written(steps, options):
+    step = len(steps) - 1 if options.step is None else options.step
+    if not 0 <= step < len(steps):
+        raise Fault("--step", f"there is no step {step}: the last is {len(steps) - 1}")
+    if is_longer(steps, step, options.limit):
+        raise Fault("--limit", f"the term has more than {options.limit} characters")
+    return term_of(steps, step)
+
+
 def main():
     parser = argparse.ArgumentParser(description=__doc__, formatter_class=argparse.RawDescriptionHelpFormatter)
     parser.add_argument("--step", type=int, help="the step whose term is printed, in place of the last")
@@ -110,13 +146,11 @@ def main():
     options = parser.parse_args()
 
     def convert(text):
-        steps = steps_of(text)
-        step = len(steps) - 1 if options.step is None else options.step
-        if not 0 <= step < len(steps):
-            raise Fault("--step", f"there is no step {step}: the last is {len(steps) - 1}")
-        if is_longer(steps, step, options.limit):
-            raise Fault("--limit", f"the term has more than {options.limit} characters")
-        return term_of(steps, step) + "\n"
+        lists, is_chain = lists_of(text)
+        if is_chain and options.step is not None:
+            raise Fault("--step", "a chain has the steps of several terms")
+        arities = {}
+        return "".join(written(steps_of(lines, arities), options) + "\n" for lines in lists)
 
     run("steps2term", convert)
 

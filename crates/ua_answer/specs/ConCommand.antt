@@ -1,7 +1,6 @@
 -- The command `con`: what it is answered.
-use Rattle.std.specs.Prelude.{ℕ, List, ◌∷◌, ◌++◌, length, Some, codes}
-use Rattle.std.specs.Fmt.{decimal}
-use Rattle.ua_part.specs.Blocks.{more_numbers, partition_text}
+use Rattle.std.specs.Prelude.{ℕ, List, ◌++◌, length, Some, codes}
+use Rattle.ua_part.specs.Blocks.{partition_text}
 use Rattle.ua_lattice.specs.declared.lattice.Lattice.{Lattice}
 use Rattle.ua_lattice.specs.declared.lattice.Lattice.TheVariants.{Whole, Exceeds}
 use Rattle.ua_lattice.specs.Answers.{IsLatticeOf}
@@ -11,21 +10,14 @@ use Rattle.ua_reply.specs.Sessions.{Bounds}
 use Rattle.ua_reply.specs.Checks.{passed}
 use Rattle.ua_reply.specs.Replies.{Says, AnsweredOn}
 use Rattle.ua_reply.specs.Texts.{line, lines, numbered, counted}
-
--- 0 1
-abbrev pub pair_text : ℕ × ℕ → List ℕ
-pair_text x = decimal x.0 ++ 32 ∷ decimal x.1
-
--- the places of the irreducible ones, on a line
-abbrev pub irreducibles_text : List ℕ → List ℕ
-irreducibles_text places = line (codes "join irreducibles" ++ more_numbers places)
+use Rattle.ua_answer.specs.Texts.{pair_text, listed_text}
 
 -- the congruences with their numbers, the pairs of which the second covers the first, and the irreducible ones
 abbrev pub lattice_text : ℕ → Lattice → List ℕ
 lattice_text budget (Whole list covers irreducibles) =
     line (counted (codes "congruences") (length list.items)) ++ numbered partition_text 0 list.items
     ++ line (counted (codes "covers") (length covers.items)) ++ lines pair_text covers.items
-    ++ irreducibles_text irreducibles.items
+    ++ listed_text (codes "join irreducibles") irreducibles.items
 lattice_text budget (Exceeds list) = line (counted (codes "exceeds") budget) ++ lines partition_text list.items
 
 abbrev pub ConAnswer : Block → Bounds → List ℕ → Type 0

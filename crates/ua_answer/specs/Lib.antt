@@ -9,6 +9,9 @@ pub mod OnesCommand
 pub mod EvalCommand
 pub mod CgCommand
 pub mod ConCommand
+pub mod TypesCommand
+pub mod CondCommand
+pub mod ChainCommand
 pub mod HoldsCommand
 pub mod HomCommand
 pub mod CentralCommand

@@ -4,7 +4,7 @@ use Rattle.ua_table.specs.declared.limits.TheConstants.{SCRIPT}
 use Rattle.ua_script.specs.declared.script.Mode.{Mode}
 use Rattle.ua_script.specs.declared.script.Mode.TheVariants.{Plain}
 use Rattle.ua_script.specs.declared.script.Provable.{Provable}
-use Rattle.ua_script.specs.declared.script.Provable.TheVariants.{Close, Member}
+use Rattle.ua_script.specs.declared.script.Provable.TheVariants.{Close, Member, Cond, Nu, Jonsson, Hm}
 use Rattle.ua_script.specs.declared.script.MakeForm.{MakeForm}
 use Rattle.ua_script.specs.declared.script.MakeForm.TheVariants.{Sub}
 use Rattle.ua_script.specs.declared.script.Command.{Command}
@@ -21,6 +21,10 @@ use Rattle.ua_answer.specs.OnesCommand.{OnesReply}
 use Rattle.ua_answer.specs.EvalCommand.{EvalReply}
 use Rattle.ua_answer.specs.CgCommand.{CgReply}
 use Rattle.ua_answer.specs.ConCommand.{ConReply}
+use Rattle.ua_answer.specs.TypesCommand.{TypesReply}
+use Rattle.ua_answer.specs.CondCommand.{CondReply, NuReply}
+use Rattle.ua_answer.specs.declared.chains.ChainWord.TheVariants as chains
+use Rattle.ua_answer.specs.ChainCommand.{ChainReply}
 use Rattle.ua_answer.specs.HoldsCommand.{HoldsReply}
 use Rattle.ua_answer.specs.HomCommand.{HomReply}
 use Rattle.ua_answer.specs.CentralCommand.{CentralReply}
@@ -32,6 +36,10 @@ use Rattle.ua_answer.specs.MakeCommand.{MakeReply}
 abbrev pub IsProvableBuilt : Provable → Mode → Type 0
 IsProvableBuilt (Close w width gens) m = length gens ≤ SCRIPT
 IsProvableBuilt (Member w width gens target) Plain = length gens ≤ SCRIPT
+IsProvableBuilt (Cond w name) Plain = Unit {0}
+IsProvableBuilt (Nu w k) Plain = Unit {0}
+IsProvableBuilt (Jonsson w) Plain = Unit {0}
+IsProvableBuilt (Hm w) Plain = Unit {0}
 IsProvableBuilt _ _ = ⊥
 
 -- the commands that leave the session as it was and are built, with no more elements than a script has bytes
@@ -43,6 +51,8 @@ IsPlainBuilt (commands.Ones w) = Unit {0}
 IsPlainBuilt (commands.Eval w term args) = Unit {0}
 IsPlainBuilt (commands.Cg w pairs) = Unit {0}
 IsPlainBuilt (commands.Con w) = Unit {0}
+IsPlainBuilt (commands.Types w) = Unit {0}
+IsPlainBuilt (commands.Day w) = Unit {0}
 IsPlainBuilt (commands.Holds w left right) = Unit {0}
 IsPlainBuilt (commands.Hom v w gens images) = length gens.values ≤ SCRIPT
 IsPlainBuilt (commands.Central w alpha beta delta) = Unit {0}
@@ -63,6 +73,10 @@ IsBuilt c = IsPlainBuilt c
 abbrev pub ProvableReply : List Block → Bounds → Provable → Mode → List ℕ → Type 0
 ProvableReply s b (Close w width gens) m bytes = CloseReply s b w width gens m bytes
 ProvableReply s b (Member w width gens target) Plain bytes = MemberReply s b w width gens target bytes
+ProvableReply s b (Cond w name) Plain bytes = CondReply s b w name bytes
+ProvableReply s b (Nu w k) Plain bytes = NuReply s b w k bytes
+ProvableReply s b (Jonsson w) Plain bytes = ChainReply s b w chains.Jonsson bytes
+ProvableReply s b (Hm w) Plain bytes = ChainReply s b w chains.HagemannMitschke bytes
 ProvableReply s b _ _ bytes = ⊥
 
 -- the bytes are a reply to a command that leaves the session as it was
@@ -74,6 +88,8 @@ PlainReply s b (commands.Ones w) bytes = OnesReply s w bytes
 PlainReply s b (commands.Eval w term args) bytes = EvalReply s w term args bytes
 PlainReply s b (commands.Cg w pairs) bytes = CgReply s w pairs bytes
 PlainReply s b (commands.Con w) bytes = ConReply s b w bytes
+PlainReply s b (commands.Types w) bytes = TypesReply s b w bytes
+PlainReply s b (commands.Day w) bytes = ChainReply s b w chains.Day bytes
 PlainReply s b (commands.Holds w left right) bytes = HoldsReply s w left right bytes
 PlainReply s b (commands.Hom v w gens images) bytes = HomReply s b v w gens images bytes
 PlainReply s b (commands.Central w alpha beta delta) bytes = CentralReply s b w alpha beta delta bytes

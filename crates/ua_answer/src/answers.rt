@@ -7,9 +7,11 @@ ghost use Rattle.ua_answer.specs.Replies.{IsProvableBuilt, IsPlainBuilt, IsBuilt
 use crate::answered::{Answered, said};
 use crate::central::answer_central;
 use crate::cg::answer_cg;
+use crate::chains::{ChainWord, answer_chain};
 use crate::close::answer_close;
 use crate::comm::answer_comm;
 use crate::con::answer_con;
+use crate::cond::{answer_cond, answer_nu};
 use crate::context::Context;
 use crate::eval::answer_eval;
 use crate::free::answer_free;
@@ -20,6 +22,7 @@ use crate::member::answer_member;
 use crate::ones::answer_ones;
 use crate::series::answer_series;
 use crate::sub::answer_sub;
+use crate::types::answer_types;
 use std::alloc::AllocError;
 use std::thread::Threads;
 use ua_script::{Command, Mode, Provable};
@@ -46,7 +49,10 @@ fn answer_provable<R: Threads + Sync, G: Gate>(
             gens,
             target,
         } => answer_member(context, algebra, *width, gens.as_slice(), target),
-        _ => unreachable!(),
+        Provable::Cond { algebra, name } => answer_cond(context, algebra, *name),
+        Provable::Nu { algebra, k } => answer_nu(context, algebra, *k),
+        Provable::Jonsson { algebra } => answer_chain(context, algebra, ChainWord::Jonsson),
+        Provable::Hm { algebra } => answer_chain(context, algebra, ChainWord::HagemannMitschke),
     }
 }
 
@@ -74,6 +80,8 @@ fn answer_plain<R: Threads + Sync, G: Gate>(
         } => answer_eval(context, algebra, term, args),
         Command::Cg { algebra, pairs } => answer_cg(context, algebra, pairs.as_slice()),
         Command::Con { algebra } => answer_con(context, algebra),
+        Command::Types { algebra } => answer_types(context, algebra),
+        Command::Day { algebra } => answer_chain(context, algebra, ChainWord::Day),
         Command::Central {
             algebra,
             alpha,

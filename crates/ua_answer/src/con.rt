@@ -4,15 +4,16 @@ ghost use Rattle.std.specs.Prelude.{◌≡◌, ◌++◌, IfOk, OnOk};
 ghost use Rattle.ua_part.specs.Blocks.{partition_text};
 ghost use Rattle.ua_reply.specs.Sessions.{bounds_of};
 ghost use Rattle.ua_reply.specs.Texts.{lines, numbered};
-ghost use Rattle.ua_answer.specs.ConCommand.{pair_text, irreducibles_text, lattice_text, ConReply};
+ghost use Rattle.ua_answer.specs.Texts.{pair_text};
+ghost use Rattle.ua_answer.specs.ConCommand.{lattice_text, ConReply};
 
 use crate::context::Context;
-use crate::texts::push_parts;
+use crate::texts::{push_listed, push_pair, push_parts};
 use std::alloc::{AllocError, Global};
 use std::thread::Threads;
 use ua_lattice::{Lattice, congruences};
 use ua_part::{Part, push_number};
-use ua_reply::{Refusal, push_counted, push_more, push_part, refusal_reply};
+use ua_reply::{Refusal, push_counted, push_part, refusal_reply};
 use ua_script::Word;
 use ua_table::Gate;
 
@@ -34,21 +35,9 @@ fn push_pairs(out: &mut Vec<u8>, pairs: &[(u32, u32)]) -> Result<(), AllocError>
     ensures { OnOk result (out.new.items ≡ out.old.items ++ lines pair_text pairs.now) }
 {
     for pair in pairs {
-        push_number(out, u128::from(pair.0))?;
-        out.push(b' ')?;
-        push_number(out, u128::from(pair.1))?;
+        push_pair(out, *pair)?;
         out.push(b'\n')?;
     }
-    Ok(())
-}
-
-/// Appends the places of the irreducible congruences, on a line.
-fn push_irreducibles(out: &mut Vec<u8>, places: &[u32]) -> Result<(), AllocError>
-    ensures { OnOk result (out.new.items ≡ out.old.items ++ irreducibles_text places.now) }
-{
-    out.extend_from_slice(b"join irreducibles")?;
-    push_more(out, places)?;
-    out.push(b'\n')?;
     Ok(())
 }
 
@@ -67,7 +56,7 @@ fn lattice_reply(alloc: Global, budget: u32, lattice: &Lattice) -> Result<Vec<u8
             push_numbered(&mut out, list.as_slice())?;
             push_counted(&mut out, b"covers", covers.len() as u128)?;
             push_pairs(&mut out, covers.as_slice())?;
-            push_irreducibles(&mut out, irreducibles.as_slice())?;
+            push_listed(&mut out, b"join irreducibles", irreducibles.as_slice())?;
         }
         Lattice::Exceeds(list) => {
             push_counted(&mut out, b"exceeds", u128::from(budget))?;

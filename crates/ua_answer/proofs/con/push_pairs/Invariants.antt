@@ -1,6 +1,6 @@
 use Rattle.std.proofs.Common.{◌≡◌, ◌++◌, take}
 use Rattle.ua_reply.specs.Texts.{lines}
-use Rattle.ua_answer.specs.ConCommand.{pair_text}
+use Rattle.ua_answer.specs.Texts.{pair_text}
 use Rattle.ua_answer.proofs.con.push_pairs.Given as goal
 
 abbrev pub invariant-loop-pair : goal.invariant-loop-pair
