@@ -26,13 +26,14 @@ use Rattle.ua_script.specs.declared.script.Mode.{Mode}
 use Rattle.ua_script.specs.declared.script.Mode.TheVariants as modes
 use Rattle.ua_script.specs.declared.script.PartText.{PartText}
 use Rattle.ua_script.specs.declared.script.CondWord.{CondWord}
+use Rattle.ua_script.specs.declared.script.IdentityText.{IdentityText}
 use Rattle.ua_script.specs.declared.script.SeriesWord.{SeriesWord}
 use Rattle.ua_script.specs.declared.script.MakeForm.{MakeForm}
 use Rattle.ua_script.specs.declared.script.MakeForm.TheVariants.{Product, Quotient, Sub, Reduct}
 use Rattle.ua_script.specs.declared.script.Provable.TheVariants as provables
 use Rattle.ua_script.specs.declared.script.Command.TheVariants as commands
 use Rattle.ua_script.specs.declared.script.Item.TheVariants as items
-use Rattle.ua_script.specs.Grammar.{word, further, number, entry, vector, part, part_blocks, cond_word, series_word, IsPart, names, mode, construction, IsConstruction, forms_built}
+use Rattle.ua_script.specs.Grammar.{word, further, number, entry, vector, part, part_blocks, identity, cond_word, series_word, IsPart, names, mode, construction, IsConstruction, forms_built}
 use Rattle.ua_script.specs.declared.commands.FirstWord.{FirstWord}
 use Rattle.ua_script.specs.declared.commands.FirstWord.TheVariants as firsts
 use Rattle.ua_script.specs.Reading.{IsShort, IsShortEntry, IsShortVector, IsShortBlock, IsNamed, IsShortConstruction, IsReadableItem, first_text, first_words, found_first}
@@ -231,6 +232,16 @@ pub record IsDay (c : Command) (rest : List Wanted) : Type 0 where
   pub named : is_name algebra.name ≡ true
   pub behind : rest ≡ word algebra ∷ []
 
+-- the parts of a `condition`, and the tokens behind its word
+pub record IsCondition (c : Command) (rest : List Wanted) : Type 0 where
+  pub algebra : Word
+  pub arity : Number
+  pub identities : List IdentityText
+  pub is : c ≡ commands.Condition algebra arity identities
+  pub named : is_name algebra.name ≡ true
+  pub short : IsShort arity
+  pub behind : rest ≡ word algebra ∷ number roles.Amount arity ∷ flat_map identity identities
+
 -- the parts of a command that begins with a word
 abbrev pub IsForm : FirstWord → Command → List Wanted → Type 0
 IsForm firsts.Close c rest = IsClose c rest
@@ -252,6 +263,7 @@ IsForm firsts.Nu c rest = IsNu c rest
 IsForm firsts.Jonsson c rest = IsJonsson c rest
 IsForm firsts.Hm c rest = IsHm c rest
 IsForm firsts.Day c rest = IsDay c rest
+IsForm firsts.Condition c rest = IsCondition c rest
 IsForm firsts.Make c rest = IsMake c rest
 
 short_entries : (es : List Entry) → AreSpelled forms_built (map entry es) → AllByRecursion IsShortEntry es
@@ -361,6 +373,7 @@ form_of (commands.Ask (provables.Hm a) modes.Least false) r = absurd r.formed.0
 form_of (commands.Ask (provables.Hm a) modes.Count false) r = absurd r.formed.0
 form_of (commands.Types a) r = record { first = firsts.Types; named = refl; found = refl; parts = record { algebra = a; is = refl; named = r.spelled.1.0; behind = refl } }
 form_of (commands.Day a) r = record { first = firsts.Day; named = refl; found = refl; parts = record { algebra = a; is = refl; named = r.spelled.1.0; behind = refl } }
+form_of (commands.Condition a k is) r = record { first = firsts.Condition; named = refl; found = refl; parts = record { algebra = a; arity = k; identities = is; is = refl; named = r.spelled.1.0; short = r.spelled.1.1.0; behind = refl } }
 form_of (commands.Ask what m true) r = not_built (codes "cert") refl r.spelled.0
 form_of (commands.Check a json) r = not_built (codes "check") refl r.spelled.0
 

@@ -64,6 +64,7 @@ later_command version (commands.Cg a pairs) h = later_vectors version pairs h
 later_command version (commands.Con a) h = tt
 later_command version (commands.Types a) h = tt
 later_command version (commands.Day a) h = tt
+later_command version (commands.Condition a k is) h = h
 later_command version (commands.Central a alpha beta delta) h = h
 later_command version (commands.Comm a alpha beta) h = h
 later_command version (commands.Series a kind) h = tt

@@ -21,7 +21,7 @@ ghost use Rattle.ua_term.specs.Terms.{term};
 ghost use Rattle.ua_script.specs.Grammar.{word, number, vector, mode, command};
 ghost use Rattle.ua_script.specs.Reading.{IsShort, IsShortVector, begins_item, IsReadableItem, first_words, found_first};
 
-use crate::conditions::{cond, day, hm, jonsson, nu};
+use crate::conditions::{cond, condition, day, hm, jonsson, nu};
 use crate::congruences::{central, cg, comm, con, descent, types};
 use crate::constructions::make;
 use crate::readers::{amount, mode, place_of, vector, vectors, word};
@@ -183,6 +183,7 @@ enum FirstWord {
     Jonsson,
     Hm,
     Day,
+    Condition,
     Make,
 }
 
@@ -214,6 +215,7 @@ impl FirstWord {
             FirstWord::Jonsson => b"jonsson",
             FirstWord::Hm => b"hm",
             FirstWord::Day => b"day",
+            FirstWord::Condition => b"condition",
             FirstWord::Make => b"make",
         }
     }
@@ -239,6 +241,7 @@ const FIRST_WORDS: &[FirstWord] = &[
     FirstWord::Jonsson,
     FirstWord::Hm,
     FirstWord::Day,
+    FirstWord::Condition,
     FirstWord::Make,
 ];
 
@@ -281,6 +284,7 @@ pub fn command(alloc: Global, tokens: &mut Tokens<'_>) -> Result<Command, Miss>
         Some(FirstWord::Jonsson) => jonsson(alloc, tokens),
         Some(FirstWord::Hm) => hm(alloc, tokens),
         Some(FirstWord::Day) => day(alloc, tokens),
+        Some(FirstWord::Condition) => condition(alloc, tokens),
         Some(FirstWord::Make) => make(alloc, place_of(&first), tokens),
         None => Err(Miss::Other),
     }

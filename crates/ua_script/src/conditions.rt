@@ -1,7 +1,8 @@
 //! Readers of commands on conditions and on chains of terms. What is written for one is read as that one, with its
 //! places, unless memory runs out.
 
-ghost use Rattle.std.specs.Prelude.{◌≡◌, ◌<◌, ◌∷◌, List, [], length, false, IfOk};
+ghost use Rattle.std.specs.Prelude.{◌≡◌, ◌<◌, ◌∷◌, ◌++◌, List, [], length, false, IfOk};
+ghost use Rattle.std.specs.List.{flat_map};
 ghost use Rattle.ua_text.specs.declared.symbols.Role.{Role};
 ghost use Rattle.ua_text.specs.Signs.{Wanted, sign, Front};
 ghost use Rattle.ua_text.specs.Tokens.{tokens_left, source_of};
@@ -10,12 +11,14 @@ ghost use Rattle.ua_script.specs.declared.script.Word.{Word};
 ghost use Rattle.ua_script.specs.declared.script.Number.{Number};
 ghost use Rattle.ua_script.specs.declared.script.Mode.{Mode};
 ghost use Rattle.ua_script.specs.declared.script.CondWord.{CondWord};
+ghost use Rattle.ua_script.specs.declared.script.IdentityText.{IdentityText};
 ghost use Rattle.ua_script.specs.declared.script.Provable.{Provable};
 ghost use Rattle.ua_script.specs.declared.script.Command.{Command};
-ghost use Rattle.ua_script.specs.Grammar.{word, number, cond_word};
-ghost use Rattle.ua_script.specs.Reading.{IsNamed, IsShort};
+ghost use Rattle.ua_script.specs.Grammar.{word, number, identity, cond_word};
+ghost use Rattle.ua_script.specs.Reading.{IsNamed, IsShort, begins_item};
 
-use crate::readers::{amount, condition, word};
+use crate::identities::identities;
+use crate::readers::{amount, condition as condition_word, word};
 use crate::script::{Command, Mode, Provable};
 use std::alloc::Global;
 use ua_text::{Miss, Tokens};
@@ -38,7 +41,7 @@ pub fn cond(alloc: Global, tokens: &mut Tokens<'_>) -> Result<Command, Miss>
     ensures source { source_of tokens.new ≡ source_of tokens.old }
 {
     let algebra = word(alloc, tokens)?;
-    let name = condition(tokens)?;
+    let name = condition_word(tokens)?;
     Ok(asked(Provable::Cond { algebra, name }))
 }
 
@@ -81,4 +84,20 @@ pub fn day(alloc: Global, tokens: &mut Tokens<'_>) -> Result<Command, Miss>
 {
     let algebra = word(alloc, tokens)?;
     Ok(Command::Day { algebra })
+}
+
+/// A `condition` behind its first word.
+pub fn condition(alloc: Global, tokens: &mut Tokens<'_>) -> Result<Command, Miss>
+    ensures only { (a : Word) (k : Number) (is : List IdentityText) (ws : List Wanted) → IsNamed a → IsShort k → begins_item ws → Front (tokens_left tokens.old) (word a ∷ number Role.Amount k ∷ (flat_map identity is ++ ws)) [] → Gives result (λ x. (x ≡ Command.Condition a k is) × Front (tokens_left tokens.new) ws []) }
+    ensures progress { IfOk result (λ x. length (tokens_left tokens.new) < length (tokens_left tokens.old)) }
+    ensures source { source_of tokens.new ≡ source_of tokens.old }
+{
+    let algebra = word(alloc, tokens)?;
+    let arity = amount(tokens)?;
+    let identities = identities(alloc, tokens)?;
+    Ok(Command::Condition {
+        algebra,
+        arity,
+        identities,
+    })
 }

@@ -1,0 +1,22 @@
+use Rattle.std.proofs.Common.{codes, refl, ◌∙◌, arith, rules}
+use Rattle.ua_text.specs.Tokens.{tokens_left}
+use Rattle.ua_text.specs.declared.symbols.Role.TheVariants as roles
+use Rattle.ua_text.specs.Signs.{sign}
+use Rattle.ua_script.specs.declared.script.Variable.{Variable}
+use Rattle.ua_script.specs.Grammar.{variable}
+use Rattle.ua_script.proofs.ReadLemmas.{single_step, single_missed, single_done, variable_apart}
+use Rattle.ua_script.proofs.identities.variables.Goals as goal
+
+pub returns-in_err-read-clause-only : goal.returns-in_err-read-clause-only
+returns-in_err-read-clause-only c = λ vs ws f.
+    let e = single_missed Variable (λ (v : Variable). Unit {0}) variable (sign roles.Closes (codes ")")) (codes ")") refl variable_apart vs c.loop-alloc.variables.items (tokens_left c.loop-alloc.tokens) ws (c.loop-alloc.invariant.only vs ws f) (λ v others l g. c.in_err-read.ensures.only v others g) c.loop-alloc-test.ensures.yes in search rules
+
+pub loop-alloc-preserved : goal.loop-alloc-preserved
+loop-alloc-preserved c = record {
+  only = λ vs ws f. single_step Variable (λ (v : Variable). Unit {0}) variable (sign roles.Closes (codes ")")) (codes ")") refl variable_apart vs c.loop-alloc.variables.items c.push.new.self.items (tokens_left c.loop-alloc.tokens) (tokens_left c.variable.new.tokens) ws (c.loop-alloc.invariant.only vs ws f) (λ v others l g. c.in_ok-read.ensures.only v others g) c.loop-alloc-test.ensures.yes c.in_ok-push.ensures.items;
+  progress = let p = c.in_ok-read.ensures.progress in let q = c.loop-alloc.invariant.progress in omega arith;
+  source = c.in_ok-read.ensures.source ∙ c.loop-alloc.invariant.source;
+}
+
+pub returns-clause-only : goal.returns-clause-only
+returns-clause-only c = λ vs ws f. single_done Variable (λ (v : Variable). Unit {0}) variable (sign roles.Closes (codes ")")) (codes ")") refl variable_apart vs c.loop-alloc.variables.items (tokens_left c.loop-alloc.tokens) ws (c.loop-alloc.invariant.only vs ws f) c.loop-alloc-test.ensures.no
