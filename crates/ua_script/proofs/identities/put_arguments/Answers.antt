@@ -1,4 +1,4 @@
-use Rattle.std.proofs.Common.{◌≡◌, ◌∷◌, ◌++◌, [], ◌<◌, length, map, take, codes, sym, ap, ◌∙◌, subst, arith}
+use Rattle.std.proofs.Common.{◌≡◌, ◌∷◌, [], ◌<◌, length, map, take, codes, sym, subst, arith}
 use Rattle.ua_text.specs.declared.symbols.Role.TheVariants as roles
 use Rattle.ua_text.specs.Signs.{sign}
 use Rattle.ua_text.specs.Printing.{Shows}
@@ -9,10 +9,9 @@ use Rattle.ua_script.proofs.identities.put_arguments.Goals as goal
 pub loop-v-preserved : goal.loop-v-preserved
 loop-v-preserved c =
     let vs = c.args.args.now in let i = c.loop-v.v-index in
-    let d = c.v-item.result in
     let below : i < length vs = let l = c.loop-v-test.true in omega arith in
-    subst (λ z. Shows c.args.printer.now c.put_variable.new.printer z) (sym (map_push variable vs i d below ∙ ap (λ z. map variable (take i vs) ++ variable z ∷ []) (sym c.v-item.is)))
-    (shows_both c.args.printer.now c.loop-v.printer c.put_variable.new.printer (map variable (take i vs)) (variable d ∷ []) c.loop-v.invariant c.in_ok-put_variable.ensures)
+    subst (λ z. Shows c.args.printer.now c.put_variable.new.printer z) (sym (map_push variable vs i _ below))
+    (shows_both c.args.printer.now c.loop-v.printer c.put_variable.new.printer (map variable (take i vs)) (variable _ ∷ []) c.loop-v.invariant c.in_ok-put_variable.ensures)
 
 pub returns : goal.returns
 returns c =
