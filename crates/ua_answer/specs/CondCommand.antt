@@ -1,6 +1,6 @@
 -- The commands `cond` and `nu`: where their operands fail, and what they are answered.
 use Rattle.std.specs.Prelude.{ℕ, nat_le, ◌&&◌, List}
-use Rattle.ua_identity.specs.Conditions.{Condition, maltsev, majority, minority, pixley, near_unanimity}
+use Rattle.ua_identity.specs.Conditions.{TermCondition, maltsev, majority, minority, pixley, near_unanimity}
 use Rattle.ua_cond.specs.Permitted.{MayDecide}
 use Rattle.ua_text.specs.declared.named.Block.{Block}
 use Rattle.ua_script.specs.declared.script.Word.{Word}
@@ -13,7 +13,7 @@ use Rattle.ua_reply.specs.Closures.{member_text, told}
 use Rattle.ua_reply.specs.Replies.{Says, AnsweredOn}
 
 -- the condition of this word
-abbrev pub condition_of : CondWord → Condition
+abbrev pub condition_of : CondWord → TermCondition
 condition_of Maltsev = maltsev
 condition_of Majority = majority
 condition_of Minority = minority
@@ -24,7 +24,7 @@ abbrev pub nu_checks : Number → Checks
 nu_checks k = range_at (unless (nat_le 3 k.value && nat_le k.value 16) k.place)
 
 -- steps of a term that meets the condition, or the rows where there is none
-abbrev pub ConditionAnswer : Block → Bounds → Condition → List ℕ → Type 0
+abbrev pub ConditionAnswer : Block → Bounds → TermCondition → List ℕ → Type 0
 ConditionAnswer k b c bytes = Says (MayDecide k.algebra c b.budget b.workers) (told (member_text k b.budget)) bytes
 
 -- cond NAME maltsev, and so on

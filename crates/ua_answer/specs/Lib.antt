@@ -11,6 +11,7 @@ pub mod CgCommand
 pub mod ConCommand
 pub mod TypesCommand
 pub mod CondCommand
+pub mod ConditionCommand
 pub mod ChainCommand
 pub mod HoldsCommand
 pub mod HomCommand

@@ -1,5 +1,5 @@
 -- What a command may be answered: a case for each form that is built, in tables as those of the grammar.
-use Rattle.std.specs.Prelude.{◌≡◌, ℕ, ◌≤◌, false, List, [], ◌∷◌, ◌++◌, length, Option, None, Some, IfSome}
+use Rattle.std.specs.Prelude.{◌≡◌, ℕ, ◌<◌, ◌≤◌, false, List, [], ◌∷◌, ◌++◌, length, Option, None, Some, IfSome}
 use Rattle.ua_table.specs.declared.limits.TheConstants.{SCRIPT}
 use Rattle.ua_script.specs.declared.script.Mode.{Mode}
 use Rattle.ua_script.specs.declared.script.Mode.TheVariants.{Plain}
@@ -23,6 +23,7 @@ use Rattle.ua_answer.specs.CgCommand.{CgReply}
 use Rattle.ua_answer.specs.ConCommand.{ConReply}
 use Rattle.ua_answer.specs.TypesCommand.{TypesReply}
 use Rattle.ua_answer.specs.CondCommand.{CondReply, NuReply}
+use Rattle.ua_answer.specs.ConditionCommand.{ConditionReply}
 use Rattle.ua_answer.specs.declared.chains.ChainWord.TheVariants as chains
 use Rattle.ua_answer.specs.ChainCommand.{ChainReply}
 use Rattle.ua_answer.specs.HoldsCommand.{HoldsReply}
@@ -42,7 +43,7 @@ IsProvableBuilt (Jonsson w) Plain = Unit {0}
 IsProvableBuilt (Hm w) Plain = Unit {0}
 IsProvableBuilt _ _ = ⊥
 
--- the commands that leave the session as it was and are built, with no more elements than a script has bytes
+-- the commands that leave the session as it was and are built, with no more elements than a script has bytes, and some identity where there are to be some
 abbrev pub IsPlainBuilt : Command → Type 0
 IsPlainBuilt (commands.Ask what m false) = IsProvableBuilt what m
 IsPlainBuilt (commands.Free w k m) = Unit {0}
@@ -53,6 +54,7 @@ IsPlainBuilt (commands.Cg w pairs) = Unit {0}
 IsPlainBuilt (commands.Con w) = Unit {0}
 IsPlainBuilt (commands.Types w) = Unit {0}
 IsPlainBuilt (commands.Day w) = Unit {0}
+IsPlainBuilt (commands.Condition w k is) = 0 < length is
 IsPlainBuilt (commands.Holds w left right) = Unit {0}
 IsPlainBuilt (commands.Hom v w gens images) = length gens.values ≤ SCRIPT
 IsPlainBuilt (commands.Central w alpha beta delta) = Unit {0}
@@ -90,6 +92,7 @@ PlainReply s b (commands.Cg w pairs) bytes = CgReply s w pairs bytes
 PlainReply s b (commands.Con w) bytes = ConReply s b w bytes
 PlainReply s b (commands.Types w) bytes = TypesReply s b w bytes
 PlainReply s b (commands.Day w) bytes = ChainReply s b w chains.Day bytes
+PlainReply s b (commands.Condition w k is) bytes = ConditionReply s b w k is bytes
 PlainReply s b (commands.Holds w left right) bytes = HoldsReply s w left right bytes
 PlainReply s b (commands.Hom v w gens images) bytes = HomReply s b v w gens images bytes
 PlainReply s b (commands.Central w alpha beta delta) bytes = CentralReply s b w alpha beta delta bytes

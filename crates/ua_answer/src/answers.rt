@@ -12,6 +12,7 @@ use crate::close::answer_close;
 use crate::comm::answer_comm;
 use crate::con::answer_con;
 use crate::cond::{answer_cond, answer_nu};
+use crate::condition::answer_condition;
 use crate::context::Context;
 use crate::eval::answer_eval;
 use crate::free::answer_free;
@@ -82,6 +83,11 @@ fn answer_plain<R: Threads + Sync, G: Gate>(
         Command::Con { algebra } => answer_con(context, algebra),
         Command::Types { algebra } => answer_types(context, algebra),
         Command::Day { algebra } => answer_chain(context, algebra, ChainWord::Day),
+        Command::Condition {
+            algebra,
+            arity,
+            identities,
+        } => answer_condition(context, algebra, *arity, identities.as_slice()),
         Command::Central {
             algebra,
             alpha,

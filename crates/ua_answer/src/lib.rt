@@ -11,6 +11,7 @@ mod closing;
 mod comm;
 mod con;
 mod cond;
+mod condition;
 mod congruences;
 mod context;
 mod eval;
