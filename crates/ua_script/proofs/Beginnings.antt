@@ -73,6 +73,7 @@ begun (commands.Con a) = starts refl refl refl
 begun (commands.Types a) = starts refl refl refl
 begun (commands.Day a) = starts refl refl refl
 begun (commands.Condition a k is) = starts refl refl refl
+begun (commands.Clone a k kind ps) = starts refl refl refl
 begun (commands.Central a alpha beta delta) = starts refl refl refl
 begun (commands.Comm a alpha beta) = starts refl refl refl
 begun (commands.Series a kind) = starts refl refl refl

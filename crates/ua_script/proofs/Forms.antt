@@ -27,16 +27,19 @@ use Rattle.ua_script.specs.declared.script.Mode.TheVariants as modes
 use Rattle.ua_script.specs.declared.script.PartText.{PartText}
 use Rattle.ua_script.specs.declared.script.CondWord.{CondWord}
 use Rattle.ua_script.specs.declared.script.IdentityText.{IdentityText}
+use Rattle.ua_script.specs.declared.script.CloneWord.{CloneWord}
+use Rattle.ua_script.specs.declared.script.PointsText.{PointsText}
+use Rattle.ua_script.specs.declared.script.PointsText.TheVariants.{Total, Partial}
 use Rattle.ua_script.specs.declared.script.SeriesWord.{SeriesWord}
 use Rattle.ua_script.specs.declared.script.MakeForm.{MakeForm}
 use Rattle.ua_script.specs.declared.script.MakeForm.TheVariants.{Product, Quotient, Sub, Reduct}
 use Rattle.ua_script.specs.declared.script.Provable.TheVariants as provables
 use Rattle.ua_script.specs.declared.script.Command.TheVariants as commands
 use Rattle.ua_script.specs.declared.script.Item.TheVariants as items
-use Rattle.ua_script.specs.Grammar.{word, further, number, entry, vector, part, part_blocks, identity, cond_word, series_word, IsPart, names, mode, construction, IsConstruction, forms_built}
+use Rattle.ua_script.specs.Grammar.{word, further, number, entry, vector, part, part_blocks, identity, points, clone_word, cond_word, series_word, IsPart, names, mode, construction, IsConstruction, forms_built}
 use Rattle.ua_script.specs.declared.commands.FirstWord.{FirstWord}
 use Rattle.ua_script.specs.declared.commands.FirstWord.TheVariants as firsts
-use Rattle.ua_script.specs.Reading.{IsShort, IsShortEntry, IsShortVector, IsShortBlock, IsNamed, IsShortConstruction, IsReadableItem, first_text, first_words, found_first}
+use Rattle.ua_script.specs.Reading.{IsShort, IsShortEntry, IsShortVector, IsShortBlock, IsNamed, IsShortConstruction, ArePointsShort, IsReadableItem, first_text, first_words, found_first}
 use Rattle.ua_script.proofs.ReadLemmas.{close_of}
 use Rattle.ua_script.proofs.Beginnings.{begun}
 
@@ -242,6 +245,18 @@ pub record IsCondition (c : Command) (rest : List Wanted) : Type 0 where
   pub short : IsShort arity
   pub behind : rest ≡ word algebra ∷ number roles.Amount arity ∷ flat_map identity identities
 
+-- the parts of a `clone`, and the tokens behind its word
+pub record IsClone (c : Command) (rest : List Wanted) : Type 0 where
+  pub algebra : Word
+  pub arity : Number
+  pub kind : CloneWord
+  pub values : PointsText
+  pub is : c ≡ commands.Clone algebra arity kind values
+  pub named : is_name algebra.name ≡ true
+  pub short : IsShort arity
+  pub short_values : ArePointsShort values
+  pub behind : rest ≡ word algebra ∷ number roles.Amount arity ∷ sign roles.Exact (clone_word kind) ∷ points values
+
 -- the parts of a command that begins with a word
 abbrev pub IsForm : FirstWord → Command → List Wanted → Type 0
 IsForm firsts.Close c rest = IsClose c rest
@@ -264,6 +279,7 @@ IsForm firsts.Jonsson c rest = IsJonsson c rest
 IsForm firsts.Hm c rest = IsHm c rest
 IsForm firsts.Day c rest = IsDay c rest
 IsForm firsts.Condition c rest = IsCondition c rest
+IsForm firsts.Clone c rest = IsClone c rest
 IsForm firsts.Make c rest = IsMake c rest
 
 short_entries : (es : List Entry) → AreSpelled forms_built (map entry es) → AllByRecursion IsShortEntry es
@@ -314,6 +330,10 @@ short_construction v (Product a b) i h = (h.1.0, h.1.1.0)
 short_construction v (Quotient a p) i h = (h.1.0, short_part p i h.1.1)
 short_construction v (Sub a x) i h = (h.1.0, short_vector x h.1.1)
 short_construction v (Reduct a ops) i h = (h.1.0, short_listed ops (spelled_left forms_built (names ops) (sign roles.Closes (codes ")") ∷ []) h.1.1.1))
+
+short_points : (ps : PointsText) → AreSpelled forms_built (points ps) → ArePointsShort ps
+short_points (Total v) h = short_vector v h.1
+short_points (Partial v vs) h = (short_vector v (spelled_left forms_built (vector v) (flat_map vector vs) h.1), short_vectors vs (spelled_right forms_built (vector v) (flat_map vector vs) h.1))
 
 not_built : {P : Type 0} (t : List ℕ) → among t forms_built ≡ false → Contains forms_built t → P
 not_built t e h = absurd (false≢true (sym e ∙ contains_among forms_built t h))
@@ -374,6 +394,7 @@ form_of (commands.Ask (provables.Hm a) modes.Count false) r = absurd r.formed.0
 form_of (commands.Types a) r = record { first = firsts.Types; named = refl; found = refl; parts = record { algebra = a; is = refl; named = r.spelled.1.0; behind = refl } }
 form_of (commands.Day a) r = record { first = firsts.Day; named = refl; found = refl; parts = record { algebra = a; is = refl; named = r.spelled.1.0; behind = refl } }
 form_of (commands.Condition a k is) r = record { first = firsts.Condition; named = refl; found = refl; parts = record { algebra = a; arity = k; identities = is; is = refl; named = r.spelled.1.0; short = r.spelled.1.1.0; behind = refl } }
+form_of (commands.Clone a k kind ps) r = record { first = firsts.Clone; named = refl; found = refl; parts = record { algebra = a; arity = k; kind = kind; values = ps; is = refl; named = r.spelled.1.0; short = r.spelled.1.1.0; short_values = short_points ps r.spelled.1.1.1.1; behind = refl } }
 form_of (commands.Ask what m true) r = not_built (codes "cert") refl r.spelled.0
 form_of (commands.Check a json) r = not_built (codes "check") refl r.spelled.0
 

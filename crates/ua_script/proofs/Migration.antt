@@ -9,6 +9,10 @@ use Rattle.ua_script.specs.declared.script.Entry.TheVariants as entries
 use Rattle.ua_script.specs.declared.script.Items.{Items}
 use Rattle.ua_script.specs.declared.script.Provable.{Provable}
 use Rattle.ua_script.specs.declared.script.Provable.TheVariants as provables
+use Rattle.ua_script.specs.declared.script.CloneWord.{CloneWord}
+use Rattle.ua_script.specs.declared.script.CloneWord.TheVariants.{Term, Polynomial}
+use Rattle.ua_script.specs.declared.script.PointsText.{PointsText}
+use Rattle.ua_script.specs.declared.script.PointsText.TheVariants.{Total, Partial}
 use Rattle.ua_script.specs.declared.script.MakeForm.{MakeForm}
 use Rattle.ua_script.specs.declared.script.MakeForm.TheVariants as forms
 use Rattle.ua_script.specs.declared.script.Command.{Command}
@@ -16,7 +20,7 @@ use Rattle.ua_script.specs.declared.script.Command.TheVariants as commands
 use Rattle.ua_script.specs.declared.script.Item.{Item}
 use Rattle.ua_script.specs.declared.script.Item.TheVariants as items
 use Rattle.ua_script.specs.declared.script.Script.{Script}
-use Rattle.ua_script.specs.Grammar.{IsEntry, IsVector, AreVectors, IsProvable, IsConstruction, IsCommand, IsItem, IsWellFormed, migrated}
+use Rattle.ua_script.specs.Grammar.{IsEntry, IsVector, AreVectors, IsProvable, IsConstruction, IsCommand, IsItem, IsWellFormed, migrated, points, clone_word, ArePoints, vector}
 
 later_names : (version size : ℕ) (names : List (List ℕ)) → MayName version size names → MayName 2 size names
 later_names version size names (inl e) = inl e
@@ -39,6 +43,10 @@ later_vector version v h = later_entries version v.values h
 later_vectors : (version : ℕ) (vs : List Items) → AreVectors version vs → AreVectors 2 vs
 later_vectors version [] h = tt
 later_vectors version (v ∷ vs) h = (later_vector version v h.0, later_vectors version vs h.1)
+
+later_points : (version : ℕ) (ps : PointsText) → ArePoints version ps → ArePoints 2 ps
+later_points version (Total v) h = later_vector version v h
+later_points version (Partial v vs) h = (later_vector version v h.0, later_vectors version vs h.1)
 
 later_provable : (version : ℕ) (p : Provable) → IsProvable version p → IsProvable 2 p
 later_provable version (provables.Close a w gens) h = later_vectors version gens h
@@ -65,6 +73,7 @@ later_command version (commands.Con a) h = tt
 later_command version (commands.Types a) h = tt
 later_command version (commands.Day a) h = tt
 later_command version (commands.Condition a k is) h = h
+later_command version (commands.Clone a k kind ps) h = later_points version ps h
 later_command version (commands.Central a alpha beta delta) h = h
 later_command version (commands.Comm a alpha beta) h = h
 later_command version (commands.Series a kind) h = tt

@@ -21,6 +21,7 @@ ghost use Rattle.ua_term.specs.Terms.{term};
 ghost use Rattle.ua_script.specs.Grammar.{word, number, vector, mode, command};
 ghost use Rattle.ua_script.specs.Reading.{IsShort, IsShortVector, begins_item, IsReadableItem, first_words, found_first};
 
+use crate::clones::clone_membership;
 use crate::conditions::{cond, condition, day, hm, jonsson, nu};
 use crate::congruences::{central, cg, comm, con, descent, types};
 use crate::constructions::make;
@@ -184,6 +185,7 @@ enum FirstWord {
     Hm,
     Day,
     Condition,
+    Clone,
     Make,
 }
 
@@ -216,6 +218,7 @@ impl FirstWord {
             FirstWord::Hm => b"hm",
             FirstWord::Day => b"day",
             FirstWord::Condition => b"condition",
+            FirstWord::Clone => b"clone",
             FirstWord::Make => b"make",
         }
     }
@@ -242,6 +245,7 @@ const FIRST_WORDS: &[FirstWord] = &[
     FirstWord::Hm,
     FirstWord::Day,
     FirstWord::Condition,
+    FirstWord::Clone,
     FirstWord::Make,
 ];
 
@@ -285,6 +289,7 @@ pub fn command(alloc: Global, tokens: &mut Tokens<'_>) -> Result<Command, Miss>
         Some(FirstWord::Hm) => hm(alloc, tokens),
         Some(FirstWord::Day) => day(alloc, tokens),
         Some(FirstWord::Condition) => condition(alloc, tokens),
+        Some(FirstWord::Clone) => clone_membership(alloc, tokens),
         Some(FirstWord::Make) => make(alloc, place_of(&first), tokens),
         None => Err(Miss::Other),
     }

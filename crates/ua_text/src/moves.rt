@@ -80,7 +80,7 @@ fn role_of(table: Table) -> Role
     match table {
         Table::Commands => Role::Begins,
         Table::Provables => Role::Form,
-        Table::Constructions => Role::Exact,
+        Table::Constructions | Table::Points => Role::Exact,
     }
 }
 

@@ -7,7 +7,7 @@ use Rattle.ua_text.specs.Reading.{Gives}
 use Rattle.ua_script.specs.declared.script.Command.TheVariants as commands
 use Rattle.ua_script.specs.declared.commands.FirstWord.TheVariants as firsts
 use Rattle.ua_script.specs.Reading.{first_words, found_first}
-use Rattle.ua_script.specs.Grammar.{word, number, vector, mode, identity, cond_word, series_word, construction}
+use Rattle.ua_script.specs.Grammar.{word, number, vector, mode, identity, points, clone_word, cond_word, series_word, construction}
 use Rattle.ua_script.proofs.Beginnings.{begun, its_word, behind_word}
 use Rattle.ua_script.proofs.Forms.{form_of, form_found, close_front, member_front, eval_front, holds_front, hom_front, central_front, comm_front, plain_front}
 use Rattle.ua_script.proofs.commands.command.Goals as goal
@@ -196,6 +196,15 @@ returns-in-Some-Condition-clause-only c = λ v k ws r b f.
     let q = form_found k r c.in_ok-first.first.text.now c.first_word.result firsts.Condition (its_word g.first g.word c.in_ok-first.first.text.now g.spelled s.0) c.first_word.ensures found in
     subst (λ z. Gives c.condition.result (λ x. (x ≡ z) × Front (tokens_left c.condition.new.tokens) ws [])) (sym q.is)
     (c.condition.ensures.only q.algebra q.arity q.identities ws q.named q.short b (plain_front g.rest (word q.algebra ∷ number roles.Amount q.arity ∷ flat_map identity q.identities) ws (tokens_left c.next.new.tokens) q.behind s.2))
+
+pub returns-in-Some-Clone-clause-only : goal.returns-in-Some-Clone-clause-only
+returns-in-Some-Clone-clause-only c = λ v k ws r b f.
+    let g = begun k in
+    let s = c.in_ok-first.ensures.only g.first (g.rest ++ ws) [] (behind_word k (tokens_left c.args.tokens.now) ws f) in
+    let found : c.first_word.result ≡ Some firsts.Clone = let h = c.in-Some-Clone.is in cc in
+    let q = form_found k r c.in_ok-first.first.text.now c.first_word.result firsts.Clone (its_word g.first g.word c.in_ok-first.first.text.now g.spelled s.0) c.first_word.ensures found in
+    subst (λ z. Gives c.clone_membership.result (λ x. (x ≡ z) × Front (tokens_left c.clone_membership.new.tokens) ws [])) (sym q.is)
+    (c.clone_membership.ensures.only q.algebra q.arity q.kind q.values ws q.named q.short q.short_values b (plain_front g.rest (word q.algebra ∷ number roles.Amount q.arity ∷ sign roles.Exact (clone_word q.kind) ∷ points q.values) ws (tokens_left c.next.new.tokens) q.behind s.2))
 
 pub returns-in-Some-Make-clause-only : goal.returns-in-Some-Make-clause-only
 returns-in-Some-Make-clause-only c = λ v k ws r b f.
