@@ -1,5 +1,5 @@
 -- Chains of terms and climbs of rows.
-use Rattle.std.proofs.Common.{◌≡◌, ◌≢◌, ℕ, zero, suc, ◌<◌, Bool, true, false, not, List, [], ◌∷◌, ◌++◌, length, map, get_or, set, replicate, refl, sym, ap, ◌∙◌, subst, arith, Some, ⊎_elim, inl, inr}
+use Rattle.std.proofs.Common.{◌≡◌, ◌≢◌, ℕ, zero, suc, ◌<◌, ◌≤◌, Bool, true, false, not, List, [], ◌∷◌, ◌++◌, length, map, get_or, set, replicate, refl, sym, ap, ◌∙◌, subst, arith, Some, ⊎_elim, inl, inr}
 use Rattle.std.specs.Prelude.{Contains, ◌↔◌, ◌⊎◌, ◌||◌, slice_get, slice_index}
 use Rattle.std.specs.List.{AllByRecursion, AllZip}
 use Rattle.std.proofs.lemmas.List.{length-map, length-replicate, get_or-set_same, get_or-set_other, length-set, get_or-replicate, get_or_past}
@@ -8,19 +8,21 @@ use Rattle.std.proofs.lemmas.Bool.{cases_lt, false≢true}
 use Rattle.ua_table.specs.Algebras.{Vector, FiniteAlgebra, arities, arities_of}
 use Rattle.ua_table.specs.Terms.{Tree, Generator, IsTerm, eval}
 use Rattle.ua_table.specs.Generated.{Sg}
+use Rattle.std.proofs.lemmas.List.FromFn.{length-map-range_with_len}
 use Rattle.ua_table.specs.Counting.{numbers_below}
-use Rattle.ua_table.proofs.Counts.{length-numbers_below}
 use Rattle.ua_table.proofs.Lists.{Contains-slice_get, Contains-map, Contains-map_from, Contains-flat_map, Contains-flat_map_from, all_at, found}
-use Rattle.ua_identity.proofs.ZipLaws.{alternates_zip, alternates_unzip, all_zip, all_unzip, ends_unzip, ends_weaker, length_zip, even_zip}
-use Rattle.std.proofs.lemmas.List.Elements.{All-from_recursion}
+use Rattle.ua_chain.proofs.ZipLaws.{alternates_zip, alternates_unzip, all_zip, all_unzip, ends_unzip, ends_weaker, length_zip, even_zip}
+use Rattle.std.proofs.lemmas.List.Elements.{All-from_recursion, Contains-push, Contains-append_left}
 use Rattle.ua_walk.specs.Sequences.{BeginsWith, EndsWith, ends_even}
 use Rattle.ua_walk.specs.Ladders.{LinkLists, Joins, IsAllowed, IsClimb, IsLeastClimb, IsClimbed}
-use Rattle.ua_identity.specs.Identities.{Pattern, Identity, IsAssignment, filled, Satisfies, IsPlace}
-use Rattle.ua_identity.specs.Chains.{ChainKind, AreLinked, IsOwn, IsBeginning, IsChain, IsLeastChain}
-use Rattle.ua_identity.specs.Kinds.{IsKind, IsOwnIdentity, IsPattern}
-use Rattle.ua_identity.specs.Patterns.{assignments, fillings, all_fillings, vector_of, place_vector, power, generators, IsReached}
-use Rattle.ua_identity.specs.Charts.{IsRowOf, IsChart}
-use Rattle.ua_identity.proofs.PatternLaws.{AreFilled, value_is_vector, mapped_or, maps_agree, agree_maps, assignment_from, assignment_in}
+use Rattle.ua_term.specs.Assignments.{IsAssignment, assignments}
+use Rattle.ua_term.proofs.AssignmentLaws.{assignment_from, assignment_in}
+use Rattle.ua_identity.specs.Identities.{VariablePattern, TermIdentity, filled, Satisfies}
+use Rattle.ua_identity.specs.Chains.{ChainKind, AreLinked, IsPlace, IsOwn, IsBeginning, IsChain, IsLeastChain, IsReached}
+use Rattle.ua_identity.specs.Kinds.{IsKind, IsOwnIdentity, IsPatternOf, AreApart}
+use Rattle.ua_identity.specs.Patterns.{fillings, all_fillings, vector_of, place_vector, power, generators}
+use Rattle.ua_chain.specs.Charts.{IsRowOf, IsChart}
+use Rattle.ua_identity.proofs.PatternLaws.{AreFilled, value_is_vector, mapped_or, maps_agree, agree_maps}
 
 -- ---- terms and members
 
@@ -29,7 +31,7 @@ arities_power zero a l = absurd (omega (arith, l))
 arities_power (suc n) a l = refl
 
 -- each filling has as many places
-fillings_filled : (places : ℕ) (p : Pattern) (xss : List (List ℕ)) → length p.places ≡ places → AreFilled places (map (filled p) xss)
+fillings_filled : (places : ℕ) (p : VariablePattern) (xss : List (List ℕ)) → length p.places ≡ places → AreFilled places (map (filled p) xss)
 fillings_filled places p [] e = tt
 fillings_filled places p (xs ∷ xss) e = (length-map p.places (slice_index xs) ∙ e, fillings_filled places p xss e)
 
@@ -37,12 +39,12 @@ filled_joined : (places : ℕ) (fs gs : List (List ℕ)) → AreFilled places fs
 filled_joined places [] gs h k = k
 filled_joined places (xs ∷ fs) gs h k = (h.0, filled_joined places fs gs h.1 k)
 
-pub all_filled : (places n : ℕ) (ps : List Pattern) → AllByRecursion (IsPattern places) ps → AreFilled places (all_fillings n ps)
+pub all_filled : (places n : ℕ) (ps : List VariablePattern) → AllByRecursion (IsPatternOf places) ps → AreFilled places (all_fillings n ps)
 all_filled places n [] h = tt
 all_filled places n (p ∷ ps) h = filled_joined places (fillings n p) (all_fillings n ps) (fillings_filled places p (assignments n p.variables) h.0.count) (all_filled places n ps h.1)
 
-pub generator_count : (a : FiniteAlgebra) (ps : List Pattern) (places : ℕ) → length (generators a ps places) ≡ places
-generator_count a ps places = length-map (numbers_below places) (place_vector (all_fillings a.size ps)) ∙ length-numbers_below places
+pub generator_count : (a : FiniteAlgebra) (ps : List VariablePattern) (places : ℕ) → length (generators a ps places) ≡ places
+generator_count a ps places = length-map-range_with_len (place_vector (all_fillings a.size ps)) 0 places
 
 -- the vector of a term is a member, and each member is the vector of a term
 pub member_of_term : (a : FiniteAlgebra) (kind : ChainKind) (t : Tree) → IsKind kind → 0 < length (all_fillings a.size kind.patterns) → IsTerm (arities_of a) kind.places t → Sg (power a kind.patterns) (generators a kind.patterns kind.places) (vector_of a kind.patterns t)
@@ -62,18 +64,18 @@ term_of_member a kind v k wide s =
 
 -- ---- places
 
-filling_assigns : (a : FiniteAlgebra) (places : ℕ) (p : Pattern) (xs : List ℕ) → IsPattern places p → IsAssignment a p.variables xs → IsAssignment a places (filled p xs)
+filling_assigns : (a : FiniteAlgebra) (places : ℕ) (p : VariablePattern) (xs : List ℕ) → IsPatternOf places p → IsAssignment a.size p.variables xs → IsAssignment a.size places (filled p xs)
 filling_assigns a places p xs h k = record { count = length-map p.places (slice_index xs) ∙ h.count; elements = each p.places h.named }
   where
     each : (vs : List ℕ) → AllByRecursion (λ v. v < p.variables) vs → AllByRecursion (λ x. x < a.size) (map (slice_index xs) vs)
     each [] n = tt
     each (v ∷ vs) n = (All-from_recursion (λ x. x < a.size) xs k.elements v 0 (let low = n.0 in let long = k.count in omega arith), each vs n.1)
 
-pub fillings_assign : (a : FiniteAlgebra) (places : ℕ) (ps : List Pattern) (ys : List ℕ) → AllByRecursion (IsPattern places) ps → Contains (all_fillings a.size ps) ys → IsAssignment a places ys
+pub fillings_assign : (a : FiniteAlgebra) (places : ℕ) (ps : List VariablePattern) (ys : List ℕ) → AllByRecursion (IsPatternOf places) ps → Contains (all_fillings a.size ps) ys → IsAssignment a.size places ys
 fillings_assign a places ps ys h c =
     let p = Contains-flat_map_from (fillings a.size) ys ps c in
     let xs = Contains-map_from (filled p.0) ys (assignments a.size p.0.variables) p.2 in
-    subst (IsAssignment a places) xs.2 (filling_assigns a places p.0 xs.0 (all_at (IsPattern places) ps p.0 h p.1) (assignment_from a p.0.variables xs.0 xs.1))
+    subst (IsAssignment a.size places) xs.2 (filling_assigns a places p.0 xs.0 (all_at (IsPatternOf places) ps p.0 h p.1) (assignment_from a.size p.0.variables xs.0 xs.1))
 
 -- a term that is always at place j has the vector of generator j
 pub place_has_vector : (a : FiniteAlgebra) (kind : ChainKind) (j : ℕ) (t : Tree) → IsKind kind → IsPlace a kind.places j t → vector_of a kind.patterns t ≡ vector_of a kind.patterns (Generator j)
@@ -81,25 +83,29 @@ place_has_vector a kind j t k h =
     maps_agree (λ xs. eval a xs t) (λ xs. slice_index xs j) (all_fillings a.size kind.patterns) (λ xs c. h xs (fillings_assign a kind.places kind.patterns xs k.patterns c))
 
 -- place 0 and the end satisfy what each term does
-place_satisfies : (a : FiniteAlgebra) (i : Identity) (j : ℕ) → j < length i.pattern.places → slice_index i.pattern.places j ≡ i.value → Satisfies a (Generator j) i
+place_satisfies : (a : FiniteAlgebra) (i : TermIdentity) (j : ℕ) → j < length i.pattern.places → slice_index i.pattern.places j ≡ i.value → Satisfies a (Generator j) i
 place_satisfies a i j l e xs h = mapped_or (slice_index xs) i.pattern.places j 0 0 l ∙ ap (slice_index xs) e
 
-first_owns : (a : FiniteAlgebra) (kind : ChainKind) (is : List Identity) → 0 < kind.places → AllByRecursion (IsOwnIdentity kind) is → AllByRecursion (Satisfies a (Generator 0)) is
+first_owns : (a : FiniteAlgebra) (kind : ChainKind) (is : List TermIdentity) → 0 < kind.places → AllByRecursion (IsOwnIdentity kind) is → AllByRecursion (Satisfies a (Generator 0)) is
 first_owns a kind [] l h = tt
 first_owns a kind (i ∷ is) l h = (place_satisfies a i 0 (let n = h.0.pattern.count in omega arith) h.0.first, first_owns a kind is l h.1)
 
-end_owns : (a : FiniteAlgebra) (kind : ChainKind) (is : List Identity) → kind.end < kind.places → AllByRecursion (IsOwnIdentity kind) is → AllByRecursion (Satisfies a (Generator kind.end)) is
+end_owns : (a : FiniteAlgebra) (kind : ChainKind) (is : List TermIdentity) → kind.end < kind.places → AllByRecursion (IsOwnIdentity kind) is → AllByRecursion (Satisfies a (Generator kind.end)) is
 end_owns a kind [] l h = tt
 end_owns a kind (i ∷ is) l h = (place_satisfies a i kind.end (let n = h.0.pattern.count in omega arith) h.0.last, end_owns a kind is l h.1)
 
 pub first_is_own : (a : FiniteAlgebra) (kind : ChainKind) → IsKind kind → IsOwn a kind (Generator 0)
-first_is_own a kind k = first_owns a kind kind.own k.some k.own
+first_is_own a kind k = first_owns a kind kind.own (let some = k.some in let end = k.end in omega arith) k.own
 
 pub end_is_own : (a : FiniteAlgebra) (kind : ChainKind) → IsKind kind → IsOwn a kind (Generator kind.end)
 end_is_own a kind k = end_owns a kind kind.own k.end k.own
 
+number_in : (n j : ℕ) → j < n → Contains (numbers_below n) j
+number_in zero j l = absurd (omega (arith, l))
+number_in (suc n) j l = ⊎_elim (λ low. Contains-append_left (numbers_below n) (n ∷ []) j (number_in n j low)) (λ high. let same : n ≡ j = omega (arith, l, high) in subst (Contains (numbers_below n ++ n ∷ [])) same (Contains-push (numbers_below n) n)) (cases_lt j n)
+
 -- an assignment with two given elements at two variables
-two_elements : (a : FiniteAlgebra) (n v w x y : ℕ) → v < n → w < n → v ≢ w → x < a.size → y < a.size → (xs : List ℕ) × IsAssignment a n xs × (slice_index xs v ≡ x) × (slice_index xs w ≡ y)
+two_elements : (a : FiniteAlgebra) (n v w x y : ℕ) → v < n → w < n → v ≢ w → x < a.size → y < a.size → (xs : List ℕ) × IsAssignment a.size n xs × (slice_index xs v ≡ x) × (slice_index xs w ≡ y)
 two_elements a n v w x y lv lw apart lx ly =
     let xs = set (replicate n x) w y in
     let long = length-replicate n x in (
@@ -118,26 +124,59 @@ two_elements a n v w x y lv lw apart lx ly =
     all_set (z ∷ zs) zero h = (ly, h.1)
     all_set (z ∷ zs) (suc w) h = (h.0, all_set zs w h.1)
 
+all_zero : (n k : ℕ) → 0 < n → AllByRecursion (λ x. x < n) (replicate k 0)
+all_zero n zero some = tt
+all_zero n (suc k) some = (some, all_zero n k some)
+
+-- an earlier place is apart from the end at some pattern
+apart_at : (kind : ChainKind) (j : ℕ) → IsKind kind → j < kind.end → AreApart kind.patterns j kind.end
+apart_at kind j k l = all_at (λ i. AreApart kind.patterns i kind.end) (numbers_below kind.end) j k.apart (number_in kind.end j l)
+
+-- so the patterns have fillings
+pub some_fillings : (n : ℕ) (kind : ChainKind) → IsKind kind → 0 < n → 0 < length (all_fillings n kind.patterns)
+some_fillings n kind k some =
+    let apart = apart_at kind 0 k k.some in
+    let p = apart.pattern in
+    let zeros = replicate p.variables 0 in
+    let assigns = assignment_in n p.variables (replicate p.variables 0) (record { count = length-replicate p.variables 0; elements = all_zero n p.variables some }) in
+    let here = Contains-flat_map (fillings n) p (filled p (replicate p.variables 0)) kind.patterns apart.there (Contains-map (filled p) (replicate p.variables 0) (assignments n p.variables) assigns) in
+    let within = here.1 in
+    omega (arith, within)
+
+-- where an earlier place and the end have the same vector, there is one element
+pub one_element : (a : FiniteAlgebra) (kind : ChainKind) (j : ℕ) → IsKind kind → j < kind.end → vector_of a kind.patterns (Generator j) ≡ vector_of a kind.patterns (Generator kind.end) → (x y : ℕ) → x < a.size → y < a.size → x ≡ y
+one_element a kind j k l same x y lx ly =
+    let apart = apart_at kind j k l in
+    let p = apart.pattern in
+    let is = all_at (IsPatternOf kind.places) kind.patterns p k.patterns apart.there in
+    let v = slice_index p.places j in
+    let w = slice_index p.places kind.end in
+    let count = is.count in
+    let last = k.end in
+    let lv = All-from_recursion (λ u. u < p.variables) p.places is.named j 0 (omega arith) in
+    let lw = All-from_recursion (λ u. u < p.variables) p.places is.named kind.end 0 (omega arith) in
+    let two = two_elements a p.variables v w x y lv lw apart.apart lx ly in
+    let here = Contains-flat_map (fillings a.size) p (filled p two.0) kind.patterns apart.there (Contains-map (filled p) two.0 (assignments a.size p.variables) (assignment_in a.size p.variables two.0 two.1)) in
+    let agree = agree_maps (λ ys. slice_index ys j) (λ ys. slice_index ys kind.end) (all_fillings a.size kind.patterns) same (filled p two.0) here in
+    sym two.2 ∙ sym (mapped_or (slice_index two.0) p.places j 0 0 (omega arith)) ∙ agree ∙ mapped_or (slice_index two.0) p.places kind.end 0 0 (omega arith) ∙ two.3
+
 -- where place 0 and the end have the same vector, place 0 is the end
 pub ends_at_first : (a : FiniteAlgebra) (kind : ChainKind) → IsKind kind → vector_of a kind.patterns (Generator 0) ≡ vector_of a kind.patterns (Generator kind.end) → IsPlace a kind.places kind.end (Generator 0)
 ends_at_first a kind k same xs h =
-    let p = kind.even.pattern in
-    let v = slice_index p.places 0 in
-    let w = slice_index p.places kind.end in
-    let count = k.even.pattern.count in
-    let some = k.some in
-    let last = k.end in
     let long = h.count in
-    let lv = All-from_recursion (λ u. u < p.variables) p.places k.even.pattern.named 0 0 (omega arith) in
-    let lw = All-from_recursion (λ u. u < p.variables) p.places k.even.pattern.named kind.end 0 (omega arith) in
-    let x = slice_index xs 0 in
-    let y = slice_index xs kind.end in
-    let lx = All-from_recursion (λ u. u < a.size) xs h.elements 0 0 (omega arith) in
-    let ly = All-from_recursion (λ u. u < a.size) xs h.elements kind.end 0 (omega arith) in
-    let two = two_elements a p.variables v w x y lv lw k.apart lx ly in
-    let here = Contains-flat_map (fillings a.size) p (filled p two.0) kind.patterns k.has_even (Contains-map (filled p) two.0 (assignments a.size p.variables) (assignment_in a p.variables two.0 two.1)) in
-    let agree = agree_maps (λ ys. slice_index ys 0) (λ ys. slice_index ys kind.end) (all_fillings a.size kind.patterns) same (filled p two.0) here in
-    sym two.2 ∙ sym (mapped_or (slice_index two.0) p.places 0 0 0 (omega arith)) ∙ agree ∙ mapped_or (slice_index two.0) p.places kind.end 0 0 (omega arith) ∙ two.3
+    let last = k.end in
+    let some = k.some in
+    one_element a kind 0 k k.some same (slice_index xs 0) (slice_index xs kind.end)
+    (All-from_recursion (λ u. u < a.size) xs h.elements 0 0 (omega arith))
+    (All-from_recursion (λ u. u < a.size) xs h.elements kind.end 0 (omega arith))
+
+-- so all places have the same vector
+pub same_vectors : (a : FiniteAlgebra) (kind : ChainKind) (i j : ℕ) → IsKind kind → i < kind.places → j < kind.places → ((x y : ℕ) → x < a.size → y < a.size → x ≡ y) → vector_of a kind.patterns (Generator i) ≡ vector_of a kind.patterns (Generator j)
+same_vectors a kind i j k li lj one =
+    maps_agree (λ ys. slice_index ys i) (λ ys. slice_index ys j) (all_fillings a.size kind.patterns) (λ ys c.
+    let h = fillings_assign a kind.places kind.patterns ys k.patterns c in
+    let long = h.count in
+    one (slice_index ys i) (slice_index ys j) (All-from_recursion (λ u. u < a.size) ys h.elements i 0 (omega arith)) (All-from_recursion (λ u. u < a.size) ys h.elements j 0 (omega arith)))
 
 -- ---- rows and terms
 
@@ -250,6 +289,20 @@ module _ (a : FiniteAlgebra) (kind : ChainKind) (vectors : List Vector) (allowed
           λ xs g. ap (eval a xs) f ∙ ends_at_first a kind k same xs g
       is_last (t ∷ []) (i ∷ j ∷ rows) z f l ends begins = absurd z.1
       is_last (t ∷ u ∷ terms) rows z f l ends begins = ends_weaker (λ w. w ≡ Generator kind.end) (IsPlace a kind.places kind.end) (λ w same xs g. ap (eval a xs) same) (t ∷ u ∷ terms) (l (omega arith))
+
+  -- where a least climb has more than one row, no earlier place has the vector of the end
+  pub end_is_first : (start end : ℕ) (rows : List ℕ) → IsRowOf a kind vectors (Generator 0) start → IsRowOf a kind vectors (Generator kind.end) end → IsLeastClimb allowed even odd start end rows → 1 < length rows → (j : ℕ) → j < kind.end → vector_of a kind.patterns (Generator j) ≡ vector_of a kind.patterns (Generator kind.end) → ⊥
+  end_is_first start end rows s e h more j l same =
+      let last = k.end in
+      let first : 0 < kind.places = omega (arith, last) in
+      let zero_same = same_vectors a kind 0 kind.end k first k.end (one_element a kind j k l same) in
+      let both : start ≡ end = c.once start end (vector_of a kind.patterns (Generator kind.end)) (s.stands ∙ ap Some zero_same) e.stands in
+      let few : length rows ≤ 1 = h.least (start ∷ []) (record { begins = refl; allows = (first_allowed rows h.climb.begins h.climb.allows, tt); joined = tt }) both in
+      omega (arith, more, few)
+    where
+      first_allowed : (rows : List ℕ) → BeginsWith (λ i. i ≡ start) rows → AllByRecursion (IsAllowed allowed) rows → IsAllowed allowed start
+      first_allowed [] b w = absurd b
+      first_allowed (i ∷ rows) b w = subst (IsAllowed allowed) b w.0
 
   -- where no climb leads to the end, there is no chain
   pub no_chain : (start end : ℕ) → IsRowOf a kind vectors (Generator 0) start → IsRowOf a kind vectors (Generator kind.end) end → ((rows : List ℕ) → IsClimb allowed even odd start rows → EndsWith (λ i. i ≡ end) rows → ⊥) → (terms : List Tree) → IsChain a kind terms → ⊥

@@ -2,11 +2,11 @@
 use Rattle.std.proofs.Common.{◌≡◌, ℕ, zero, suc, ◌+◌, ◌-◌, ◌*◌, ◌/◌, ◌%◌, ◌^◌, ◌<◌, List, [], ◌∷◌, ◌++◌, length, map, get_or, sym, ap, ◌∙◌, arith}
 use Rattle.std.specs.Prelude.{slice_index}
 use Rattle.std.specs.List.{flat_map, range_with_len}
-use Rattle.std.proofs.lemmas.List.{length-map, length-append, get_or_append_left, get_or-append-add}
+use Rattle.std.proofs.lemmas.List.{length-map, get_or-map, length-append, get_or_append_left, get_or-append-add}
 use Rattle.std.proofs.lemmas.Nat.{div-add-mod', div_below, mod_below, pow-add}
-use Rattle.std.proofs.Math.Nat.{mul-add-mod_self_right, mul-add-div_right, mod-eq_of_lt, pow-suc, pow-zero, one-le-pow}
-use Rattle.ua_identity.specs.Patterns.{assignments}
-use Rattle.ua_identity.proofs.PatternLaws.{mapped_or}
+use Rattle.std.proofs.Math.Nat.{mul-add-mod_self_right, mul-add-div_right, mod-eq_of_lt, pow-suc, one-le-pow}
+use Rattle.ua_term.specs.Assignments.{assignments}
+use Rattle.ua_term.proofs.AssignmentLaws.{length_assignments}
 
 -- ---- pieces of one length
 
@@ -33,12 +33,6 @@ piece_at g m h a (suc n) (suc q) r l low =
 
 -- ---- assignments
 
-pub length_assignments : (n k : ℕ) → length (assignments n k) ≡ n ^ k
-length_assignments n zero = sym (pow-zero n)
-length_assignments n (suc k) =
-    length_pieces (λ x. map (λ (t : List ℕ). x ∷ t) (assignments n k)) (n ^ k) (λ x. length-map (assignments n k) (λ (t : List ℕ). x ∷ t) ∙ length_assignments n k) 0 n
-    ∙ (let p = pow-suc n k in omega (arith, p))
-
 -- the first digit of a number, and the assignment of the rest
 assignment_at : (n k t : ℕ) → 0 < n → t < n ^ suc k → get_or (assignments n (suc k)) t [] ≡ t / n ^ k ∷ get_or (assignments n k) (t % n ^ k) []
 assignment_at n k t some l =
@@ -54,7 +48,7 @@ assignment_at n k t some l =
     let none_more : 0 + q ≡ q = omega arith in
     ap (λ j. get_or (assignments n (suc k)) j []) (sym whole)
     ∙ piece_at (λ x. map (λ (s : List ℕ). x ∷ s) (assignments n k)) m (λ x. length-map (assignments n k) (λ (s : List ℕ). x ∷ s) ∙ long) 0 n q r qlow rlow
-    ∙ mapped_or (λ (s : List ℕ). (0 + q) ∷ s) (assignments n k) r [] [] (omega (arith, rlow, long))
+    ∙ get_or-map (λ (s : List ℕ). (0 + q) ∷ s) (assignments n k) r [] [] (omega (arith, rlow, long))
     ∙ ap (λ j. j ∷ get_or (assignments n k) r []) none_more
 
 -- the digits of a number are its assignment

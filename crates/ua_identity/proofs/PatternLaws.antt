@@ -2,47 +2,26 @@
 use Rattle.std.proofs.Common.{◌≡◌, ℕ, zero, suc, ◌+◌, ◌<◌, List, [], ◌∷◌, ◌++◌, length, map, take, drop, get_or, replicate, refl, sym, ap, ◌∙◌, subst, arith, Some, ⊎_elim}
 use Rattle.std.specs.Prelude.{Contains, slice_get, slice_index}
 use Rattle.std.specs.List.{AllByRecursion, range_with_len}
-use Rattle.std.proofs.lemmas.List.{ext_get_or, length-map, length-replicate, length-append, map-append, take_at, get_or_append_left, get_or_at, drop-drop, drop_at}
-use Rattle.std.proofs.lemmas.Bool.{cases_lt}
+use Rattle.std.proofs.lemmas.List.{ext_get_or, get_or-map, length-map, length-replicate, length-append, map-append, take_at, drop-drop, drop_at}
+use Rattle.std.proofs.lemmas.List.FromFn.{length-map-range_with_len, get_or-map-range_with_len}
 use Rattle.ua_table.specs.Algebras.{Vector, FiniteAlgebra, arities_of, column}
-use Rattle.ua_table.specs.Counting.{numbers_below}
 use Rattle.ua_table.specs.Terms.{Tree, Generator, Application, IsTerm, term_value, term_values, eval}
 use Rattle.ua_table.proofs.Lists.{Contains-head, Contains-tail, Contains-cases, Contains-none, slice_get-replicate}
-use Rattle.ua_table.proofs.Choices.{IsChoice, chosen, choice_from, in_range, range_low}
 use Rattle.ua_table.proofs.TermLaws.{value_is_eval}
 use Rattle.ua_table.proofs.ApplyLemmas.{length-apply}
-use Rattle.ua_identity.specs.Identities.{Pattern, Identity, IsAssignment, filled, at_pattern, Satisfies}
+use Rattle.ua_term.specs.Assignments.{assignments}
+use Rattle.ua_term.proofs.AssignmentLaws.{assignment_in, assignment_from}
+use Rattle.ua_identity.specs.Identities.{VariablePattern, TermIdentity, filled, at_pattern, Satisfies}
 use Rattle.ua_identity.specs.Chains.{Link, AreLinked}
-use Rattle.ua_identity.specs.Patterns.{assignments, fillings, all_fillings, place_vector, start_of, part_of}
+use Rattle.ua_identity.specs.Patterns.{fillings, all_fillings, place_vector, start_of, part_of}
 
 -- ---- what stands at places
 
-pub mapped_or : {X Y : Type 0} (f : X → Y) (xs : List X) (i : ℕ) (d : X) (e : Y) → i < length xs → get_or (map f xs) i e ≡ f (get_or xs i d)
-mapped_or f [] i d e l = absurd (omega (arith, l))
-mapped_or f (x ∷ xs) zero d e l = refl
-mapped_or f (x ∷ xs) (suc i) d e l = mapped_or f xs i d e (omega (arith, l))
-
-length-numbers : (n : ℕ) → length (numbers_below n) ≡ n
-length-numbers zero = refl
-length-numbers (suc n) = let h = length-numbers n in length-append (numbers_below n) (n ∷ []) ∙ (omega arith)
-
-pub number_at : (n i d : ℕ) → i < n → get_or (numbers_below n) i d ≡ i
-number_at zero i d l = absurd (omega (arith, l))
-number_at (suc n) i d l =
-    let long = length-numbers n in
-    ⊎_elim
-    (λ (low : i < n). get_or_append_left (numbers_below n) (n ∷ []) d i (omega (arith, low, long)) ∙ number_at n i d low)
-    (λ high. let same : i ≡ n = omega (arith, l, high) in
-    ap (λ k. get_or (numbers_below n ++ n ∷ []) k d) same ∙ get_or_at (numbers_below n) n [] d n long ∙ sym same)
-    (cases_lt i n)
-
 -- the entries of a list at its places are the list
-read_all : (xs : List ℕ) (n : ℕ) → length xs ≡ n → map (slice_index xs) (numbers_below n) ≡ xs
+read_all : (xs : List ℕ) (n : ℕ) → length xs ≡ n → map (slice_index xs) (range_with_len 0 n) ≡ xs
 read_all xs n long =
-    let count = length-map (numbers_below n) (slice_index xs) ∙ length-numbers n in
-    ext_get_or 0 (map (slice_index xs) (numbers_below n)) xs (count ∙ sym long) (λ i l.
-    let low : i < n = omega (arith, l, count) in
-    mapped_or (slice_index xs) (numbers_below n) i 0 0 (omega (arith, low, length-numbers n)) ∙ ap (slice_index xs) (number_at n i 0 low))
+    let count = length-map-range_with_len (slice_index xs) 0 n in
+    ext_get_or 0 (map (slice_index xs) (range_with_len 0 n)) xs (count ∙ sym long) (λ i l. get_or-map-range_with_len (slice_index xs) 0 n i i 0 (omega (arith, l, count)) (omega arith))
 
 -- two maps of a list are equal where they are at each element
 pub maps_agree : {X Y : Type 0} (f g : X → Y) (xs : List X) → ((x : X) → Contains xs x → f x ≡ g x) → map f xs ≡ map g xs
@@ -64,27 +43,6 @@ pub map_twice : {X Y Z : Type 0} (f : Y → Z) (g : X → Y) (xs : List X) → m
 map_twice f g [] = refl
 map_twice f g (x ∷ xs) = ap (λ ys. f (g x) ∷ ys) (map_twice f g xs)
 
--- ---- assignments
-
-chosen_assignment : (n k : ℕ) (xs : List ℕ) → length xs ≡ k → AllByRecursion (λ x. x < n) xs → IsChoice (replicate k (range_with_len 0 n)) xs
-chosen_assignment n zero [] e h = tt
-chosen_assignment n zero (x ∷ xs) e h = absurd (omega (arith, e))
-chosen_assignment n (suc k) [] e h = absurd (omega (arith, e))
-chosen_assignment n (suc k) (x ∷ xs) e h = (in_range 0 n x (omega arith) (omega (arith, h.0)), chosen_assignment n k xs (omega (arith, e)) h.1)
-
-chosen_count : (n k : ℕ) (xs : List ℕ) → IsChoice (replicate k (range_with_len 0 n)) xs → (length xs ≡ k) × AllByRecursion (λ x. x < n) xs
-chosen_count n zero [] h = (refl, tt)
-chosen_count n zero (x ∷ xs) h = absurd h
-chosen_count n (suc k) [] h = absurd h
-chosen_count n (suc k) (x ∷ xs) h = let r = chosen_count n k xs h.1 in let l = range_low 0 n x h.0 in (ap suc r.0, (omega (arith, l.1), r.1))
-
--- the assignments are those of the list
-pub assignment_in : (a : FiniteAlgebra) (k : ℕ) (xs : List ℕ) → IsAssignment a k xs → Contains (assignments a.size k) xs
-assignment_in a k xs h = chosen (replicate k (range_with_len 0 a.size)) xs (chosen_assignment a.size k xs h.count h.elements)
-
-pub assignment_from : (a : FiniteAlgebra) (k : ℕ) (xs : List ℕ) → Contains (assignments a.size k) xs → IsAssignment a k xs
-assignment_from a k xs c = let r = chosen_count a.size k xs (choice_from (replicate k (range_with_len 0 a.size)) xs c) in record { count = r.0; elements = r.1 }
-
 -- ---- the vector of a term is its value in the power
 
 -- each filling has as many places
@@ -96,35 +54,35 @@ filled_at places [] i h l = absurd (omega (arith, l))
 filled_at places (xs ∷ fs) zero h l = h.0
 filled_at places (xs ∷ fs) (suc i) h l = filled_at places fs i h.1 (omega (arith, l))
 
-column_is : (fs : List (List ℕ)) (places i : ℕ) → AreFilled places fs → i < length fs → column (map (place_vector fs) (numbers_below places)) i ≡ get_or fs i []
+column_is : (fs : List (List ℕ)) (places i : ℕ) → AreFilled places fs → i < length fs → column (map (place_vector fs) (range_with_len 0 places)) i ≡ get_or fs i []
 column_is fs places i h l =
-    map_twice (λ (v : Vector). slice_index v i) (place_vector fs) (numbers_below places)
-    ∙ maps_agree (λ j. slice_index (place_vector fs j) i) (slice_index (get_or fs i [])) (numbers_below places) (λ j c. mapped_or (λ (xs : List ℕ). slice_index xs j) fs i [] 0 l)
+    map_twice (λ (v : Vector). slice_index v i) (place_vector fs) (range_with_len 0 places)
+    ∙ maps_agree (λ j. slice_index (place_vector fs j) i) (slice_index (get_or fs i [])) (range_with_len 0 places) (λ j c. get_or-map (λ (xs : List ℕ). slice_index xs j) fs i [] 0 l)
     ∙ read_all (get_or fs i []) places (filled_at places fs i h l)
 
-value_long : (a : FiniteAlgebra) (fs : List (List ℕ)) (places : ℕ) (t : Tree) → IsTerm (arities_of a) places t → length (term_value (replicate (length fs) a) (map (place_vector fs) (numbers_below places)) t) ≡ length fs
+value_long : (a : FiniteAlgebra) (fs : List (List ℕ)) (places : ℕ) (t : Tree) → IsTerm (arities_of a) places t → length (term_value (replicate (length fs) a) (map (place_vector fs) (range_with_len 0 places)) t) ≡ length fs
 value_long a fs places (Generator j) h =
-    ap length (mapped_or (place_vector fs) (numbers_below places) j 0 [] (omega (arith, h, length-numbers places)) ∙ ap (place_vector fs) (number_at places j 0 h)) ∙ length-map fs (λ (xs : List ℕ). slice_index xs j)
-value_long a fs places (Application f ts) h = length-apply (replicate (length fs) a) f (term_values (replicate (length fs) a) (map (place_vector fs) (numbers_below places)) ts) ∙ length-replicate (length fs) a
+    ap length (get_or-map-range_with_len (place_vector fs) 0 places j j [] h (omega arith)) ∙ length-map fs (λ (xs : List ℕ). slice_index xs j)
+value_long a fs places (Application f ts) h = length-apply (replicate (length fs) a) f (term_values (replicate (length fs) a) (map (place_vector fs) (range_with_len 0 places)) ts) ∙ length-replicate (length fs) a
 
-pub value_is_vector : (a : FiniteAlgebra) (fs : List (List ℕ)) (places : ℕ) (t : Tree) → AreFilled places fs → IsTerm (arities_of a) places t → term_value (replicate (length fs) a) (map (place_vector fs) (numbers_below places)) t ≡ map (λ xs. eval a xs t) fs
+pub value_is_vector : (a : FiniteAlgebra) (fs : List (List ℕ)) (places : ℕ) (t : Tree) → AreFilled places fs → IsTerm (arities_of a) places t → term_value (replicate (length fs) a) (map (place_vector fs) (range_with_len 0 places)) t ≡ map (λ xs. eval a xs t) fs
 value_is_vector a fs places t filled h =
-    let gens = map (place_vector fs) (numbers_below places) in
+    let gens = map (place_vector fs) (range_with_len 0 places) in
     let long = value_long a fs places t h in
     ext_get_or 0 (term_value (replicate (length fs) a) gens t) (map (λ xs. eval a xs t) fs) (long ∙ sym (length-map fs (λ xs. eval a xs t))) (λ i l.
     let low : i < length fs = omega (arith, l, long) in
     value_is_eval (replicate (length fs) a) gens i a (slice_get-replicate (length fs) i a low) t
     ∙ ap (λ ys. eval a ys t) (column_is fs places i filled low)
-    ∙ sym (mapped_or (λ xs. eval a xs t) fs i [] 0 low))
+    ∙ sym (get_or-map (λ xs. eval a xs t) fs i [] 0 low))
 
 -- ---- the parts of a vector
 
 -- the part at a pattern is what the pattern's fillings give
-pub part_is : (n : ℕ) (ps : List Pattern) (m : ℕ) (p : Pattern) (f : List ℕ → ℕ) → slice_get ps m ≡ Some p → part_of n ps m p (map f (all_fillings n ps)) ≡ map f (fillings n p)
+pub part_is : (n : ℕ) (ps : List VariablePattern) (m : ℕ) (p : VariablePattern) (f : List ℕ → ℕ) → slice_get ps m ≡ Some p → part_of n ps m p (map f (all_fillings n ps)) ≡ map f (fillings n p)
 part_is n [] m p f e = cc
 part_is n (q ∷ ps) zero p f e =
     let same : q ≡ p = cc in
-    let front : map f (all_fillings n (q ∷ ps)) ≡ map f (fillings n p) ++ map f (all_fillings n ps) = map-append f (fillings n q) (all_fillings n ps) ∙ ap (λ (r : Pattern). map f (fillings n r) ++ map f (all_fillings n ps)) same in
+    let front : map f (all_fillings n (q ∷ ps)) ≡ map f (fillings n p) ++ map f (all_fillings n ps) = map-append f (fillings n q) (all_fillings n ps) ∙ ap (λ (r : VariablePattern). map f (fillings n r) ++ map f (all_fillings n ps)) same in
     ap (take (length (fillings n p))) front ∙ take_at (map f (fillings n p)) (map f (all_fillings n ps)) (length (fillings n p)) (length-map (fillings n p) f)
 part_is n (q ∷ ps) (suc m) p f e =
     let behind : start_of n (q ∷ ps) (suc m) ≡ length (map f (fillings n q)) + start_of n ps m = length-append (fillings n q) (all_fillings n (take m ps)) ∙ ap (λ k. k + start_of n ps m) (sym (length-map (fillings n q) f)) in
@@ -137,27 +95,27 @@ part_is n (q ∷ ps) (suc m) p f e =
     ∙ part_is n ps m p f e
 
 -- two terms are linked exactly where their vectors have the same parts
-fillings_map : (n : ℕ) (p : Pattern) (f : List ℕ → ℕ) → map f (fillings n p) ≡ map (λ xs. f (filled p xs)) (assignments n p.variables)
+fillings_map : (n : ℕ) (p : VariablePattern) (f : List ℕ → ℕ) → map f (fillings n p) ≡ map (λ xs. f (filled p xs)) (assignments n p.variables)
 fillings_map n p f = map_twice f (filled p) (assignments n p.variables)
 
 pub linked_from_parts : (a : FiniteAlgebra) (l : Link) (d e : Tree) → l.pattern.variables ≡ l.next.variables → map (λ xs. eval a xs d) (fillings a.size l.pattern) ≡ map (λ xs. eval a xs e) (fillings a.size l.next) → AreLinked a l d e
 linked_from_parts a l d e same parts xs h =
     let all : map (λ ys. at_pattern a l.pattern d ys) (assignments a.size l.pattern.variables) ≡ map (λ ys. at_pattern a l.next e ys) (assignments a.size l.pattern.variables) =
     sym (fillings_map a.size l.pattern (λ ys. eval a ys d)) ∙ parts ∙ fillings_map a.size l.next (λ ys. eval a ys e) ∙ ap (λ k. map (λ ys. at_pattern a l.next e ys) (assignments a.size k)) (sym same) in
-    agree_maps (λ ys. at_pattern a l.pattern d ys) (λ ys. at_pattern a l.next e ys) (assignments a.size l.pattern.variables) all xs (assignment_in a l.pattern.variables xs h)
+    agree_maps (λ ys. at_pattern a l.pattern d ys) (λ ys. at_pattern a l.next e ys) (assignments a.size l.pattern.variables) all xs (assignment_in a.size l.pattern.variables xs h)
 
 pub parts_from_linked : (a : FiniteAlgebra) (l : Link) (d e : Tree) → l.pattern.variables ≡ l.next.variables → AreLinked a l d e → map (λ xs. eval a xs d) (fillings a.size l.pattern) ≡ map (λ xs. eval a xs e) (fillings a.size l.next)
 parts_from_linked a l d e same h =
     fillings_map a.size l.pattern (λ ys. eval a ys d)
-    ∙ maps_agree (λ ys. at_pattern a l.pattern d ys) (λ ys. at_pattern a l.next e ys) (assignments a.size l.pattern.variables) (λ xs c. h xs (assignment_from a l.pattern.variables xs c))
+    ∙ maps_agree (λ ys. at_pattern a l.pattern d ys) (λ ys. at_pattern a l.next e ys) (assignments a.size l.pattern.variables) (λ xs c. h xs (assignment_from a.size l.pattern.variables xs c))
     ∙ ap (λ k. map (λ ys. at_pattern a l.next e ys) (assignments a.size k)) same
     ∙ sym (fillings_map a.size l.next (λ ys. eval a ys e))
 
 -- a term satisfies an identity exactly where its vector has the variable's values as its part
-pub satisfied_from_part : (a : FiniteAlgebra) (i : Identity) (t : Tree) → map (λ xs. eval a xs t) (fillings a.size i.pattern) ≡ map (λ xs. slice_index xs i.value) (assignments a.size i.pattern.variables) → Satisfies a t i
+pub satisfied_from_part : (a : FiniteAlgebra) (i : TermIdentity) (t : Tree) → map (λ xs. eval a xs t) (fillings a.size i.pattern) ≡ map (λ xs. slice_index xs i.value) (assignments a.size i.pattern.variables) → Satisfies a t i
 satisfied_from_part a i t part xs h =
-    agree_maps (λ ys. at_pattern a i.pattern t ys) (λ ys. slice_index ys i.value) (assignments a.size i.pattern.variables) (sym (fillings_map a.size i.pattern (λ ys. eval a ys t)) ∙ part) xs (assignment_in a i.pattern.variables xs h)
+    agree_maps (λ ys. at_pattern a i.pattern t ys) (λ ys. slice_index ys i.value) (assignments a.size i.pattern.variables) (sym (fillings_map a.size i.pattern (λ ys. eval a ys t)) ∙ part) xs (assignment_in a.size i.pattern.variables xs h)
 
-pub part_from_satisfied : (a : FiniteAlgebra) (i : Identity) (t : Tree) → Satisfies a t i → map (λ xs. eval a xs t) (fillings a.size i.pattern) ≡ map (λ xs. slice_index xs i.value) (assignments a.size i.pattern.variables)
+pub part_from_satisfied : (a : FiniteAlgebra) (i : TermIdentity) (t : Tree) → Satisfies a t i → map (λ xs. eval a xs t) (fillings a.size i.pattern) ≡ map (λ xs. slice_index xs i.value) (assignments a.size i.pattern.variables)
 part_from_satisfied a i t h =
-    fillings_map a.size i.pattern (λ ys. eval a ys t) ∙ maps_agree (λ ys. at_pattern a i.pattern t ys) (λ ys. slice_index ys i.value) (assignments a.size i.pattern.variables) (λ xs c. h xs (assignment_from a i.pattern.variables xs c))
+    fillings_map a.size i.pattern (λ ys. eval a ys t) ∙ maps_agree (λ ys. at_pattern a i.pattern t ys) (λ ys. slice_index ys i.value) (assignments a.size i.pattern.variables) (λ xs c. h xs (assignment_from a.size i.pattern.variables xs c))

@@ -1,28 +1,34 @@
 -- Chains of terms, each linked to the next by an identity.
-use Rattle.std.specs.Prelude.{◌≡◌, ℕ, ◌-◌, ◌≤◌, Bool, not, ◌||◌, List, length}
+use Rattle.std.specs.Prelude.{◌≡◌, ℕ, ◌-◌, ◌≤◌, Bool, not, ◌||◌, List, length, slice_index}
 use Rattle.std.specs.List.{AllByRecursion}
-use Rattle.ua_table.specs.Algebras.{FiniteAlgebra, arities_of}
-use Rattle.ua_table.specs.Terms.{Tree, IsTerm}
+use Rattle.ua_table.specs.Algebras.{Vector, FiniteAlgebra, arities_of}
+use Rattle.ua_table.specs.Terms.{Tree, IsTerm, eval}
+use Rattle.ua_term.specs.Assignments.{IsAssignment}
 use Rattle.ua_walk.specs.Sequences.{Alternates, BeginsWith, EndsWith, ends_even}
-use Rattle.ua_identity.specs.Identities.{Pattern, Identity, IsAssignment, at_pattern, Satisfies, IsPlace}
+use Rattle.ua_identity.specs.Identities.{VariablePattern, TermIdentity, at_pattern, Satisfies}
+use Rattle.ua_identity.specs.Patterns.{vector_of}
 
 -- how a term of a chain is linked to the next: the one with its places filled by the first pattern is the other with its places filled by the second
 pub record Link : Type 0 where
-  pub pattern : Pattern
-  pub next : Pattern
+  pub pattern : VariablePattern
+  pub next : VariablePattern
 
 -- the link holds of two terms at every assignment
 abbrev pub AreLinked : FiniteAlgebra → Link → Tree → Tree → Type 0
-AreLinked a l d e = (xs : List ℕ) → IsAssignment a l.pattern.variables xs → at_pattern a l.pattern d xs ≡ at_pattern a l.next e xs
+AreLinked a l d e = (xs : List ℕ) → IsAssignment a.size l.pattern.variables xs → at_pattern a l.pattern d xs ≡ at_pattern a l.next e xs
+
+-- the term is always what stands at place j of so many
+abbrev pub IsPlace : FiniteAlgebra → ℕ → ℕ → Tree → Type 0
+IsPlace a places j t = (xs : List ℕ) → IsAssignment a.size places xs → eval a xs t ≡ slice_index xs j
 
 -- a kind of chain: how many places its terms have, at which of them it ends, what each term satisfies, how one at an even and at an odd index is linked to the next, the patterns of all these in order, and whether what is reached at even and at odd indices is told apart
 pub record ChainKind : Type 0 where
   pub places : ℕ
   pub end : ℕ
-  pub own : List Identity
+  pub own : List TermIdentity
   pub even : Link
   pub odd : Link
-  pub patterns : List Pattern
+  pub patterns : List VariablePattern
   pub by_parity : Bool
 
 -- the term satisfies what each term of a chain does
@@ -53,3 +59,10 @@ pub record IsLeastChain (a : FiniteAlgebra) (kind : ChainKind) (terms : List Tre
 -- whether what stands at this index is told among the even ones: each where they are not told apart
 abbrev pub is_among_even : ChainKind → List Tree → Bool
 is_among_even kind terms = ends_even terms || not kind.by_parity
+
+-- the row is the vector of the last term of some beginning, which stands at an index that is told among the even ones if so
+pub record IsReached (a : FiniteAlgebra) (kind : ChainKind) (even : Bool) (row : Vector) : Type 0 where
+  pub terms : List Tree
+  pub beginning : IsBeginning a kind terms
+  pub parity : is_among_even kind terms ≡ even
+  pub reaches : EndsWith (λ t. vector_of a kind.patterns t ≡ row) terms

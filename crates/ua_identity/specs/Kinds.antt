@@ -1,21 +1,11 @@
 -- The kinds of chains.
 use Rattle.std.specs.Prelude.{◌≡◌, ◌≢◌, ℕ, ◌<◌, true, false, [], ◌∷◌, length, Contains, slice_index}
 use Rattle.std.specs.List.{AllByRecursion}
-use Rattle.ua_identity.specs.Identities.{Pattern, Identity}
+use Rattle.ua_identity.specs.Identities.{VariablePattern, TermIdentity, xxy, xyx, xyy}
 use Rattle.ua_identity.specs.Chains.{Link, ChainKind}
 
--- (x,y,x), (x,x,y) and (x,y,y)
-abbrev pub xyx : Pattern
-xyx = record { variables = 2; places = 0 ∷ 1 ∷ 0 ∷ [] }
-
-abbrev pub xxy : Pattern
-xxy = record { variables = 2; places = 0 ∷ 0 ∷ 1 ∷ [] }
-
-abbrev pub xyy : Pattern
-xyy = record { variables = 2; places = 0 ∷ 1 ∷ 1 ∷ [] }
-
 -- the same pattern of a term and the next
-abbrev pub alike : Pattern → Link
+abbrev pub alike : VariablePattern → Link
 alike p = record { pattern = p; next = p }
 
 -- d(x,y,x) = x; d(x,x,y) = e(x,x,y) from an even index on; d(x,y,y) = e(x,y,y) from an odd one (B. Jónsson, Algebras whose congruence lattices are distributive, 1967)
@@ -43,13 +33,13 @@ hagemann_mitschke = record {
 }
 
 -- (x,y,y,x), (x,x,w,w) and (x,y,y,w)
-abbrev pub xyyx : Pattern
+abbrev pub xyyx : VariablePattern
 xyyx = record { variables = 2; places = 0 ∷ 1 ∷ 1 ∷ 0 ∷ [] }
 
-abbrev pub xxww : Pattern
+abbrev pub xxww : VariablePattern
 xxww = record { variables = 2; places = 0 ∷ 0 ∷ 1 ∷ 1 ∷ [] }
 
-abbrev pub xyyw : Pattern
+abbrev pub xyyw : VariablePattern
 xyyw = record { variables = 3; places = 0 ∷ 1 ∷ 1 ∷ 2 ∷ [] }
 
 -- m(x,y,y,x) = x; m(x,x,w,w) = m'(x,x,w,w) from an even index on; m(x,y,y,w) = m'(x,y,y,w) from an odd one (A. Day, A characterization of modularity for congruence lattices of algebras, 1969)
@@ -65,21 +55,21 @@ day = record {
 }
 
 -- a pattern fills so many places with its variables
-pub record IsPattern (places : ℕ) (p : Pattern) : Type 0 where
+pub record IsPatternOf (places : ℕ) (p : VariablePattern) : Type 0 where
   pub count : length p.places ≡ places
   pub named : AllByRecursion (λ v. v < p.variables) p.places
 
 -- an identity that place 0 and the end satisfy
-pub record IsOwnIdentity (kind : ChainKind) (i : Identity) : Type 0 where
-  pub pattern : IsPattern kind.places i.pattern
+pub record IsOwnIdentity (kind : ChainKind) (i : TermIdentity) : Type 0 where
+  pub pattern : IsPatternOf kind.places i.pattern
   pub value : i.value < i.pattern.variables
   pub first : slice_index i.pattern.places 0 ≡ i.value
   pub last : slice_index i.pattern.places kind.end ≡ i.value
 
 -- a link between patterns of the same variables
 pub record IsLink (places : ℕ) (l : Link) : Type 0 where
-  pub pattern : IsPattern places l.pattern
-  pub next : IsPattern places l.next
+  pub pattern : IsPatternOf places l.pattern
+  pub next : IsPatternOf places l.next
   pub same : l.pattern.variables ≡ l.next.variables
 
 -- a kind whose parts fit together: place 0 and the end satisfy what each term does, and they differ at the pattern of the even links
@@ -89,6 +79,6 @@ pub record IsKind (kind : ChainKind) : Type 0 where
   pub own : AllByRecursion (IsOwnIdentity kind) kind.own
   pub even : IsLink kind.places kind.even
   pub odd : IsLink kind.places kind.odd
-  pub patterns : AllByRecursion (IsPattern kind.places) kind.patterns
+  pub patterns : AllByRecursion (IsPatternOf kind.places) kind.patterns
   pub has_even : Contains kind.patterns kind.even.pattern
   pub apart : slice_index kind.even.pattern.places 0 ≢ slice_index kind.even.pattern.places kind.end

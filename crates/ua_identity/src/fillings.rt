@@ -1,38 +1,57 @@
 //! What stands at the places of terms under patterns.
 
-ghost use Rattle.std.specs.Prelude.{◌≡◌, ◌+◌, ◌<◌, ◌≤◌, ◌^◌, ◌++◌, length, map, take, slice_index, IfOk, OnOk, List, ℕ};
+ghost use Rattle.std.specs.Prelude.{◌≡◌, ◌+◌, ◌*◌, ◌<◌, ◌≤◌, ◌^◌, ◌++◌, length, IfOk, OnOk};
 ghost use Rattle.std.specs.List.{AllByRecursion};
-ghost use Rattle.ua_identity.specs.Identities as identities;
+ghost use Rattle.ua_table.specs.declared.limits.TheConstants.{SIZE, WIDTH};
+ghost use Rattle.ua_term.specs.Assignments.{projection};
+ghost use Rattle.ua_identity.specs.declared.limits.TheConstants.{LETTERS};
+ghost use Rattle.ua_identity.specs.Identities.{VariablePattern};
+ghost use Rattle.ua_identity.specs.Patterns.{all_fillings, place_vector};
 ghost use Rattle.ua_identity.specs.Patterns as fillings;
-ghost use Rattle.ua_identity.specs.Fits.{AreFitting};
 
 use crate::patterns::Pattern;
 use std::alloc::{AllocError, Global};
 use ua_table::Elem;
 
-/// How many fillings a pattern has over so many elements.
-pub fn count_of(size: u32, pattern: &Pattern) -> u32
-    requires { size ^ pattern.now.variables < 2 ^ 32 }
-    ensures { result ≡ length (fillings.fillings size pattern.now) }
+/// How many assignments of so many elements to so many variables there are.
+pub fn count(size: u32, variables: u8) -> u128
+    requires size { size ≤ SIZE }
+    requires variables { variables ≤ LETTERS }
+    ensures count { result ≡ size ^ variables }
+    ensures small { result ≤ SIZE ^ LETTERS }
 {
-    size.pow(pattern.variables())
+    u128::from(size).pow(u32::from(variables))
 }
 
-/// Appends the values of a variable under all assignments, in order.
+/// How many coordinates a vector has that has one for each of these patterns and each assignment of its
+/// variables. It takes no memory.
+pub fn width_of(size: u32, patterns: &[Pattern]) -> u128
+    requires { size ≤ SIZE }
+    ensures width { result ≡ length (all_fillings size patterns.now) }
+    ensures small { result ≤ length patterns.now * SIZE ^ LETTERS }
+{
+    let mut width = 0;
+    for pattern in patterns {
+        width += count(size, pattern.variables());
+    }
+    width
+}
+
+/// Appends what each assignment gives to a variable, in lexicographic order of the assignments.
 pub fn append_values(
     row: &mut Vec<Elem>,
     size: u32,
-    variables: u32,
-    variable: u32,
+    variables: u8,
+    variable: u8,
 ) -> Result<(), AllocError>
     requires some { 0 < size }
-    requires small { size ≤ 256 }
+    requires small { size ≤ SIZE }
     requires named { variable < variables }
-    requires room { size ^ variables < 2 ^ 32 }
-    ensures { OnOk result (row.new.items ≡ row.old.items ++ map (λ (xs : List ℕ). slice_index xs variable) (fillings.assignments size variables)) }
+    requires narrow { size ^ variables ≤ WIDTH }
+    ensures { OnOk result (row.new.items ≡ row.old.items ++ projection size variables variable) }
 {
-    let stride = size.pow(variables - 1 - variable);
-    for number in 0..size.pow(variables) {
+    let stride = size.pow(u32::from(variables - 1 - variable));
+    for number in 0..size.pow(u32::from(variables)) {
         row.push((number / stride % size) as Elem)?;
     }
     Ok(())
@@ -43,13 +62,13 @@ pub fn place_row(
     alloc: Global,
     size: u32,
     patterns: &[Pattern],
-    place: u32,
+    place: u8,
 ) -> Result<Vec<Elem>, AllocError>
     requires some { 0 < size }
-    requires small { size ≤ 256 }
-    requires fitting { AreFitting size patterns.now }
-    requires place { AllByRecursion (λ (p : identities.Pattern). place < length p.places) patterns.now }
-    ensures { IfOk result (λ row. row.items ≡ fillings.place_vector (fillings.all_fillings size patterns.now) place) }
+    requires small { size ≤ SIZE }
+    requires narrow { length (all_fillings size patterns.now) ≤ WIDTH }
+    requires place { AllByRecursion (λ (p : VariablePattern). place < length p.places) patterns.now }
+    ensures { IfOk result (λ row. row.items ≡ place_vector (all_fillings size patterns.now) place) }
 {
     let mut row = Vec::new(alloc);
     for pattern in patterns {
@@ -60,13 +79,10 @@ pub fn place_row(
 
 /// Behind how many coordinates those of pattern m begin.
 pub fn start_of(size: u32, patterns: &[Pattern], m: usize) -> u32
-    requires fitting { AreFitting size patterns.now }
+    requires small { size ≤ SIZE }
+    requires narrow { length (all_fillings size patterns.now) ≤ WIDTH }
     requires pattern { m ≤ length patterns.now }
     ensures { result ≡ fillings.start_of size patterns.now m }
 {
-    let mut start = 0;
-    for pattern in &patterns[..m] {
-        start += count_of(size, pattern);
-    }
-    start
+    width_of(size, &patterns[..m]) as u32
 }

@@ -1,53 +1,61 @@
 //! Patterns of variables.
 
-ghost use Rattle.std.specs.Prelude.{◌≡◌, ◌<◌, length, slice_index};
+ghost use Rattle.std.specs.Prelude.{◌≡◌, ◌<◌, ◌≤◌, length, slice_index};
 ghost use Rattle.std.specs.List.{AllByRecursion};
+ghost use Rattle.ua_identity.specs.declared.limits.TheConstants.{LETTERS};
+ghost use Rattle.ua_identity.specs.Conditions.{IsPattern};
 
 use std::marker::Model;
 
-/// How the places of a term are filled with variables.
+/// Which of so many variables, at most `limits::LETTERS`, stands at each place of a term.
 #[derive(Drop, Debug)]
 pub struct Pattern {
-    variables: u32,
-    /// The variable at each place.
-    places: Vec<u32>,
+    variables: u8,
+    places: Vec<u8>,
 }
 
 impl Model for Pattern {
-    ghost use Rattle.std.specs.Prelude.{◌<◌};
-    ghost use Rattle.std.specs.List.{AllByRecursion};
-    ghost use Rattle.ua_identity.specs.Identities as identities;
+    ghost use Rattle.ua_identity.specs.Identities.{VariablePattern};
+    ghost use Rattle.ua_identity.specs.Conditions.{IsPattern};
 
-    ghost Value = { identities.Pattern };
+    ghost Value = { VariablePattern };
 
     ghost view = { λ a. record { variables = a.variables; places = a.places.items } };
 
-    ghost invariant = { λ a. AllByRecursion (λ v. v < a.variables) a.places.items };
+    ghost invariant = { λ a. IsPattern (record { variables = a.variables; places = a.places.items }) };
 }
 
 impl Pattern {
-    /// The pattern of so many variables with these at the places.
-    pub fn new(variables: u32, places: Vec<u32>) -> Pattern
-        requires { AllByRecursion (λ v. v < variables) places.items }
-        ensures variables { result.variables ≡ variables }
-        ensures places { result.places ≡ places.items }
+    /// The pattern of so many variables with these at the places. It takes no memory.
+    pub fn new(variables: u8, places: Vec<u8>) -> Pattern
+        requires { IsPattern (record { variables = variables; places = places.items }) }
+        ensures { result ≡ record { variables = variables; places = places.items } }
     {
         Pattern { variables, places }
     }
 
     /// How many variables there are.
-    pub fn variables(&self) -> u32
-        ensures { result ≡ self.now.variables }
+    pub fn variables(&self) -> u8
+        ensures variables { result ≡ self.now.variables }
+        ensures pattern { IsPattern self.now }
     {
         self.variables
     }
 
+    /// The variable at each place.
+    pub fn places(&self) -> &[u8]
+        ensures places { result.now ≡ self.now.places }
+        ensures pattern { IsPattern self.now }
+    {
+        self.places.as_slice()
+    }
+
     /// The variable at a place.
-    pub fn variable(&self, place: u32) -> u32
+    pub fn variable(&self, place: u8) -> u8
         requires { place < length self.now.places }
         ensures variable { result ≡ slice_index self.now.places place }
         ensures named { result < self.now.variables }
     {
-        self.places[place as usize]
+        self.places[usize::from(place)]
     }
 }
