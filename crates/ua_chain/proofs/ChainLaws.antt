@@ -18,7 +18,7 @@ use Rattle.ua_walk.specs.Ladders.{LinkLists, Joins, IsAllowed, IsClimb, IsLeastC
 use Rattle.ua_term.specs.Assignments.{IsAssignment, assignments}
 use Rattle.ua_term.proofs.AssignmentLaws.{assignment_from, assignment_in}
 use Rattle.ua_identity.specs.Identities.{VariablePattern, TermIdentity, filled, Satisfies}
-use Rattle.ua_identity.specs.Chains.{ChainKind, AreLinked, IsPlace, IsOwn, IsBeginning, IsChain, IsLeastChain, IsReached}
+use Rattle.ua_identity.specs.Chains.{ChainKind, AreLinked, IsPlace, IsOwn, IsBeginning, IsChain, chain_length, IsLeastChain, IsReached}
 use Rattle.ua_identity.specs.Kinds.{IsKind, IsOwnIdentity, IsPatternOf, AreApart}
 use Rattle.ua_identity.specs.Patterns.{fillings, all_fillings, vector_of, place_vector, power, generators}
 use Rattle.ua_chain.specs.Charts.{IsRowOf, IsChart}
@@ -177,6 +177,35 @@ same_vectors a kind i j k li lj one =
     let h = fillings_assign a kind.places kind.patterns ys k.patterns c in
     let long = h.count in
     one (slice_index ys i) (slice_index ys j) (All-from_recursion (λ u. u < a.size) ys h.elements i 0 (omega arith)) (All-from_recursion (λ u. u < a.size) ys h.elements j 0 (omega arith)))
+
+-- ---- chains of length 0
+
+one_term : (a : FiniteAlgebra) (kind : ChainKind) (t : Tree) → IsKind kind → IsChain a kind (t ∷ []) → (x y : ℕ) → x < a.size → y < a.size → x ≡ y
+one_term a kind t k h = one_element a kind 0 k k.some (sym (place_has_vector a kind 0 t k h.beginning.first) ∙ place_has_vector a kind kind.end t k h.last)
+
+one_place_chain : (a : FiniteAlgebra) (kind : ChainKind) → IsKind kind → ((x y : ℕ) → x < a.size → y < a.size → x ≡ y) → IsChain a kind (Generator 0 ∷ [])
+one_place_chain a kind k one = record {
+  beginning = record { terms_are = ((let end = k.end in omega arith), tt); first = λ xs h. refl; own = (first_is_own a kind k, tt); linked = tt };
+  last = λ xs h.
+      let long = h.count in
+      let end = k.end in
+      one (slice_index xs 0) (slice_index xs kind.end) (All-from_recursion (λ u. u < a.size) xs h.elements 0 0 (omega arith)) (All-from_recursion (λ u. u < a.size) xs h.elements kind.end 0 (omega arith));
+}
+
+few_elements : (n : ℕ) → ((x y : ℕ) → x < n → y < n → x ≡ y) → n ≤ 1
+few_elements n one = ⊎_elim (λ more. absurd (let same = one 0 1 (omega (arith, more)) more in omega (arith, same))) (λ few. few) (cases_lt 1 n)
+
+-- a least chain has length 0 exactly where there is one element at most
+pub length_zero : (a : FiniteAlgebra) (kind : ChainKind) (terms : List Tree) → IsKind kind → IsLeastChain a kind terms → (chain_length terms ≡ 0) ↔ (a.size ≤ 1)
+length_zero a kind terms k h = (
+  λ none. few_elements a.size (by terms none h.chain),
+  λ few. let least = h.least (Generator 0 ∷ []) (one_place_chain a kind k (λ x y lx ly. omega (arith, few, lx, ly))) in omega (arith, least),
+)
+  where
+    by : (terms : List Tree) → chain_length terms ≡ 0 → IsChain a kind terms → (x y : ℕ) → x < a.size → y < a.size → x ≡ y
+    by [] none c = absurd c.last
+    by (t ∷ []) none c = one_term a kind t k c
+    by (t ∷ u ∷ terms) none c = absurd (omega (arith, none))
 
 -- ---- rows and terms
 

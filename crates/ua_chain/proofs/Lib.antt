@@ -1,0 +1,12 @@
+pub mod KindLaws
+pub mod OnceLaws
+pub mod ZipLaws
+pub mod PartLaws
+pub mod ChainLaws
+pub mod VectorLaws
+pub mod ClassLaws
+pub mod RowLaws
+pub mod AnswerLaws
+pub mod SerialLaws
+pub mod ClimbInLaws
+pub mod CallLaws
