@@ -75,10 +75,10 @@ generators_admitted a ps places h fill =
 
 -- ---- the values that identities say
 
-abbrev values : ℕ → TermIdentity → Vector
+abbrev pub values : ℕ → TermIdentity → Vector
 values n i = projection n i.pattern.variables i.value
 
-abbrev patterns_in : List TermIdentity → List VariablePattern
+abbrev pub patterns_in : List TermIdentity → List VariablePattern
 patterns_in is = map (λ (i : TermIdentity). i.pattern) is
 
 length_values : (n : ℕ) (i : TermIdentity) → length (values n i) ≡ length (fillings n i.pattern)
@@ -143,7 +143,7 @@ meets_vector a c t = (vector_from a t c.identities, vector_meets a t c.identitie
 -- ---- the value is generated where some term meets the condition
 
 module _ (a : FiniteAlgebra) (c : TermCondition) (some : 0 < a.size) (is : IsCondition c) where
-  some_width : 0 < length (all_fillings a.size (patterns_of c))
+  pub some_width : 0 < length (all_fillings a.size (patterns_of c))
   some_width = go c.identities is.identity
     where
       go : (is : List TermIdentity) → 1 ≤ length is → 0 < length (all_fillings a.size (patterns_in is))
