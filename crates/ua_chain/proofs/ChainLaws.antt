@@ -22,7 +22,14 @@ use Rattle.ua_identity.specs.Chains.{ChainKind, AreLinked, IsPlace, IsOwn, IsBeg
 use Rattle.ua_identity.specs.Kinds.{IsKind, IsOwnIdentity, IsPatternOf, AreApart}
 use Rattle.ua_identity.specs.Patterns.{fillings, all_fillings, vector_of, place_vector, power, generators}
 use Rattle.ua_chain.specs.Charts.{IsRowOf, IsChart}
-use Rattle.ua_identity.proofs.PatternLaws.{AreFilled, value_is_vector, mapped_or, maps_agree, agree_maps}
+use Rattle.ua_identity.proofs.PatternLaws.{AreFilled, value_is_vector, maps_agree, agree_maps}
+
+-- ---- lists
+
+mapped_or : {X Y : Type 0} (f : X → Y) (xs : List X) (i : ℕ) (d : X) (e : Y) → i < length xs → get_or (map f xs) i e ≡ f (get_or xs i d)
+mapped_or f [] i d e l = absurd (omega (arith, l))
+mapped_or f (x ∷ xs) zero d e l = refl
+mapped_or f (x ∷ xs) (suc i) d e l = mapped_or f xs i d e (omega (arith, l))
 
 -- ---- terms and members
 
@@ -124,7 +131,7 @@ two_elements a n v w x y lv lw apart lx ly =
     all_set (z ∷ zs) zero h = (ly, h.1)
     all_set (z ∷ zs) (suc w) h = (h.0, all_set zs w h.1)
 
-all_zero : (n k : ℕ) → 0 < n → AllByRecursion (λ x. x < n) (replicate k 0)
+all_zero : (n k : ℕ) → 0 < n → AllByRecursion (λ x. x < n) (replicate {A = ℕ} k 0)
 all_zero n zero some = tt
 all_zero n (suc k) some = (some, all_zero n k some)
 
@@ -137,9 +144,9 @@ pub some_fillings : (n : ℕ) (kind : ChainKind) → IsKind kind → 0 < n → 0
 some_fillings n kind k some =
     let apart = apart_at kind 0 k k.some in
     let p = apart.pattern in
-    let zeros = replicate p.variables 0 in
-    let assigns = assignment_in n p.variables (replicate p.variables 0) (record { count = length-replicate p.variables 0; elements = all_zero n p.variables some }) in
-    let here = Contains-flat_map (fillings n) p (filled p (replicate p.variables 0)) kind.patterns apart.there (Contains-map (filled p) (replicate p.variables 0) (assignments n p.variables) assigns) in
+    let zeros = replicate {A = ℕ} p.variables 0 in
+    let assigns = assignment_in n p.variables (replicate {A = ℕ} p.variables 0) (record { count = length-replicate p.variables 0; elements = all_zero n p.variables some }) in
+    let here = Contains-flat_map (fillings n) p (filled p (replicate {A = ℕ} p.variables 0)) kind.patterns apart.there (Contains-map (filled p) (replicate {A = ℕ} p.variables 0) (assignments n p.variables) assigns) in
     let within = here.1 in
     omega (arith, within)
 

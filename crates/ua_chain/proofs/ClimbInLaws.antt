@@ -155,7 +155,7 @@ pub arities_made : (a : FiniteAlgebra) (kind : ChainKind) (p : Product) (gens : 
 arities_made a kind p gens c = ap arities c.product_is ∙ arities_power (length (all_fillings a.size kind.patterns)) a c.wide
 
 pub closed_for : (a : FiniteAlgebra) (kind : ChainKind) (p : Product) (gens : List Vector) (b : ℕ) (list : List Row) → IsClosureOf a kind p gens → IsClosedListing p gens b list → IsClosedListing (power_of a kind) (generators_of a kind) b list
-closed_for a kind p gens b list c h = subst (λ (q : Product). IsClosedListing q (generators a kind.patterns kind.places) b list) c.product_is (subst (λ (gs : List Vector). IsClosedListing p gs b list) c.gens_are h)
+closed_for a kind p gens b list c h = subst (λ (q : Product). IsClosedListing q (generators_of a kind) b list) c.product_is (subst (λ (gs : List Vector). IsClosedListing p gs b list) c.gens_are h)
 
 pub serial_for : (a : FiniteAlgebra) (kind : ChainKind) (p : Product) (gens : List Vector) (list : List Row) → IsClosureOf a kind p gens → IsSerialListing p gens list → IsSerialListing (power_of a kind) (generators_of a kind) list
 serial_for a kind p gens list c h = subst (λ (q : Product). IsSerialListing q (generators_of a kind) list) c.product_is (subst (λ (gs : List Vector). IsSerialListing p gs list) c.gens_are h)

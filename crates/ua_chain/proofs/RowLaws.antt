@@ -1,5 +1,5 @@
 -- Rows by their parts, and the chart that they make.
-use Rattle.std.proofs.Common.{◌≡◌, ℕ, suc, ◌-◌, ◌<◌, Bool, List, [], ◌∷◌, length, map, take, drop, refl, sym, ap, ◌∙◌, subst, arith, Some, None, Option, Result, Ok, Err, Vec}
+use Rattle.std.proofs.Common.{◌≡◌, ℕ, suc, ◌+◌, ◌-◌, ◌<◌, ◌≤◌, Bool, List, [], ◌∷◌, length, map, take, drop, refl, sym, ap, ◌∙◌, subst, arith, Some, None, Option, Result, Ok, Err, Vec}
 use Rattle.std.specs.Prelude.{◌↔◌, Contains, slice_index, slice_get, IfOk}
 use Rattle.std.specs.declared.alloc.Global.{Global}
 use Rattle.std.specs.declared.alloc.AllocError.{AllocError}
@@ -9,6 +9,7 @@ use Rattle.std.proofs.lemmas.List.{length-map}
 use Rattle.std.proofs.lemmas.Option.{slice_get-get_or}
 use Rattle.ua_table.specs.Algebras.{Vector, FiniteAlgebra, IsIncreasing}
 use Rattle.ua_table.specs.Listings.{Row, vectors_of}
+use Rattle.ua_table.proofs.Lists.{all_weaker}
 use Rattle.ua_table.specs.Terms.{Tree, eval}
 use Rattle.ua_table.specs.Generated.{Sg}
 use Rattle.ua_walk.specs.Ladders.{LinkLists, Joins, IsAllowed}
@@ -43,6 +44,18 @@ part_within n ps m p l h =
 pub entries_are : (n : ℕ) (ps : List VariablePattern) (m : ℕ) (p : Part) (v : Vector) → m < length ps → IsPartOf n ps m p → entries_at p v ≡ part_at n ps m v
 entries_are n ps m p v l h =
     ap (λ k. take k (drop p.from v)) (part_within n ps m p l h).2 ∙ ap (λ k. take (length (fillings n (pattern_at ps m))) (drop k v)) h.from_is
+
+-- and among the entries of each vector
+pub part_in_all : (n : ℕ) (ps : List VariablePattern) (m : ℕ) (p : Part) (vs : List Vector) → m < length ps → IsPartOf n ps m p → HaveWidth n ps vs → AllByRecursion (λ (v : Vector). p.to ≤ length v) vs
+part_in_all n ps m p vs l h w =
+    let within = (part_within n ps m p l h).1 in
+    all_weaker (λ (v : Vector). length v ≡ length (all_fillings n ps)) (λ (v : Vector). p.to ≤ length v) (λ v e. omega (arith, within, e)) vs w
+
+pub parts_in_all : (n : ℕ) (ps : List VariablePattern) (pair : PatternPair) (p q : Part) (vs : List Vector) → pair.first < length ps → pair.second < length ps → IsPartOf n ps pair.first p → IsPartOf n ps pair.second q → HaveWidth n ps vs → AllByRecursion (λ (v : Vector). (p.to ≤ length v) × (q.to ≤ length v)) vs
+parts_in_all n ps pair p q vs l m h k w =
+    let one = (part_within n ps pair.first p l h).1 in
+    let two = (part_within n ps pair.second q m k).1 in
+    all_weaker (λ (v : Vector). length v ≡ length (all_fillings n ps)) (λ (v : Vector). (p.to ≤ length v) × (q.to ≤ length v)) (λ v e. (omega (arith, one, e), omega (arith, two, e))) vs w
 
 -- the rows with the values of place 0 are the allowed ones
 pub own_rows_from : (n : ℕ) (kind : ChainKind) (rows : List Row) (m : ℕ) (p : Part) (values lent : List ℕ) (r : Result (Vec Bool Global) AllocError) → kind.own ≡ own_of kind.patterns (Some m) → m < length kind.patterns → IsPartOf n kind.patterns m p → lent ≡ values → values ≡ projection n (pattern_at kind.patterns m).variables (slice_index (pattern_at kind.patterns m).places 0) → IfOk r (λ allowed. length allowed.items ≡ length rows) → IfOk r (λ allowed. (i : ℕ) (v : Vector) → slice_get (vectors_of rows) i ≡ Some v → IsAllowed allowed.items i ↔ (entries_at p v ≡ lent)) → IfOk r (λ allowed. AreOwnRows n kind (vectors_of rows) allowed.items)

@@ -56,7 +56,10 @@ closure_from a kind p gens k some e f = record { is_kind = k; wide = some_fillin
 pub end_made : (a : FiniteAlgebra) (kind : ChainKind) (gens : List Vector) (places : ℕ) → gens ≡ generators_of a kind → places ≡ kind.places → kind.end ≡ places - 1 → kind.end ≡ length gens - 1
 end_made a kind gens places g p e = e ∙ ap (λ n. n - 1) (p ∙ sym (ap length g ∙ generator_count a kind.patterns kind.places))
 
--- there is one
+-- there are places, and so generators
+pub some_places : (kind : ChainKind) → IsKind kind → 0 < kind.places
+some_places kind k = let end = k.end in omega (arith, end)
+
 pub some_generators : (a : FiniteAlgebra) (kind : ChainKind) (gens : List Vector) → IsKind kind → gens ≡ generators_of a kind → 0 < length gens
 some_generators a kind gens k g =
     let count = ap length g ∙ generator_count a kind.patterns kind.places in

@@ -18,8 +18,8 @@ place_row-requires-clause-narrow c =
 pub place_row-requires-clause-place : goal.place_row-requires-clause-place
 place_row-requires-clause-place c =
     let test = c.loop-place-test.true in
-    let places = c.places.ensures.places in
-    subst (AllByRecursion (λ (p : VariablePattern). c.loop-place.place < length p.places)) (sym c.patterns.ensures.patterns) (places_low c.args.kind.now.patterns c.args.kind.now.places c.loop-place.place c.places.ensures.kind.patterns (omega (arith, test, places)))
+    let places = c.places-place-end.ensures.places in
+    subst (AllByRecursion (λ (p : VariablePattern). c.loop-place.place < length p.places)) (sym c.patterns.ensures.patterns) (places_low c.args.kind.now.patterns c.args.kind.now.places c.loop-place.place c.places-place-end.ensures.kind.patterns (omega (arith, test, places)))
 
 pub add-requires-clause-width : goal.add-requires-clause-width
 add-requires-clause-width c =
