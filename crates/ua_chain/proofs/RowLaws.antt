@@ -99,9 +99,9 @@ part_of_term a ps m t l = part_is a.size ps m (pattern_at ps m) (λ xs. eval a x
 pub own_both : (a : FiniteAlgebra) (ps : List VariablePattern) (number : Option ℕ) (t : Tree) → IfSome number (λ m. m < length ps) → HasOwnAt a.size ps number (vector_of a ps t) ↔ AllByRecursion (Satisfies a t) (own_of ps number)
 own_both a ps None t l = (λ h. tt, λ h. tt)
 own_both a ps (Some m) t l = (
-      λ h. (satisfied_from_part a (record { pattern = pattern_at ps m; value = slice_index (pattern_at ps m).places 0 }) t (sym (part_of_term a ps m t l) ∙ h), tt),
-      λ h. part_of_term a ps m t l ∙ part_from_satisfied a (record { pattern = pattern_at ps m; value = slice_index (pattern_at ps m).places 0 }) t h.0,
-    )
+  λ h. (satisfied_from_part a (record { pattern = pattern_at ps m; value = slice_index (pattern_at ps m).places 0 }) t (sym (part_of_term a ps m t l) ∙ h), tt),
+  λ h. part_of_term a ps m t l ∙ part_from_satisfied a (record { pattern = pattern_at ps m; value = slice_index (pattern_at ps m).places 0 }) t h.0,
+)
 
 linked_both : (a : FiniteAlgebra) (ps : List VariablePattern) (pair : PatternPair) (d e : Tree) → pair.first < length ps → pair.second < length ps → (pattern_at ps pair.first).variables ≡ (pattern_at ps pair.second).variables → (part_at a.size ps pair.first (vector_of a ps d) ≡ part_at a.size ps pair.second (vector_of a ps e)) ↔ AreLinked a (link_of ps pair) d e
 linked_both a ps pair d e l m same = (

@@ -46,9 +46,9 @@ generator_next p gens before v (Gen i) j h e first =
     ⊎_elim
     (λ (below : i < j). absurd (first i below here))
     (λ above. ⊎_elim
-        (λ (late : j < i). absurd (h.new (subst (Contains before) there (h.first (Gen j) low (earlier_turn j i late)))))
-        (λ close. ap Gen (let same : i ≡ j = omega (arith, above, close) in same))
-        (cases_lt j i))
+    (λ (late : j < i). absurd (h.new (subst (Contains before) there (h.first (Gen j) low (earlier_turn j i late)))))
+    (λ close. ap Gen (let same : i ≡ j = omega (arith, above, close) in same))
+    (cases_lt j i))
     (cases_lt i j)
 generator_next p gens before v (Op f args) j h e first =
     let low = slice_get_within gens j v e in

@@ -71,11 +71,8 @@ pub(crate) fn text_of(alloc: Global, chain: &Chain) -> Result<Vec<u8>, Fail> {
     let mut text = Vec::new(alloc);
     match chain {
         Chain::Yes(terms) => {
-            put_numbers(
-                &mut text,
-                b"chain",
-                &[terms.len().saturating_sub(1) as u32],
-            )?;
+            let length = terms.len().saturating_sub(1).min(99) as u32;
+            put_numbers(&mut text, b"chain", &[length])?;
         }
         Chain::No { list, even, odd } => {
             put_numbers(&mut text, b"no", &[list.len()])?;

@@ -47,29 +47,17 @@ fn lattices(rt: HostRuntime) -> Result<(), Fail> {
         (3, [b"000011012", b"012112222"]),
         (
             5,
-            [
-                b"0000001001002020003301234",
-                b"0123411444242443443444444",
-            ],
+            [b"0000001001002020003301234", b"0123411444242443443444444"],
         ),
         (
             5,
-            [
-                b"0000001101012020003301234",
-                b"0123411244222443443444444",
-            ],
+            [b"0000001101012020003301234", b"0123411244222443443444444"],
         ),
     ];
     for (size, tables) in &cases {
         let a = algebra(alloc, *size, tables.as_slice())?;
         expect(&rt, alloc, &a, Terms::Jonsson, b"chain 2")?;
-        expect(
-            &rt,
-            alloc,
-            &a,
-            Terms::HagemannMitschke,
-            b"no 9 even 3 odd",
-        )?;
+        expect(&rt, alloc, &a, Terms::HagemannMitschke, b"no 9 even 3 odd")?;
     }
     for (size, tables) in &cases[..3] {
         let a = algebra(alloc, *size, tables.as_slice())?;
@@ -121,7 +109,11 @@ fn semilattices(rt: HostRuntime) -> Result<(), Fail> {
 fn sets(rt: HostRuntime) -> Result<(), Fail> {
     let alloc = rt.alloc();
     let a = algebra(alloc, 2, &[])?;
-    let answers: [&[u8]; 3] = [b"no 3 even 0 odd 0", b"no 3 even 0 odd", b"no 4 even 0 odd 0"];
+    let answers: [&[u8]; 3] = [
+        b"no 3 even 0 odd 0",
+        b"no 3 even 0 odd",
+        b"no 4 even 0 odd 0",
+    ];
     expect_all(&rt, alloc, &a, answers)?;
     let one = algebra(alloc, 1, &[])?;
     expect_all(&rt, alloc, &one, [b"chain 0", b"chain 0", b"chain 0"])

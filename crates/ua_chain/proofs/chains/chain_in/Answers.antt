@@ -57,8 +57,7 @@ returns-in_ok-steps-in-Rows-clause-chain c = λ b closed.
     let chart = chart_of a kind vs c.in-Some.start c.in-Some-find.end (Rows c.in-Rows.rows) (is_closed_for a kind p gens b c.args.list closure closed) found in
     let same = c.as_slice.ensures.value in
     let count = c.in_ok-steps-in-Rows.ensures.count ∙ ap length same in
-    let at : (j : ℕ) (s : StepList) → slice_get c.in_ok-steps-in-Rows.steps.items j ≡ Some s → AreStepsAt p gens c.args.list c.in-Rows.rows.items (length gens - 1) j s = λ j s e. subst (λ (rows : List ℕ). AreStepsAt p gens c.args.list rows (length gens - 1) j s) same (c.in_ok-steps-in-Rows.ensures.steps j s e) in
-    (
+    let at : (j : ℕ) (s : StepList) → slice_get c.in_ok-steps-in-Rows.steps.items j ≡ Some s → AreStepsAt p gens c.args.list c.in-Rows.rows.items (length gens - 1) j s = λ j s e. subst (λ (rows : List ℕ). AreStepsAt p gens c.args.list rows (length gens - 1) j s) same (c.in_ok-steps-in-Rows.ensures.steps j s e) in (
       yes_answer a kind p gens c.args.list found.allowed found.even found.odd c.in-Some.start c.in-Some-find.end c.in-Rows.rows.items c.in_ok-steps-in-Rows.steps.items closure chart start end found.climbs last count at,
       closed_has_no_more (power_of a kind) (generators_of a kind) b c.args.list (closed_for a kind p gens b c.args.list closure closed),
     )

@@ -53,7 +53,6 @@ unreachable-requires c =
     let low = width_low a c.width_of-width.result c.args.budget gens c.requires.some fine in
     false≢true (c.in_default.ensures.made.1 (omega (arith, width, some), omega (arith, low)))
 
-
 pub returns-clause-admitted : goal.returns-clause-admitted
 returns-clause-admitted c =
     let a = c.args.a.now in
