@@ -26,7 +26,8 @@ use Rattle.ua_identity.specs.Chains.{Link, ChainKind}
 use Rattle.ua_identity.specs.Kinds.{IsKind}
 use Rattle.ua_identity.specs.Patterns.{all_fillings, vector_of, place_vector}
 use Rattle.ua_chain.specs.Charts.{IsRowOf, IsChart}
-use Rattle.ua_chain.proofs.ChainLaws.{generator_count, arities_power, least_chain, no_chain, evens_reached, odds_reached, first_is_own, end_is_first}
+use Rattle.ua_chain.proofs.ChainLaws.{generator_count, arities_power, first_is_own}
+use Rattle.ua_chain.proofs.ChartLaws.{least_chain, no_chain, evens_reached, odds_reached, end_is_first}
 use Rattle.ua_chain.specs.declared.kinds.PatternPair.{PatternPair}
 use Rattle.ua_chain.specs.KindTables.{link_of, pattern_at}
 use Rattle.ua_chain.specs.RowsOf.{AreOwnRows, AreLinksAt, HaveWidth}

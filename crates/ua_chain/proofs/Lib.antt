@@ -3,6 +3,7 @@ pub mod OnceLaws
 pub mod ZipLaws
 pub mod PartLaws
 pub mod ChainLaws
+pub mod ChartLaws
 pub mod VectorLaws
 pub mod ClassLaws
 pub mod RowLaws
