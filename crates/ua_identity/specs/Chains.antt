@@ -8,7 +8,11 @@ use Rattle.ua_walk.specs.Sequences.{Alternates, BeginsWith, EndsWith, ends_even}
 use Rattle.ua_identity.specs.Identities.{VariablePattern, TermIdentity, at_pattern, Satisfies}
 use Rattle.ua_identity.specs.Patterns.{vector_of}
 
--- how a term of a chain is linked to the next: the one with its places filled by the first pattern is the other with its places filled by the second
+-- the term is always what stands at place j of so many
+abbrev pub IsPlace : FiniteAlgebra → ℕ → ℕ → Tree → Type 0
+IsPlace a places j t = (xs : List ℕ) → IsAssignment a.size places xs → eval a xs t ≡ slice_index xs j
+
+-- how a term of a chain is linked to the next: the one at the first pattern is the other at the second
 pub record Link : Type 0 where
   pub pattern : VariablePattern
   pub next : VariablePattern
@@ -17,25 +21,26 @@ pub record Link : Type 0 where
 abbrev pub AreLinked : FiniteAlgebra → Link → Tree → Tree → Type 0
 AreLinked a l d e = (xs : List ℕ) → IsAssignment a.size l.pattern.variables xs → at_pattern a l.pattern d xs ≡ at_pattern a l.next e xs
 
--- the term is always what stands at place j of so many
-abbrev pub IsPlace : FiniteAlgebra → ℕ → ℕ → Tree → Type 0
-IsPlace a places j t = (xs : List ℕ) → IsAssignment a.size places xs → eval a xs t ≡ slice_index xs j
-
--- a kind of chain: how many places its terms have, at which of them it ends, what each term satisfies, how one at an even and at an odd index is linked to the next, the patterns of all these in order, and whether what is reached at even and at odd indices is told apart
+-- a kind of chain
 pub record ChainKind : Type 0 where
+  -- how many places its terms have, and at which of them it ends
   pub places : ℕ
   pub end : ℕ
+  -- what each term satisfies
   pub own : List TermIdentity
+  -- how a term at an even index, and one at an odd index, is linked to the next
   pub even : Link
   pub odd : Link
+  -- the patterns of all these, in the order of their coordinates
   pub patterns : List VariablePattern
+  -- whether what is reached at even and at odd indices is told apart
   pub by_parity : Bool
 
 -- the term satisfies what each term of a chain does
 abbrev pub IsOwn : FiniteAlgebra → ChainKind → Tree → Type 0
 IsOwn a kind t = AllByRecursion (Satisfies a t) kind.own
 
--- a beginning of a chain: terms that meet each identity of the chain that speaks of them alone, of which the first is place 0
+-- a beginning of a chain: terms of which the first is place 0, and which meet each identity of the chain that speaks of them alone
 pub record IsBeginning (a : FiniteAlgebra) (kind : ChainKind) (terms : List Tree) : Type 0 where
   pub terms_are : AllByRecursion (IsTerm (arities_of a) kind.places) terms
   pub first : BeginsWith (IsPlace a kind.places 0) terms
@@ -56,11 +61,11 @@ pub record IsLeastChain (a : FiniteAlgebra) (kind : ChainKind) (terms : List Tre
   pub chain : IsChain a kind terms
   pub least : (others : List Tree) → IsChain a kind others → chain_length terms ≤ chain_length others
 
--- whether what stands at this index is told among the even ones: each where they are not told apart
+-- whether the index of the last term is told among the even ones: each is where they are not told apart
 abbrev pub is_among_even : ChainKind → List Tree → Bool
 is_among_even kind terms = ends_even terms || not kind.by_parity
 
--- the row is the vector of the last term of some beginning, which stands at an index that is told among the even ones if so
+-- the row is the vector of the last term of some beginning, whose index is told among the even ones if so
 pub record IsReached (a : FiniteAlgebra) (kind : ChainKind) (even : Bool) (row : Vector) : Type 0 where
   pub terms : List Tree
   pub beginning : IsBeginning a kind terms

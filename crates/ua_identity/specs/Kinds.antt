@@ -1,6 +1,7 @@
 -- The kinds of chains.
-use Rattle.std.specs.Prelude.{◌≡◌, ◌≢◌, ℕ, ◌<◌, true, false, [], ◌∷◌, length, Contains, slice_index}
+use Rattle.std.specs.Prelude.{◌≡◌, ◌≢◌, ℕ, ◌<◌, true, false, [], ◌∷◌, length, Contains, List, slice_index}
 use Rattle.std.specs.List.{AllByRecursion}
+use Rattle.ua_table.specs.Counting.{numbers_below}
 use Rattle.ua_identity.specs.Identities.{VariablePattern, TermIdentity, xxy, xyx, xyy}
 use Rattle.ua_identity.specs.Chains.{Link, ChainKind}
 
@@ -72,13 +73,18 @@ pub record IsLink (places : ℕ) (l : Link) : Type 0 where
   pub next : IsPatternOf places l.next
   pub same : l.pattern.variables ≡ l.next.variables
 
--- a kind whose parts fit together: place 0 and the end satisfy what each term does, and they differ at the pattern of the even links
+-- at some pattern different variables stand at the two places
+pub record AreApart (ps : List VariablePattern) (i j : ℕ) : Type 0 where
+  pub pattern : VariablePattern
+  pub there : Contains ps pattern
+  pub apart : slice_index pattern.places i ≢ slice_index pattern.places j
+
+-- a kind whose parts fit together: place 0 and the end satisfy what each term does, and no earlier place is like the end at all patterns
 pub record IsKind (kind : ChainKind) : Type 0 where
-  pub some : 0 < kind.places
+  pub some : 0 < kind.end
   pub end : kind.end < kind.places
   pub own : AllByRecursion (IsOwnIdentity kind) kind.own
   pub even : IsLink kind.places kind.even
   pub odd : IsLink kind.places kind.odd
   pub patterns : AllByRecursion (IsPatternOf kind.places) kind.patterns
-  pub has_even : Contains kind.patterns kind.even.pattern
-  pub apart : slice_index kind.even.pattern.places 0 ≢ slice_index kind.even.pattern.places kind.end
+  pub apart : AllByRecursion (λ j. AreApart kind.patterns j kind.end) (numbers_below kind.end)

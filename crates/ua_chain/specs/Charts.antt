@@ -5,7 +5,8 @@ use Rattle.ua_table.specs.Terms.{Tree, IsTerm}
 use Rattle.ua_table.specs.Generated.{Sg}
 use Rattle.ua_walk.specs.Ladders.{LinkLists, Joins, IsAllowed}
 use Rattle.ua_identity.specs.Chains.{ChainKind, AreLinked, IsOwn}
-use Rattle.ua_identity.specs.Patterns.{vector_of, power, generators}
+use Rattle.ua_identity.specs.Patterns.{vector_of}
+use Rattle.ua_chain.specs.Answers.{power_of, generators_of}
 
 -- row i is the vector of the term
 pub record IsRowOf (a : FiniteAlgebra) (kind : ChainKind) (vectors : List Vector) (t : Tree) (i : ℕ) : Type 0 where
@@ -14,7 +15,7 @@ pub record IsRowOf (a : FiniteAlgebra) (kind : ChainKind) (vectors : List Vector
 
 -- the rows are the members, each once; the allowed ones are those whose terms satisfy what each term of a chain does; and two are joined where their terms are linked
 pub record IsChart (a : FiniteAlgebra) (kind : ChainKind) (vectors : List Vector) (allowed : List Bool) (even odd : LinkLists) : Type 0 where
-  pub exact : (v : Vector) → Contains vectors v ↔ Sg (power a kind.patterns) (generators a kind.patterns kind.places) v
+  pub exact : (v : Vector) → Contains vectors v ↔ Sg (power_of a kind) (generators_of a kind) v
   pub once : (i j : ℕ) (v : Vector) → slice_get vectors i ≡ Some v → slice_get vectors j ≡ Some v → i ≡ j
   pub count : length allowed ≡ length vectors
   pub own : (t : Tree) (i : ℕ) → IsRowOf a kind vectors t i → IsAllowed allowed i ↔ IsOwn a kind t

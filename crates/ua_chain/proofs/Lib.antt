@@ -1,0 +1,13 @@
+pub mod KindLaws
+pub mod OnceLaws
+pub mod ZipLaws
+pub mod PartLaws
+pub mod ChainLaws
+pub mod ChartLaws
+pub mod VectorLaws
+pub mod ClassLaws
+pub mod RowLaws
+pub mod AnswerLaws
+pub mod SerialLaws
+pub mod ClimbInLaws
+pub mod CallLaws

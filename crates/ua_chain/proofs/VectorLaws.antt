@@ -1,0 +1,74 @@
+-- The power of a kind of chain, its generators, and the parts of its vectors.
+use Rattle.std.proofs.Common.{◌≡◌, ℕ, suc, ◌+◌, ◌-◌, ◌*◌, ◌^◌, ◌<◌, ◌≤◌, List, [], ◌∷◌, length, map, replicate, get_or, sym, ap, ◌∙◌, subst, arith, inr, ⊎_elim}
+use Rattle.std.specs.Prelude.{Contains}
+use Rattle.std.specs.List.{AllByRecursion, AllZip, range_with_len}
+use Rattle.std.proofs.lemmas.Bool.{cases_lt}
+use Rattle.std.proofs.lemmas.List.{length-replicate, length-map}
+use Rattle.std.proofs.lemmas.List.Elements.{All-from_recursion}
+use Rattle.std.proofs.lemmas.Nat.{mul-le}
+use Rattle.ua_table.specs.declared.limits.TheConstants.{CELLS, WIDTH}
+use Rattle.ua_table.specs.Algebras.{Vector, FiniteAlgebra, Product, IsVector}
+use Rattle.ua_table.proofs.Choices.{range_low}
+use Rattle.ua_table.proofs.Lists.{Contains-head, Contains-tail, all_from_contains, all_map}
+use Rattle.ua_term.specs.Assignments.{IsAssignment}
+use Rattle.ua_close.specs.Answers.{IsWide}
+use Rattle.ua_identity.specs.Identities.{VariablePattern}
+use Rattle.ua_identity.specs.Chains.{ChainKind}
+use Rattle.ua_identity.specs.Kinds.{IsKind, IsPatternOf}
+use Rattle.ua_identity.specs.Patterns.{all_fillings, place_vector}
+use Rattle.ua_chain.specs.Answers.{power_of, generators_of}
+use Rattle.ua_chain.specs.Closures.{IsClosureOf}
+use Rattle.ua_chain.proofs.ChainLaws.{fillings_assign, generator_count, some_fillings}
+
+-- each pattern has a place
+pub places_low : (ps : List VariablePattern) (places j : ℕ) → AllByRecursion (IsPatternOf places) ps → j < places → AllByRecursion (λ (p : VariablePattern). j < length p.places) ps
+places_low [] places j h l = tt
+places_low (p ∷ ps) places j h l = (let n = h.0.count in omega (arith, l, n), places_low ps places j h.1 l)
+
+-- what stands at a place is an element
+place_fits : (a : FiniteAlgebra) (places j : ℕ) (fs : List (List ℕ)) → j < places → ((xs : List ℕ) → Contains fs xs → IsAssignment a.size places xs) → AllZip (λ (b : FiniteAlgebra) x. x < b.size) (replicate (length fs) a) (place_vector fs j)
+place_fits a places j [] l h = tt
+place_fits a places j (xs ∷ fs) l h =
+    let here = h xs (Contains-head xs fs) in
+    let long = here.count in
+    (All-from_recursion (λ x. x < a.size) xs here.elements j 0 (omega arith), place_fits a places j fs l (λ ys c. h ys (Contains-tail xs ys fs c)))
+
+-- the generators are vectors of the power
+pub generators_fit : (a : FiniteAlgebra) (kind : ChainKind) → IsKind kind → AllByRecursion (IsVector (power_of a kind)) (generators_of a kind)
+generators_fit a kind k =
+    all_map (IsVector (power_of a kind)) (place_vector (all_fillings a.size kind.patterns)) (range_with_len 0 kind.places)
+    (all_from_contains (λ j. IsVector (power_of a kind) (place_vector (all_fillings a.size kind.patterns) j)) (range_with_len 0 kind.places) (λ j c.
+    let low = range_low 0 kind.places j c in
+    place_fits a kind.places j (all_fillings a.size kind.patterns) (omega (arith, low.1)) (λ xs d. fillings_assign a kind.places kind.patterns xs k.patterns d)))
+
+-- a power that is not too wide for a budget is no wider than the limit of cells
+pub width_low : (a : FiniteAlgebra) (width b : ℕ) (vectors : List Vector) → 1 ≤ b → ¬ IsWide (replicate width a) vectors b → width ≤ CELLS
+width_low a width b vectors some fine =
+    let cells = ap (λ n. b * n) (length-replicate width a) in
+    let least : 1 * width ≤ b * width = mul-le 1 width b width some (omega arith) in
+    ⊎_elim (λ high. absurd (fine (inr high))) (λ low. omega (arith, cells, least, low)) (cases_lt CELLS (b * length (replicate width a)))
+
+-- a frame and generators that are the kind's
+pub closure_from : (a : FiniteAlgebra) (kind : ChainKind) (p : Product) (gens : List Vector) → IsKind kind → 0 < a.size → p ≡ power_of a kind → gens ≡ generators_of a kind → IsClosureOf a kind p gens
+closure_from a kind p gens k some e f = record { is_kind = k; wide = some_fillings a.size kind k some; product_is = e; gens_are = f }
+
+-- the last of them is the end
+pub end_made : (a : FiniteAlgebra) (kind : ChainKind) (gens : List Vector) (places : ℕ) → gens ≡ generators_of a kind → places ≡ kind.places → kind.end ≡ places - 1 → kind.end ≡ length gens - 1
+end_made a kind gens places g p e = e ∙ ap (λ n. n - 1) (p ∙ sym (ap length g ∙ generator_count a kind.patterns kind.places))
+
+-- there are places, and so generators
+pub some_places : (kind : ChainKind) → IsKind kind → 0 < kind.places
+some_places kind k = let end = k.end in omega (arith, end)
+
+pub some_generators : (a : FiniteAlgebra) (kind : ChainKind) (gens : List Vector) → IsKind kind → gens ≡ generators_of a kind → 0 < length gens
+some_generators a kind gens k g =
+    let count = ap length g ∙ generator_count a kind.patterns kind.places in
+    let end = k.end in
+    omega (arith, count, end)
+
+-- the frame is as wide as the patterns have fillings
+pub narrow_made : (a : FiniteAlgebra) (kind : ChainKind) (p : Product) (size limit : ℕ) → p ≡ power_of a kind → size ≡ a.size → length p ≤ limit → length (all_fillings size kind.patterns) ≤ limit
+narrow_made a kind p size limit e same l =
+    let long = ap length e ∙ length-replicate (length (all_fillings a.size kind.patterns)) a in
+    let count = ap (λ n. length (all_fillings n kind.patterns)) same in
+    omega (arith, long, count, l)

@@ -1,0 +1,9 @@
+pub mod Charts
+pub mod Answers
+pub mod Permitted
+pub mod Closures
+pub mod Classes
+pub mod KindTables
+pub mod PartsOf
+pub mod RowsOf
+pub mod ClimbsIn
