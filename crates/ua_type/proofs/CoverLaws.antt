@@ -5,7 +5,7 @@ use Rattle.std.specs.List.{AllByRecursion}
 use Rattle.std.proofs.Math.Seq.{drop-cons}
 use Rattle.std.proofs.lemmas.List.{take-append-drop, map-append, take_more}
 use Rattle.ua_table.specs.Algebras.{FiniteAlgebra}
-use Rattle.ua_table.proofs.Lists.{all_append}
+use Rattle.ua_table.proofs.Lists.{all_append, any_default}
 use Rattle.ua_close.specs.declared.close.CloseError.{CloseError}
 use Rattle.ua_close.specs.declared.close.CloseError.TheVariants.{Wide, OutOfMemory}
 use Rattle.ua_part.specs.Partitions.{Partition}
@@ -20,8 +20,8 @@ pub cover_is : (a : FiniteAlgebra) (list : List Partition) (pairs : List (ℕ ×
 cover_is a list pairs i j all covers c =
     let h = (covers.all i j).0 c in
     record {
-      lower = (all.all (at list i)).0 (i, h.0, refl);
-      upper = (all.all (at list j)).0 (j, h.1, refl);
+      lower = (all.all (at list i)).0 (i, h.0, any_default list i (at list i) [] h.0);
+      upper = (all.all (at list j)).0 (j, h.1, any_default list j (at list j) [] h.1);
       below = h.2.below;
       differ = h.2.differ;
       next = λ r cr low high apart. h.2.next r ((all.all r).1 cr) low high apart;

@@ -8,7 +8,10 @@ use Rattle.ua_prod.specs.Congruences.{IsCongruence}
 use Rattle.ua_type.specs.Images.{RelatesTwo}
 use Rattle.ua_type.specs.Subtraces.{Generates, IsRefuted, IsBefore, IsSubtrace, IsFirstSubtrace}
 use Rattle.ua_type.specs.Trials.{IsTried, IsAsked, IsClosedFor, HasMorePairs, AllWithin, SomeExceeds}
-use Rattle.ua_type.specs.Outcomes.{IsVain, IsMinimal, AreVainBelow, AreVainAt}
+use Rattle.ua_type.specs.declared.trials.Trial.TheVariants as trials
+use Rattle.ua_type.specs.declared.searches.Search.TheVariants.{Found, Beyond}
+use Rattle.ua_type.specs.Outcomes.{IsVain, IsMinimal, MayTryRelated, AreVainBelow, AreVainAt}
+use Rattle.ua_type.specs.Searches.{MaySearch}
 use Rattle.ua_type.proofs.GeneratedPairs.{no_more_pairs}
 use Rattle.ua_type.proofs.PairLaws.{pair_cases}
 use Rattle.ua_type.proofs.Descent.{not_all_refuted}
@@ -85,3 +88,14 @@ vain_next b theta budget x n below at few c d w s apart =
     let sx : SameBlock theta x d = subst (λ u. SameBlock theta u d) same s in
     subst (λ u. IsVain b budget u d) (sym same) (at d (few d sx) sx (subst (λ u. u ≢ d) same apart)))
     (cases_lt c x)
+
+-- a search that comes to a pair ends with what its trial tells
+pub ends_beyond : (b : FiniteAlgebra) (theta : Partition) (budget x y : ℕ) → AreVainBelow b theta budget x → AreVainAt b theta budget x y → MayTryRelated b theta budget (x, y) (Ok trials.Beyond) → MaySearch b theta budget (Ok Beyond)
+ends_beyond b theta budget x y below at h = (h.2.0, exceeds b theta budget x y below at h.0 h.1 h.2.1)
+
+pub ends_found : (b : FiniteAlgebra) (theta : Partition) (budget x y : ℕ) (swap : Bool) → AreVainBelow b theta budget x → AreVainAt b theta budget x y → MayTryRelated b theta budget (x, y) (Ok (trials.Found swap)) → MaySearch b theta budget (Ok (Found (record { low = x; high = y; swap = swap })))
+ends_found b theta budget x y swap below at h = (h.2.0, record {
+  first = first_is b theta budget x y below at h.0 h.1 swap h.2.1;
+  within = within_is b theta budget x y below at h.0 h.1 swap h.2.1;
+  swaps = h.2.1.swaps;
+})

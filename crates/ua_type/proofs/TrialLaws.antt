@@ -1,6 +1,6 @@
 -- What closing the pairs of a pair tells of it.
 use Rattle.std.proofs.Common.{◌≡◌, ◌≢◌, ◌⊎◌, ℕ, ◌^◌, ◌+◌, ◌<◌, ◌≤◌, Bool, true, false, List, [], ◌∷◌, length, map, replicate, refl, sym, ap, ◌∙◌, subst, arith, ⊎_elim, Option, Some, None}
-use Rattle.std.specs.Prelude.{Contains, slice_index, slice_index_or, slice_get, IfSome, IfNone, IsTrue, ◌↔◌}
+use Rattle.std.specs.Prelude.{Contains, slice_index, slice_index_or, slice_get, IfSome, IfNone, IsTrue, ◌↔◌, Result, Ok, Err}
 use Rattle.std.specs.List.{AllByRecursion}
 use Rattle.std.specs.Option.{is_some}
 use Rattle.std.proofs.lemmas.Bool.{cases_eq}
@@ -8,16 +8,21 @@ use Rattle.ua_table.specs.Algebras.{Vector, FiniteAlgebra, IsAlgebra, arities}
 use Rattle.ua_table.specs.Generated.{Sg}
 use Rattle.ua_table.specs.Numbering.{records}
 use Rattle.ua_table.specs.Listings.{Row, vectors_of, IsListing, IsClosedListing}
-use Rattle.ua_table.proofs.ListingLaws.{closed_has_no_more, vector_in}
+use Rattle.ua_table.proofs.ListingLaws.{closed_has_no_more, exceeding_has_more}
 use Rattle.ua_table.proofs.Lists.{any_default, Contains-slice_get}
 use Rattle.ua_close.specs.declared.close.CloseError.{CloseError}
 use Rattle.ua_close.specs.declared.close.CloseError.TheVariants.{Wide, OutOfMemory}
+use Rattle.ua_close.specs.declared.close.Closure.TheVariants.{Closed, Exceeds}
 use Rattle.ua_close.specs.Answers.{IsWide, IsCause, cells}
+use Rattle.ua_close.specs.Permitted.{MayClose}
+use Rattle.ua_part.specs.Partitions.{Partition, SameBlock}
 use Rattle.ua_close.proofs.KindLaws.{members_vectors}
 use Rattle.ua_table.specs.declared.limits.TheConstants.{CELLS}
 use Rattle.ua_type.specs.Subtraces.{pair_generators, Generates}
 use Rattle.ua_type.specs.Trials.{HasMorePairs, ArePairsNarrow, ArePairsWide}
-use Rattle.ua_type.specs.Outcomes.{GoesBack, IsVain, IsMinimal}
+use Rattle.ua_type.specs.declared.trials.Trial.{Trial}
+use Rattle.ua_type.specs.declared.trials.Trial.TheVariants.{Found, Vain, Beyond}
+use Rattle.ua_type.specs.Outcomes.{GoesBack, IsVain, IsMinimal, MayTry, MayTryRelated}
 use Rattle.ua_type.proofs.GeneratedPairs.{generates_itself, no_more_pairs, same_count}
 use Rattle.ua_type.proofs.PairLaws.{square-IsProduct, pair_vectors, ArePair, pair_from}
 
@@ -74,10 +79,37 @@ module _ (b : FiniteAlgebra) (budget x y : ℕ) (alg : IsAlgebra b) (xw : x < b.
 
 -- ---- whether a pair generates another
 
--- equal elements, and the pair itself, need not be asked
-pub back_at_once : (b : FiniteAlgebra) (row : Vector) (pair : ℕ × ℕ) → (slice_index row 0 ≡ slice_index row 1) ⊎ ((slice_index row 0 ≡ pair.0) × (slice_index row 1 ≡ pair.1)) → GoesBack b row pair
-back_at_once b row pair h =
-    ⊎_elim
-    (λ same. λ n. absurd (n same))
-    (λ same. λ _. subst (λ u. Generates b (slice_index row 0) (slice_index row 1) u pair.1) same.0 (subst (λ u. Generates b (slice_index row 0) (slice_index row 1) (slice_index row 0) u) same.1 (generates_itself b (slice_index row 0) (slice_index row 1))))
-    h
+-- the pair itself need not be asked
+pub itself_back : (b : FiniteAlgebra) (row : Vector) (pair : ℕ × ℕ) → slice_index row 0 ≡ pair.0 → slice_index row 1 ≡ pair.1 → GoesBack b row pair
+itself_back b row pair first second _ =
+    subst (λ u. Generates b (slice_index row 0) (slice_index row 1) u pair.1) first
+    (subst (λ u. Generates b (slice_index row 0) (slice_index row 1) (slice_index row 0) u) second (generates_itself b (slice_index row 0) (slice_index row 1)))
+
+module _ (b : FiniteAlgebra) (budget workers x y : ℕ) where
+  pub pairs_exceed : (rows : List Row) → MayClose (replicate 2 b) (pair_generators b x y) budget workers (Ok (Exceeds rows)) → HasMorePairs b budget x y
+  pairs_exceed rows h = exceeding_has_more (replicate 2 b) (pair_generators b x y) budget rows h.1
+
+  pub try_beyond : (rows : List Row) → MayClose (replicate 2 b) (pair_generators b x y) budget workers (Ok (Exceeds rows)) → MayTry b budget (x, y) (Ok Beyond)
+  try_beyond rows h = (narrow_all b budget x y h.0, pairs_exceed rows h)
+
+  pub pairs_narrow : (rows : List Row) → MayClose (replicate 2 b) (pair_generators b x y) budget workers (Ok (Closed rows)) → ArePairsNarrow b budget
+  pairs_narrow rows h = narrow_all b budget x y h.0
+
+  pub pairs_closed : (rows : List Row) → MayClose (replicate 2 b) (pair_generators b x y) budget workers (Ok (Closed rows)) → IsClosedListing (replicate 2 b) (pair_generators b x y) budget rows
+  pairs_closed rows h = h.1
+
+  pub pairs_wide : (e : CloseError) → MayClose (replicate 2 b) (pair_generators b x y) budget workers (Err e) → ArePairsWide b budget e
+  pairs_wide e h = wide_all b budget x y e h
+
+pub back_told : (b : FiniteAlgebra) (budget workers : ℕ) (row : Vector) (pair : ℕ × ℕ) (rows : List Row) (t : Bool) → MayClose (replicate 2 b) (pair_generators b (slice_index row 0) (slice_index row 1)) budget workers (Ok (Closed rows)) → IsTrue t ↔ Contains (vectors_of rows) (pair.0 ∷ pair.1 ∷ []) → slice_index row 0 ≢ slice_index row 1 → IsTrue t ↔ GoesBack b row pair
+back_told b budget workers row pair rows t h told differ =
+    let closed = h.1 in
+    let v : Vector = pair.0 ∷ pair.1 ∷ [] in
+    (λ is _. (closed.exact v).0 (told.0 is), λ back. told.1 ((closed.exact v).1 (back differ)))
+
+-- a pair of related different elements is tried
+pub related_tried : (b : FiniteAlgebra) (theta : Partition) (budget : ℕ) (pair : ℕ × ℕ) → SameBlock theta pair.0 pair.1 → pair.0 ≢ pair.1 → (r : Result Trial CloseError) → MayTry b budget pair r → MayTryRelated b theta budget pair r
+related_tried b theta budget pair s n (Ok (Found swap)) h = (s, n, h)
+related_tried b theta budget pair s n (Ok Vain) h = λ _ _. h.1
+related_tried b theta budget pair s n (Ok Beyond) h = (s, n, h)
+related_tried b theta budget pair s n (Err e) h = (s, n, h)

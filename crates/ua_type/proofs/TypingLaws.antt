@@ -1,8 +1,8 @@
 -- What is told in a quotient is told of the cover.
 use Rattle.std.proofs.Common.{◌≡◌, ◌⊎◌, inl, inr, ℕ, ◌<◌, List, length, get_or, replicate, refl, sym, ap, ◌∙◌, subst, arith, Some}
-use Rattle.std.specs.Prelude.{slice_get, slice_index, Option, None, Result, Ok, Err}
+use Rattle.std.specs.Prelude.{slice_index, Option, None, Result, Ok, Err}
 use Rattle.ua_table.specs.Algebras.{FiniteAlgebra}
-use Rattle.ua_table.proofs.Lists.{get_or-slice_get}
+use Rattle.ua_table.proofs.Lists.{any_default}
 use Rattle.ua_close.specs.Answers.{IsWide, IsCause}
 use Rattle.ua_close.specs.declared.close.CloseError.{CloseError}
 use Rattle.ua_close.specs.declared.close.CloseError.TheVariants.{Wide, OutOfMemory}
@@ -32,8 +32,8 @@ module _ (a : FiniteAlgebra) (alpha beta : Partition) (budget : ℕ) (made : Quo
   pub typed : (x y : ℕ) (r : Result (Option ℕ) CloseError) → MayHaveType made.algebra budget x y r → MayHaveType (quotient_by a alpha) budget x y r
   typed x y r h = subst (λ b. MayHaveType b budget x y r) is.algebra_is h
 
-  pub leader_read : (k leader : ℕ) → slice_get made.leaders.items k ≡ Some leader → leader ≡ leader_of alpha k
-  leader_read k leader at = sym (get_or-slice_get made.leaders.items k leader 0 at) ∙ ap (λ (ls : List ℕ). slice_index ls k) is.leaders_are
+  leader_read : (k leader : ℕ) → k < length made.leaders.items → leader ≡ get_or made.leaders.items k leader → leader ≡ leader_of alpha k
+  leader_read k leader w at = at ∙ any_default made.leaders.items k leader 0 w ∙ ap (λ (ls : List ℕ). slice_index ls k) is.leaders_are
 
   pub pair_low : (pair : SubtracePair) → IsFound made.algebra made.theta budget pair → pair.low < made.algebra.size
   pair_low pair h = let l = h.first.subtrace.related.left in let n = is.congruence.size in omega (arith, l, n)
@@ -57,20 +57,21 @@ module _ (a : FiniteAlgebra) (alpha beta : Partition) (budget : ℕ) (made : Quo
     narrow : ArePairsNarrow (quotient_by a alpha) budget
     narrow = (searched (Ok (searches.Found pair)) h).0
 
-    pub trace_here : (low high : ℕ) → slice_get made.leaders.items pair.low ≡ Some low → slice_get made.leaders.items pair.high ≡ Some high → IsTrace a alpha beta budget low high
+    pub trace_here : (low high : ℕ) → low ≡ get_or made.leaders.items pair.low low → high ≡ get_or made.leaders.items pair.high high → IsTrace a alpha beta budget low high
     trace_here low high at_low at_high = record {
       first = pair.low;
       second = pair.high;
       subtrace = found.first;
       within = found.within;
-      low_is = leader_read pair.low low at_low;
-      high_is = leader_read pair.high high at_high;
+      low_is = leader_read pair.low low (low_within pair h.1) at_low;
+      high_is = leader_read pair.high high (high_within pair h.1) at_high;
     }
 
-    pub subtrace_here : (low high : ℕ) → slice_get made.leaders.items pair.low ≡ Some low → slice_get made.leaders.items pair.high ≡ Some high → MaySubtrace a alpha beta budget (Ok (traces.Pair low high))
+    pub subtrace_here : (low high : ℕ) → low ≡ get_or made.leaders.items pair.low low → high ≡ get_or made.leaders.items pair.high high → MaySubtrace a alpha beta budget (Ok (traces.Pair low high))
     subtrace_here low high at_low at_high = (narrow, trace_here low high at_low at_high)
 
-    pub type_here : (number low high : ℕ) → MayHaveType made.algebra budget pair.low pair.high (Ok (Some number)) → slice_get made.leaders.items pair.low ≡ Some low → slice_get made.leaders.items pair.high ≡ Some high → MayType a alpha beta budget (Ok (typings.Found number low high))
+    pub type_here : (number low high : ℕ) → MayHaveType made.algebra budget pair.low pair.high (Ok (Some number)) → low ≡ get_or made.leaders.items pair.low low → high ≡ get_or made.leaders.items pair.high high → MayType a alpha beta budget (Ok (typings.Found number low high))
+    unfolding trace_here
     type_here number low high told at_low at_high =
         let t = typed pair.low pair.high (Ok (Some number)) told in
         (narrow, record { trace = trace_here low high at_low at_high; narrow = t.0; few = t.1; type_is = t.2 })

@@ -10,7 +10,6 @@ ghost use Rattle.ua_type.specs.Quotients.{IsCover, quotient_by};
 ghost use Rattle.ua_type.specs.Images.{IsQuotientOf};
 
 use std::alloc::{AllocError, Global};
-use ua_close::CloseError;
 use ua_part::Part;
 use ua_prod::{ProdError, quotient};
 use ua_table::{Algebra, Elem};
@@ -24,14 +23,14 @@ pub struct Quotient {
 }
 
 /// The quotient by a congruence, under the name of the algebra.
-fn quotient_by(alloc: Global, a: &Algebra, p: &Part) -> Result<Algebra, CloseError>
+fn quotient_by(alloc: Global, a: &Algebra, p: &Part) -> Result<Algebra, AllocError>
     requires { IsCongruence a.now p.now }
     ensures { IfOk result (λ b. b ≡ quotient_by a.now p.now) }
 {
     match quotient(alloc, a.name().copy(alloc)?, a, p) {
         Ok(b) => Ok(b),
         Err(ProdError::NotCongruence(_)) => unreachable!(),
-        Err(_) => Err(CloseError::OutOfMemory),
+        Err(_) => Err(AllocError),
     }
 }
 
@@ -79,7 +78,7 @@ pub fn quotient_of(
     a: &Algebra,
     lower: &Part,
     upper: &Part,
-) -> Result<Quotient, CloseError>
+) -> Result<Quotient, AllocError>
     requires { IsCover a.now lower.now upper.now }
     ensures { IfOk result (IsQuotientOf a.now lower.now upper.now) }
 {

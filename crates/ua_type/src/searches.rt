@@ -43,7 +43,10 @@ fn try_related<R: Threads + Sync, G: Gate>(
     requires second { pair.1 < b.now.size }
     ensures { MayTryRelated b.now theta.now run.now.budget pair result }
 {
-    if pair.0 == pair.1 || !theta.same(u32::from(pair.0), u32::from(pair.1)) {
+    if pair.0 == pair.1 {
+        return Ok(Trial::Vain);
+    }
+    if !theta.same(u32::from(pair.0), u32::from(pair.1)) {
         return Ok(Trial::Vain);
     }
     try_pair(rt, alloc, b, pair, run)

@@ -1,18 +1,16 @@
 //! The trial of a pair: what it generates, and whether each pair in that generates it.
 
-ghost use Rattle.std.specs.Prelude.{◌≡◌, ◌<◌, ◌↔◌, [], ◌∷◌, length, slice_index, Contains, IsTrue, IfOk, IfErr, replicate};
-ghost use Rattle.std.specs.List.{AllByRecursion};
+ghost use Rattle.std.specs.Prelude.{◌≡◌, ◌<◌, ◌↔◌, [], ◌∷◌, length, slice_index, Contains, IsTrue, replicate};
 ghost use Rattle.ua_table.specs.Listings.{vectors_of, IsClosedListing};
 ghost use Rattle.ua_close.specs.Permitted.{MayClose};
 ghost use Rattle.ua_type.specs.Subtraces.{pair_generators};
-ghost use Rattle.ua_type.specs.Trials.{HasMorePairs, ArePairsWide};
-ghost use Rattle.ua_type.specs.Outcomes.{GoesBack, IsTrial, MayTry};
+ghost use Rattle.ua_type.specs.Trials.{HasMorePairs, ArePairsNarrow};
+ghost use Rattle.ua_type.specs.Outcomes.{MayGoBack, MayTry};
 
 use crate::generators::pair_generators;
 use std::alloc::Global;
 use std::thread::Threads;
-use ua_close::calls::reach;
-use ua_close::{CloseError, Closure, Gate, Goal, Listing, Reach, Run, close_set};
+use ua_close::{CloseError, Closure, Gate, Listing, Run, close_set};
 use ua_table::{Algebra, Elem, Frame};
 
 /// What comes of the trial of a pair.
@@ -55,8 +53,15 @@ fn has(list: &Listing, pair: (Elem, Elem)) -> bool
     list.find(&[pair.0, pair.1]).is_some()
 }
 
+/// Whether two pairs are equal.
+fn is_same(pair: (Elem, Elem), other: (Elem, Elem)) -> bool
+    ensures { IsTrue result ↔ ((pair.0 ≡ other.0) × (pair.1 ≡ other.1)) }
+{
+    pair.0 == other.0 && pair.1 == other.1
+}
+
 /// Whether the pair of a row, if its elements differ, generates another pair. The pairs that it generates are
-/// within the budget, and are sought until that pair is found. The pair itself is not asked.
+/// within the budget. The other pair itself is not asked: its pairs are not closed again.
 fn goes_back<R: Threads + Sync, G: Gate>(
     rt: &R,
     alloc: Global,
@@ -66,28 +71,21 @@ fn goes_back<R: Threads + Sync, G: Gate>(
     run: &Run<G>,
 ) -> Result<bool, CloseError>
     requires width { length row.now ≡ 2 }
-    requires elements { AllByRecursion (λ e. e < b.now.size) row.now }
-    requires first { pair.0 < b.now.size }
-    requires second { pair.1 < b.now.size }
+    requires first { slice_index row.now 0 < b.now.size }
+    requires second { slice_index row.now 1 < b.now.size }
     requires within { ¬ HasMorePairs b.now run.now.budget (slice_index row.now 0) (slice_index row.now 1) }
-    ensures back { IfOk result (λ back. IsTrue back ↔ GoesBack b.now row.now pair) }
-    ensures wide { IfErr result (ArePairsWide b.now run.now.budget) }
+    ensures { MayGoBack b.now run.now.budget row.now pair result }
 {
-    // The size of an algebra is within its limit.
-    let _size = b.size();
     let (c, d) = (row[0], row[1]);
-    if c == d || (c == pair.0 && d == pair.1) {
+    if c == d {
         return Ok(true);
     }
-    let Ok(frame) = Frame::power(b, 2) else {
-        unreachable!()
-    };
-    let gens = pair_generators(alloc, b, c, d)?;
-    let goal = Goal::Target([pair.0, pair.1].to_vec(alloc)?);
-    match reach(rt, alloc, &frame, &gens, &goal, run)? {
-        Reach::Met(_) => Ok(true),
-        Reach::Closed(_) => Ok(false),
-        Reach::Exceeds(_) => unreachable!(),
+    if is_same((c, d), pair) {
+        return Ok(true);
+    }
+    match generated(rt, alloc, b, c, d, run)? {
+        Closure::Exceeds(_) => unreachable!(),
+        Closure::Closed(list) => Ok(has(&list, pair)),
     }
 }
 
@@ -102,9 +100,9 @@ fn tried<R: Threads + Sync, G: Gate>(
 ) -> Result<Trial, CloseError>
     requires first { pair.0 < b.now.size }
     requires second { pair.1 < b.now.size }
+    requires narrow { ArePairsNarrow b.now run.now.budget }
     requires closed { IsClosedListing (replicate 2 b.now) (pair_generators b.now pair.0 pair.1) run.now.budget list.now }
-    ensures trial { IfOk result (IsTrial b.now run.now.budget pair) }
-    ensures wide { IfErr result (ArePairsWide b.now run.now.budget) }
+    ensures { MayTry b.now run.now.budget pair result }
 {
     // What this call ensures says that the algebra is one.
     let _size = b.size();

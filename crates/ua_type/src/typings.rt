@@ -41,10 +41,10 @@ pub fn type_of<R: Threads + Sync, G: Gate>(
     let Search::Found(pair) = first_subtrace(rt, alloc, &made.algebra, &made.theta, run)? else {
         return Ok(Typed::Exceeds);
     };
-    let Some(number) = type_of_subtrace(rt, alloc, &made.algebra, pair, run)? else {
-        return Ok(Typed::Exceeds);
-    };
     let low = made.leaders[usize::from(pair.low)];
     let high = made.leaders[usize::from(pair.high)];
-    Ok(Typed::Found { number, low, high })
+    match type_of_subtrace(rt, alloc, &made.algebra, pair, run)? {
+        None => Ok(Typed::Exceeds),
+        Some(number) => Ok(Typed::Found { number, low, high }),
+    }
 }
