@@ -57,10 +57,13 @@ module _ (a : FiniteAlgebra) (p : Partition) (alg : IsAlgebra a) (cp : IsCongrue
   operations_kept : (os : List Operation) → AllByRecursion (λ (o : Operation). (o.size ≡ length (leaders p)) × IsOperation o) (map (renumbered (leaders p) numbers) os)
   operations_kept [] = tt
   operations_kept (o ∷ os) = (
-    (refl, record {
-      total = length-map (tuples_among (leaders p) o.arity) (λ args. slice_index numbers (value_of o args)) ∙ count_tuples (leaders p) o.arity;
-      below = all_mapped (λ v. v < length (leaders p)) (λ args. slice_index numbers (value_of o args)) (λ args. read_below (length (leaders p)) numbers (value_of o args) inhabited (all_numbers p cp.partition)) (tuples_among (leaders p) o.arity);
-    }),
+    (
+      refl,
+      record {
+        total = length-map (tuples_among (leaders p) o.arity) (λ args. slice_index numbers (value_of o args)) ∙ count_tuples (leaders p) o.arity;
+        below = all_mapped (λ v. v < length (leaders p)) (λ args. slice_index numbers (value_of o args)) (λ args. read_below (length (leaders p)) numbers (value_of o args) inhabited (all_numbers p cp.partition)) (tuples_among (leaders p) o.arity);
+      },
+    ),
     operations_kept os,
   )
 
@@ -84,9 +87,9 @@ module _ (a : FiniteAlgebra) (p : Partition) (alg : IsAlgebra a) (cp : IsCongrue
       let vp : value_at a f leading < length p = omega (arith, v, n) in
       let own : slice_index p (value_at a f leading) < length p = leader_within p cp.partition (value_at a f leading) vp in
       let value_is_read : value_at b f xs ≡ read leading =
-          value_is b f (renumbered (leaders p) numbers o) (mapped_at (renumbered (leaders p) numbers) a.operations f o at.1) xs
-          ∙ get_or-map read tuples (numeral (length (leaders p)) xs) [] 0 low
-          ∙ ap read (ap (λ k. get_or (tuples_among (leaders p) k) (numeral (length (leaders p)) xs) []) (sym long) ∙ tuple_at (leaders p) xs h) in
+      value_is b f (renumbered (leaders p) numbers o) (mapped_at (renumbered (leaders p) numbers) a.operations f o at.1) xs
+      ∙ get_or-map read tuples (numeral (length (leaders p)) xs) [] 0 low
+      ∙ ap read (ap (λ k. get_or (tuples_among (leaders p) k) (numeral (length (leaders p)) xs) []) (sym long) ∙ tuple_at (leaders p) xs h) in
       let value_here : value_of o leading ≡ value_at a f leading = ap (λ m. slice_index o.values (numeral m leading)) (size_is a f o alg at.1) ∙ sym (value_is a f o at.1 leading) in
       ap (leader_of p) (value_is_read ∙ ap (slice_index numbers) value_here ∙ get_or-map (blocks_below p) p (value_at a f leading) 0 0 vp)
       ∙ (number_leads p (slice_index p (value_at a f leading)) own (cp.partition.least (value_at a f leading) vp)).1
@@ -183,7 +186,6 @@ module _ (a : FiniteAlgebra) (p q : Partition) (cp : IsCongruence a p) (cq : IsC
 -- labels make one partition
 pub one_partition : (labels p q : List ℕ) → IsByLabels labels p → IsByLabels labels q → p ≡ q
 one_partition labels p q hp hq = below_both p q hp.partition hq.partition (λ a b s. (hq.relates a b).1 ((hp.relates a b).0 s)) (λ a b s. (hp.relates a b).1 ((hq.relates a b).0 s))
-
 
 -- one label more
 pub labels_more : (p : Partition) (list old new : List ℕ) (k x label : ℕ) → k < length list → x ≡ get_or list k x → label ≡ slice_index p x → old ≡ map (slice_index p) (take k list) → new ≡ old ++ label ∷ [] → new ≡ map (slice_index p) (take (k + 1) list)

@@ -94,8 +94,11 @@ pub ends_beyond : (b : FiniteAlgebra) (theta : Partition) (budget x y : ℕ) →
 ends_beyond b theta budget x y below at h = (h.2.0, exceeds b theta budget x y below at h.0 h.1 h.2.1)
 
 pub ends_found : (b : FiniteAlgebra) (theta : Partition) (budget x y : ℕ) (swap : Bool) → AreVainBelow b theta budget x → AreVainAt b theta budget x y → MayTryRelated b theta budget (x, y) (Ok (trials.Found swap)) → MaySearch b theta budget (Ok (Found (record { low = x; high = y; swap = swap })))
-ends_found b theta budget x y swap below at h = (h.2.0, record {
-  first = first_is b theta budget x y below at h.0 h.1 swap h.2.1;
-  within = within_is b theta budget x y below at h.0 h.1 swap h.2.1;
-  swaps = h.2.1.swaps;
-})
+ends_found b theta budget x y swap below at h = (
+  h.2.0,
+  record {
+    first = first_is b theta budget x y below at h.0 h.1 swap h.2.1;
+    within = within_is b theta budget x y below at h.0 h.1 swap h.2.1;
+    swaps = h.2.1.swaps;
+  },
+)

@@ -41,7 +41,7 @@ pub fn subtrace<R: Threads + Sync, G: Gate>(
     let Search::Found(pair) = first_subtrace(rt, alloc, &made.algebra, &made.theta, run)? else {
         return Ok(Trace::Exceeds);
     };
-    let low = made.leaders[usize::from(pair.low)];
-    let high = made.leaders[usize::from(pair.high)];
+    let low = made.leaders[pair.low as usize];
+    let high = made.leaders[pair.high as usize];
     Ok(Trace::Pair(low, high))
 }

@@ -22,10 +22,7 @@ pub enum Types {
 }
 
 /// Appends a row.
-fn push_row(
-    rows: &mut Vec<(u32, u32, Typed)>,
-    row: (u32, u32, Typed),
-) -> Result<(), AllocError>
+fn push_row(rows: &mut Vec<(u32, u32, Typed)>, row: (u32, u32, Typed)) -> Result<(), AllocError>
     ensures { OnOk result (rows.new.items ≡ rows.old.items ++ row ∷ []) }
 {
     rows.push(row)?;

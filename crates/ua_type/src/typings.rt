@@ -41,8 +41,8 @@ pub fn type_of<R: Threads + Sync, G: Gate>(
     let Search::Found(pair) = first_subtrace(rt, alloc, &made.algebra, &made.theta, run)? else {
         return Ok(Typed::Exceeds);
     };
-    let low = made.leaders[usize::from(pair.low)];
-    let high = made.leaders[usize::from(pair.high)];
+    let low = made.leaders[pair.low as usize];
+    let high = made.leaders[pair.high as usize];
     match type_of_subtrace(rt, alloc, &made.algebra, pair, run)? {
         None => Ok(Typed::Exceeds),
         Some(number) => Ok(Typed::Found { number, low, high }),

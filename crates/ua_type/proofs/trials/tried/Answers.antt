@@ -32,9 +32,11 @@ goes_back-requires-clause-within g c _ _ =
 
 pub returns-then-not-branch : goal.returns-then-not-branch
 returns-then-not-branch g c =
-    let vs = vectors_of c.args.list.now in
-    (c.requires.narrow, vain c.args.b.now c.args.run.now.budget c.args.pair.0 c.args.pair.1 c.size-size.ensures.algebra.algebra c.requires.first c.requires.second c.args.list.now c.requires.closed c.row.result.now (Contains-slice_get vs c.loop-i.i c.row.result.now c.row.ensures)
-    (λ back. let t = c.in_ok-goes_back.ensures.1 back in let f = c.if-not-branch.true in absurd (cc)))
+    let vs = vectors_of c.args.list.now in (
+      c.requires.narrow,
+      vain c.args.b.now c.args.run.now.budget c.args.pair.0 c.args.pair.1 c.size-size.ensures.algebra.algebra c.requires.first c.requires.second c.args.list.now c.requires.closed c.row.result.now (Contains-slice_get vs c.loop-i.i c.row.result.now c.row.ensures)
+          (λ back. let t = c.in_ok-goes_back.ensures.1 back in let f = c.if-not-branch.true in absurd (cc)),
+    )
 
 pub loop-i-preserved : goal.loop-i-preserved
 loop-i-preserved g c =
@@ -50,9 +52,11 @@ loop-i-preserved g c =
 
 pub returns : goal.returns
 returns g c =
-    let n = length-map c.args.list.now (λ (r : Row). r.vector) in
-    (c.requires.narrow, minimal c.args.b.now c.args.run.now.budget c.args.pair.0 c.args.pair.1 c.size-size.ensures.algebra.algebra c.requires.first c.requires.second c.args.list.now c.requires.closed c.has.result
-    (λ j w. c.loop-i.invariant j (omega (arith, w, n, c.loop-i-test.false, c.len-i-end.ensures))) c.has.ensures)
+    let n = length-map c.args.list.now (λ (r : Row). r.vector) in (
+      c.requires.narrow,
+      minimal c.args.b.now c.args.run.now.budget c.args.pair.0 c.args.pair.1 c.size-size.ensures.algebra.algebra c.requires.first c.requires.second c.args.list.now c.requires.closed c.has.result
+          (λ j w. c.loop-i.invariant j (omega (arith, w, n, c.loop-i-test.false, c.len-i-end.ensures))) c.has.ensures,
+    )
 
 pub returns-in_err-goes_back : goal.returns-in_err-goes_back
 returns-in_err-goes_back g c =
