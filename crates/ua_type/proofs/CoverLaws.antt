@@ -1,5 +1,5 @@
 -- The covers of the lattice of congruences, and the types of some of them in order.
-use Rattle.std.proofs.Common.{◌≡◌, ℕ, suc, ◌+◌, ◌<◌, List, [], ◌∷◌, ◌++◌, length, map, take, drop, get_or, refl, sym, ap, ap₂, ◌∙◌, subst, arith}
+use Rattle.std.proofs.Common.{◌≡◌, ℕ, suc, ◌+◌, ◌<◌, List, [], ◌∷◌, ◌++◌, length, map, take, drop, get_or, sym, ap, ap₂, ◌∙◌, subst}
 use Rattle.std.specs.Prelude.{Contains, Result, Ok, Err}
 use Rattle.std.specs.List.{AllByRecursion}
 use Rattle.std.proofs.Math.Seq.{drop-cons}
@@ -13,7 +13,7 @@ use Rattle.ua_lattice.specs.Lattices.{IsCongruenceList, AreCovers, IsWholeLattic
 use Rattle.ua_lattice.specs.Places.{at}
 use Rattle.ua_type.specs.declared.typings.Typed.{Typed}
 use Rattle.ua_type.specs.Quotients.{IsCover}
-use Rattle.ua_type.specs.Permitted.{MayType, MayTypes, places_of, IsRow, IsWideAmong}
+use Rattle.ua_type.specs.Permitted.{MayType, MayTypes, places_of, IsRow}
 use Rattle.ua_type.specs.Tables.{MayTable}
 
 pub cover_is : (a : FiniteAlgebra) (list : List Partition) (pairs : List (ℕ × ℕ)) (i j : ℕ) → IsCongruenceList a list → AreCovers list pairs → Contains pairs (i, j) → IsCover a (at list i) (at list j)

@@ -1,15 +1,14 @@
 -- Why a congruence that is not the identity has a subtrace: a pair that is refuted generates one that generates
 -- fewer pairs, since it lacks the first.
-use Rattle.std.proofs.Common.{◌≡◌, ◌≢◌, ℕ, zero, suc, ◌+◌, ◌<◌, ◌≤◌, Bool, true, false, cond, List, [], ◌∷◌, length, refl, sym, ap, ap₂, ◌∙◌, subst, arith, ⊎_elim, inl, inr}
+use Rattle.std.proofs.Common.{◌≡◌, ◌≢◌, ℕ, zero, suc, ◌<◌, ◌≤◌, Bool, true, false, cond, List, [], ◌∷◌, length, refl, sym, ap, ap₂, ◌∙◌, subst, arith, ⊎_elim, inl, inr}
 use Rattle.std.specs.Prelude.{Contains, filter, not, ◌⊎◌, ◌==◌, ◌&&◌}
-use Rattle.std.specs.List.{AllByRecursion}
 use Rattle.std.proofs.lemmas.Bool.{cases_eq, eq-eqb, eqb-true}
 use Rattle.ua_table.specs.Algebras.{FiniteAlgebra}
 use Rattle.ua_table.proofs.Lists.{Contains-cases, Contains-none}
 use Rattle.ua_part.specs.Partitions.{Partition, SameBlock}
 use Rattle.ua_part.specs.Labels.{same_labels}
 use Rattle.ua_part.specs.Pairs.{related_pairs}
-use Rattle.ua_part.proofs.RelatedLaws.{passed_in, related_in, related_from}
+use Rattle.ua_part.proofs.RelatedLaws.{passed_in, related_in}
 use Rattle.ua_prod.specs.Congruences.{IsCongruence}
 use Rattle.ua_type.specs.Subtraces.{Generates, IsRefuted, HasSubtrace}
 use Rattle.ua_type.specs.Images.{RelatesTwo}

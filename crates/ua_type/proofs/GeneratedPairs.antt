@@ -1,5 +1,5 @@
 -- What pairs generate: themselves, the constants, and what the pairs that they generate generate.
-use Rattle.std.proofs.Common.{◌≡◌, ℕ, zero, suc, ◌+◌, ◌<◌, ◌≤◌, List, [], ◌∷◌, ◌++◌, length, map, replicate, get_or, refl, sym, ap, ◌∙◌, subst, arith, Some, length-append}
+use Rattle.std.proofs.Common.{◌≡◌, ℕ, suc, List, [], ◌∷◌, length, replicate, refl, sym, ap, ◌∙◌, subst, arith, Some, length-append}
 use Rattle.std.specs.Prelude.{Contains, slice_index, slice_get}
 use Rattle.std.specs.List.{AllByRecursion, AllZip, range_with_len}
 use Rattle.std.proofs.lemmas.List.{length-map}
@@ -7,8 +7,8 @@ use Rattle.std.proofs.lemmas.List.Elements.{All-from_recursion, Contains-append_
 use Rattle.ua_table.specs.Algebras.{Vector, FiniteAlgebra, Product, arities_of, arities, column}
 use Rattle.ua_table.specs.Terms.{Tree, Generator, Application, Trees, none, more, count_of, IsTerm, AreTerms, term_value, term_values, eval}
 use Rattle.ua_table.specs.Generated.{Sg}
-use Rattle.ua_table.proofs.Lists.{any_default, Contains-head, Contains-map, all_append, all_from_contains, all_map, all_weaker}
-use Rattle.ua_table.proofs.Choices.{in_range, range_low}
+use Rattle.ua_table.proofs.Lists.{any_default, Contains-head, all_append, all_from_contains, all_map, all_weaker}
+use Rattle.ua_table.proofs.Choices.{range_low}
 use Rattle.ua_table.proofs.GeneratedLaws.{generator_in, result_in}
 use Rattle.ua_table.proofs.TermLaws.{value_is_eval}
 use Rattle.ua_part.specs.Partitions.{Partition, SameBlock}

@@ -1,5 +1,5 @@
 -- A congruence above another is one of the quotient by it, and relates two of its elements where the two differ.
-use Rattle.std.proofs.Common.{◌≡◌, ◌≢◌, ℕ, zero, suc, ◌+◌, ◌<◌, ◌≤◌, List, [], ◌∷◌, length, map, refl, sym, ap, ◌∙◌, subst, arith, ⊎_elim}
+use Rattle.std.proofs.Common.{◌≡◌, ◌≢◌, ℕ, zero, suc, ◌<◌, List, [], ◌∷◌, length, map, refl, sym, ap, ◌∙◌, subst, arith, ⊎_elim}
 use Rattle.std.specs.Prelude.{slice_index}
 use Rattle.std.specs.List.{AllByRecursion, AllZip}
 use Rattle.std.proofs.lemmas.Bool.{cases_eq}
@@ -13,7 +13,7 @@ use Rattle.ua_part.proofs.PartitionLaws.{leader_within, leaders_from_below}
 use Rattle.ua_prod.specs.Congruences.{IsCongruence}
 use Rattle.ua_prod.specs.Constructions.{blocks_below}
 use Rattle.ua_prod.proofs.CongruenceLaws.{zip_left, zip_right}
-use Rattle.ua_type.specs.Quotients.{IsCover, quotient_by, leader_of, image_of}
+use Rattle.ua_type.specs.Quotients.{quotient_by, leader_of, image_of}
 use Rattle.ua_type.specs.Images.{RelatesTwo}
 use Rattle.ua_type.proofs.LeaderLaws.{leader_is, number_leads}
 use Rattle.ua_type.proofs.QuotientLaws.{all_leaders_below, same_arities, quotient-IsAlgebra, value_in_block, image-IsByLabels, labels_long, label_at}

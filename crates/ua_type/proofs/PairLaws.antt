@@ -1,5 +1,5 @@
 -- Pairs are vectors of the square, and the order of pairs.
-use Rattle.std.proofs.Common.{◌≡◌, ◌⊎◌, inl, inr, ⊎_elim, ℕ, ◌<◌, ◌≤◌, List, [], ◌∷◌, ◌++◌, length, replicate, refl, sym, ap, subst, arith}
+use Rattle.std.proofs.Common.{◌≡◌, ◌⊎◌, inl, inr, ⊎_elim, ℕ, ◌<◌, ◌≤◌, List, [], ◌∷◌, length, replicate, refl, sym, ap, subst, arith}
 use Rattle.std.specs.Prelude.{Contains, slice_index}
 use Rattle.std.specs.List.{AllByRecursion, range_with_len}
 use Rattle.std.proofs.lemmas.Bool.{cases_lt, cases_eq}
@@ -9,7 +9,7 @@ use Rattle.ua_table.proofs.Lists.{all_append, all_map, all_from_contains, Contai
 use Rattle.ua_table.proofs.Choices.{range_low}
 use Rattle.ua_close.specs.Kinds.{cardinality}
 use Rattle.ua_close.proofs.KindLaws.{closed_exists}
-use Rattle.ua_part.specs.Partitions.{Partition, SameBlock}
+use Rattle.ua_part.specs.Partitions.{Partition}
 use Rattle.ua_prod.specs.Congruences.{IsCongruence}
 use Rattle.ua_type.specs.Subtraces.{constants, pair_generators, Generates, IsBefore, HasSubtrace}
 use Rattle.ua_type.specs.Quotients.{IsCover, quotient_by, image_of}

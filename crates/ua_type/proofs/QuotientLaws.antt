@@ -1,27 +1,25 @@
 -- The quotient by a congruence is an algebra, and a congruence above it is a partition of its elements.
-use Rattle.std.proofs.Common.{◌≡◌, ◌≢◌, ℕ, zero, suc, ◌+◌, ◌<◌, ◌≤◌, ◌^◌, List, [], ◌∷◌, ◌++◌, length, map, take, get_or, replicate, refl, sym, ap, ap₂, ◌∙◌, subst, arith, ⊎_elim, Some}
-use Rattle.std.specs.Prelude.{slice_index, slice_get, slice_index_or}
-use Rattle.std.specs.List.{AllByRecursion, AllZip, range_with_len}
-use Rattle.std.proofs.lemmas.Bool.{cases_eq}
+use Rattle.std.proofs.Common.{◌≡◌, ℕ, ◌+◌, ◌<◌, ◌≤◌, ◌^◌, List, [], ◌∷◌, ◌++◌, length, map, take, get_or, refl, sym, ap, ap₂, ◌∙◌, arith}
+use Rattle.std.specs.Prelude.{slice_index}
+use Rattle.std.specs.List.{AllByRecursion, range_with_len}
 use Rattle.std.proofs.lemmas.List.{length-map, get_or-map, ext_get_or, take_more, map-append}
 use Rattle.std.proofs.lemmas.List.FromFn.{length-map-range_with_len, get_or-map-range_with_len}
-use Rattle.ua_table.specs.Algebras.{Operation, FiniteAlgebra, IsAlgebra, IsOperation, signature, arities_of, value_at, numeral}
-use Rattle.ua_table.proofs.ApplyLemmas.{value-below, operation_at, numeral-below}
-use Rattle.ua_table.proofs.Lists.{any_default, found, mapped_at, AllZip-length}
-use Rattle.ua_part.specs.Partitions.{Partition, IsPartition, SameBlock, LiesBelow, IsByLabels}
-use Rattle.ua_part.specs.Blocks.{leaders, block_count}
+use Rattle.ua_table.specs.Algebras.{Operation, FiniteAlgebra, IsAlgebra, IsOperation, arities_of, value_at, numeral}
+use Rattle.ua_table.proofs.ApplyLemmas.{value-below, numeral-below}
+use Rattle.ua_table.proofs.Lists.{any_default, found, mapped_at}
+use Rattle.ua_part.specs.Partitions.{Partition, IsPartition, LiesBelow, IsByLabels}
+use Rattle.ua_part.specs.Blocks.{leaders}
 use Rattle.ua_part.proofs.PartitionLaws.{leader_within, leaders_from_below, below_both}
 use Rattle.ua_prod.specs.Congruences.{IsCongruence}
 use Rattle.ua_prod.specs.Constructions.{value_of, tuples_among, blocks_below, renumbered}
 use Rattle.ua_prod.proofs.BlockNumbers.{some_blocks, all_numbers}
 use Rattle.ua_prod.proofs.ClashLaws.{arity_is, size_is, value_is}
-use Rattle.ua_prod.proofs.CongruenceLaws.{zip_left, zip_right}
 use Rattle.ua_prod.proofs.RenumberingLaws.{all_mapped, read_below}
 use Rattle.ua_prod.proofs.TupleLaws.{count_tuples, tuples_mapped, map_map}
 use Rattle.ua_term.specs.Assignments.{IsAssignment}
 use Rattle.ua_term.proofs.AssignmentLaws.{assignment_stands, assignment_below, length_assignments}
 use Rattle.ua_type.specs.Quotients.{quotient_by, leader_of, image_of}
-use Rattle.ua_type.proofs.LeaderLaws.{IsLeader, leader_is, number_leads, numbers_grow}
+use Rattle.ua_type.proofs.LeaderLaws.{leader_is, number_leads, numbers_grow}
 
 -- ---- the quotient
 

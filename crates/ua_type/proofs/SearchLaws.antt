@@ -1,13 +1,13 @@
 -- What trials in order tell of the first subtrace.
-use Rattle.std.proofs.Common.{◌≡◌, ◌≢◌, ◌⊎◌, inl, inr, ⊎_elim, ℕ, ◌+◌, ◌<◌, ◌≤◌, Bool, refl, sym, subst, arith}
-use Rattle.std.specs.Prelude.{IsTrue, ◌↔◌, Ok}
+use Rattle.std.proofs.Common.{◌≡◌, ◌≢◌, inl, ⊎_elim, ℕ, ◌+◌, ◌<◌, Bool, sym, subst, arith}
+use Rattle.std.specs.Prelude.{Ok}
 use Rattle.std.proofs.lemmas.Bool.{cases_lt}
 use Rattle.ua_table.specs.Algebras.{FiniteAlgebra}
 use Rattle.ua_part.specs.Partitions.{Partition, SameBlock}
 use Rattle.ua_prod.specs.Congruences.{IsCongruence}
 use Rattle.ua_type.specs.Images.{RelatesTwo}
-use Rattle.ua_type.specs.Subtraces.{Generates, IsRefuted, IsBefore, IsSubtrace, IsFirstSubtrace}
-use Rattle.ua_type.specs.Trials.{IsTried, IsAsked, IsClosedFor, HasMorePairs, AllWithin, SomeExceeds}
+use Rattle.ua_type.specs.Subtraces.{IsRefuted, IsBefore, IsSubtrace, IsFirstSubtrace}
+use Rattle.ua_type.specs.Trials.{IsTried, HasMorePairs, AllWithin, SomeExceeds}
 use Rattle.ua_type.specs.declared.trials.Trial.TheVariants as trials
 use Rattle.ua_type.specs.declared.searches.Search.TheVariants.{Found, Beyond}
 use Rattle.ua_type.specs.Outcomes.{IsVain, IsMinimal, MayTryRelated, AreVainBelow, AreVainAt}

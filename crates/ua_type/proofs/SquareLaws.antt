@@ -1,8 +1,8 @@
 -- Squares are vectors of the fourth power.
-use Rattle.std.proofs.Common.{◌≡◌, ℕ, ◌<◌, List, [], ◌∷◌, ◌++◌, replicate, refl, arith, Some, None}
-use Rattle.std.specs.Prelude.{Ok, Err}
+use Rattle.std.proofs.Common.{ℕ, ◌<◌, List, [], ◌∷◌, replicate, refl, arith, Some, None}
+use Rattle.std.specs.Prelude.{Ok}
 use Rattle.std.specs.List.{AllByRecursion, range_with_len}
-use Rattle.ua_table.specs.Algebras.{Vector, FiniteAlgebra, IsAlgebra, IsProduct, IsVector}
+use Rattle.ua_table.specs.Algebras.{FiniteAlgebra, IsAlgebra, IsProduct, IsVector}
 use Rattle.ua_table.specs.Listings.{Row}
 use Rattle.ua_table.proofs.ListingLaws.{exceeding_has_more, closed_has_no_more}
 use Rattle.ua_table.proofs.Lists.{all_append, all_map, all_from_contains}

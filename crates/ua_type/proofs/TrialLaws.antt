@@ -1,13 +1,11 @@
 -- What closing the pairs of a pair tells of it.
-use Rattle.std.proofs.Common.{◌≡◌, ◌≢◌, ◌⊎◌, ℕ, ◌^◌, ◌+◌, ◌<◌, ◌≤◌, Bool, true, false, List, [], ◌∷◌, length, map, replicate, refl, sym, ap, ◌∙◌, subst, arith, ⊎_elim, Option, Some, None}
+use Rattle.std.proofs.Common.{◌≡◌, ◌≢◌, ◌⊎◌, ℕ, ◌^◌, ◌<◌, ◌≤◌, Bool, List, [], ◌∷◌, length, replicate, refl, ◌∙◌, subst, Option, Some, None}
 use Rattle.std.specs.Prelude.{Contains, slice_index, slice_index_or, slice_get, IfSome, IfNone, IsTrue, ◌↔◌, Result, Ok, Err}
-use Rattle.std.specs.List.{AllByRecursion}
 use Rattle.std.specs.Option.{is_some}
-use Rattle.std.proofs.lemmas.Bool.{cases_eq}
 use Rattle.ua_table.specs.Algebras.{Vector, FiniteAlgebra, IsAlgebra, arities}
 use Rattle.ua_table.specs.Generated.{Sg}
 use Rattle.ua_table.specs.Numbering.{records}
-use Rattle.ua_table.specs.Listings.{Row, vectors_of, IsListing, IsClosedListing}
+use Rattle.ua_table.specs.Listings.{Row, vectors_of, IsClosedListing}
 use Rattle.ua_table.proofs.ListingLaws.{closed_has_no_more, exceeding_has_more}
 use Rattle.ua_table.proofs.Lists.{any_default, Contains-slice_get}
 use Rattle.ua_close.specs.declared.close.CloseError.{CloseError}

@@ -1,13 +1,11 @@
 -- What is told in a quotient is told of the cover.
-use Rattle.std.proofs.Common.{◌≡◌, ◌⊎◌, inl, inr, ℕ, ◌<◌, List, length, get_or, replicate, refl, sym, ap, ◌∙◌, subst, arith, Some}
+use Rattle.std.proofs.Common.{◌≡◌, inl, inr, ℕ, ◌<◌, List, length, get_or, sym, ap, ◌∙◌, subst, arith, Some}
 use Rattle.std.specs.Prelude.{slice_index, Option, None, Result, Ok, Err}
 use Rattle.ua_table.specs.Algebras.{FiniteAlgebra}
 use Rattle.ua_table.proofs.Lists.{any_default}
-use Rattle.ua_close.specs.Answers.{IsWide, IsCause}
 use Rattle.ua_close.specs.declared.close.CloseError.{CloseError}
 use Rattle.ua_close.specs.declared.close.CloseError.TheVariants.{Wide, OutOfMemory}
 use Rattle.ua_part.specs.Partitions.{Partition}
-use Rattle.ua_part.specs.Blocks.{leaders}
 use Rattle.ua_type.specs.declared.quotients.Quotient.{Quotient}
 use Rattle.ua_type.specs.declared.searches.SubtracePair.{SubtracePair}
 use Rattle.ua_type.specs.declared.searches.Search.{Search}
@@ -16,8 +14,7 @@ use Rattle.ua_type.specs.declared.subtraces.Trace.TheVariants as traces
 use Rattle.ua_type.specs.declared.typings.Typed.TheVariants as typings
 use Rattle.ua_type.specs.Quotients.{quotient_by, image_of, leader_of}
 use Rattle.ua_type.specs.Images.{IsQuotientOf}
-use Rattle.ua_type.specs.Types.{square_generators, HasType}
-use Rattle.ua_type.specs.Trials.{ArePairsNarrow, ArePairsWide, SomeExceeds, HasMoreSquares}
+use Rattle.ua_type.specs.Trials.{ArePairsNarrow}
 use Rattle.ua_type.specs.Searches.{IsFound, MaySearch}
 use Rattle.ua_type.specs.Squares.{MayHaveType}
 use Rattle.ua_type.specs.Traces.{IsTrace}

@@ -13,11 +13,7 @@ fn elements(alloc: Global, digits: &[u8]) -> Result<Vec<Elem>, Fail> {
 }
 
 /// An algebra of this size with up to three operations, each of this arity with these values.
-pub(crate) fn algebra(
-    alloc: Global,
-    size: u32,
-    tables: &[(u8, &[u8])],
-) -> Result<Algebra, Fail> {
+pub(crate) fn algebra(alloc: Global, size: u32, tables: &[(u8, &[u8])]) -> Result<Algebra, Fail> {
     let mut ops = Vec::new(alloc);
     for ((arity, values), name) in tables.iter().zip([b"f", b"g", b"h"]) {
         let name = Name::new(alloc, name.as_slice())?;

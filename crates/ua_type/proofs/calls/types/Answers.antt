@@ -1,4 +1,4 @@
-use Rattle.std.proofs.Common.{ℕ, List, subst, ◌∙◌, sym}
+use Rattle.std.proofs.Common.{ℕ, List, subst}
 use Rattle.std.specs.Prelude.{Err}
 use Rattle.std.proofs.lemmas.Result.{err_from_is_err_and}
 use Rattle.ua_part.specs.Partitions.{Partition}

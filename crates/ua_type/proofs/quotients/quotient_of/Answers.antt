@@ -1,8 +1,7 @@
-use Rattle.std.proofs.Common.{◌≡◌, ◌<◌, ℕ, List, length, map, sym, ap, ◌∙◌, subst}
+use Rattle.std.proofs.Common.{◌≡◌, ◌<◌, ℕ, List, length, map, sym, ◌∙◌, subst}
 use Rattle.std.specs.Prelude.{slice_index}
 use Rattle.std.specs.List.{AllByRecursion}
-use Rattle.ua_table.specs.Algebras.{FiniteAlgebra}
-use Rattle.ua_part.specs.Partitions.{Partition, IsByLabels}
+use Rattle.ua_part.specs.Partitions.{IsByLabels}
 use Rattle.ua_part.specs.Blocks.{leaders}
 use Rattle.ua_prod.specs.Congruences.{IsCongruence}
 use Rattle.ua_prod.proofs.BlockNumbers.{all_leaders_below}

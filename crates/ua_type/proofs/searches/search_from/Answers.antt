@@ -1,9 +1,9 @@
-use Rattle.std.proofs.Common.{◌≡◌, refl, subst, arith}
+use Rattle.std.proofs.Common.{subst}
 use Rattle.std.specs.Prelude.{Ok}
 use Rattle.std.proofs.lemmas.Result.{err_from_is_err_and}
 use Rattle.ua_type.specs.declared.trials.Trial.{Trial}
 use Rattle.ua_type.specs.Outcomes.{MayTryRelated}
-use Rattle.ua_type.proofs.SearchLaws.{ends_beyond, ends_found, vain_more, vain_next}
+use Rattle.ua_type.proofs.SearchLaws.{ends_beyond, ends_found}
 use Rattle.ua_type.proofs.searches.search_from.Goals as goal
 
 pub returns-in-Beyond : goal.returns-in-Beyond

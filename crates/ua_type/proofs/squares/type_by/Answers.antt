@@ -1,4 +1,4 @@
-use Rattle.std.proofs.Common.{◌≡◌, ◌<◌, ℕ, [], ◌∷◌, replicate, arith}
+use Rattle.std.proofs.Common.{[], ◌∷◌, replicate, arith}
 use Rattle.ua_close.proofs.KindLaws.{members_vectors}
 use Rattle.ua_type.specs.Types.{square_generators}
 use Rattle.ua_type.proofs.SquareLaws.{fourth-IsProduct, square_vectors}

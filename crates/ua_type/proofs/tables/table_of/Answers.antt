@@ -1,4 +1,4 @@
-use Rattle.std.proofs.Common.{◌≡◌, ◌<◌, ℕ, length, get_or, refl, arith}
+use Rattle.std.proofs.Common.{◌<◌, length, get_or, refl, arith}
 use Rattle.std.specs.Prelude.{Ok, Err}
 use Rattle.std.proofs.lemmas.Result.{err_from_is_err_and}
 use Rattle.ua_type.proofs.CoverLaws.{row_more, refused_here, lower_within, upper_within, cover_read, type_read}

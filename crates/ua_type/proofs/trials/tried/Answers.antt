@@ -1,9 +1,8 @@
-use Rattle.std.proofs.Common.{◌≡◌, ◌<◌, ◌≤◌, ℕ, [], ◌∷◌, length, sym, subst, arith, ⊎_elim}
+use Rattle.std.proofs.Common.{◌≡◌, [], sym, subst, arith, ⊎_elim}
 use Rattle.std.specs.Prelude.{slice_index_or}
 use Rattle.std.proofs.lemmas.Bool.{cases_lt}
 use Rattle.std.proofs.lemmas.List.{length-map}
 use Rattle.std.proofs.lemmas.Result.{err_from_is_err_and}
-use Rattle.ua_table.specs.Algebras.{Vector}
 use Rattle.ua_table.specs.Listings.{Row, vectors_of}
 use Rattle.ua_table.proofs.Lists.{Contains-slice_get, get_or-slice_get}
 use Rattle.ua_type.specs.Outcomes.{GoesBack}

@@ -1,4 +1,4 @@
-use Rattle.std.proofs.Common.{◌<◌, ℕ, subst, Option}
+use Rattle.std.proofs.Common.{ℕ, subst, Option}
 use Rattle.std.specs.Prelude.{Ok}
 use Rattle.std.proofs.lemmas.Result.{err_from_is_err_and}
 use Rattle.ua_type.specs.declared.searches.Search.{Search}
