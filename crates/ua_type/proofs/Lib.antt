@@ -1,0 +1,11 @@
+pub mod LeaderLaws
+pub mod QuotientLaws
+pub mod ImageLaws
+pub mod GeneratedPairs
+pub mod Descent
+pub mod PairLaws
+pub mod TrialLaws
+pub mod SearchLaws
+pub mod CoverLaws
+pub mod SquareLaws
+pub mod TypingLaws

@@ -1,0 +1,113 @@
+-- What closing the pairs of a pair tells of it.
+use Rattle.std.proofs.Common.{◌≡◌, ◌≢◌, ◌⊎◌, ℕ, ◌^◌, ◌<◌, ◌≤◌, Bool, List, [], ◌∷◌, length, replicate, refl, ◌∙◌, subst, Option, Some, None}
+use Rattle.std.specs.Prelude.{Contains, slice_index, slice_index_or, slice_get, IfSome, IfNone, IsTrue, ◌↔◌, Result, Ok, Err}
+use Rattle.std.specs.Option.{is_some}
+use Rattle.ua_table.specs.Algebras.{Vector, FiniteAlgebra, IsAlgebra, arities}
+use Rattle.ua_table.specs.Generated.{Sg}
+use Rattle.ua_table.specs.Numbering.{records}
+use Rattle.ua_table.specs.Listings.{Row, vectors_of, IsClosedListing}
+use Rattle.ua_table.proofs.ListingLaws.{closed_has_no_more, exceeding_has_more}
+use Rattle.ua_table.proofs.Lists.{any_default, Contains-slice_get}
+use Rattle.ua_close.specs.declared.close.CloseError.{CloseError}
+use Rattle.ua_close.specs.declared.close.CloseError.TheVariants.{Wide, OutOfMemory}
+use Rattle.ua_close.specs.declared.close.Closure.TheVariants.{Closed, Exceeds}
+use Rattle.ua_close.specs.Answers.{IsWide, IsCause, cells}
+use Rattle.ua_close.specs.Permitted.{MayClose}
+use Rattle.ua_part.specs.Partitions.{Partition, SameBlock}
+use Rattle.ua_close.proofs.KindLaws.{members_vectors}
+use Rattle.ua_table.specs.declared.limits.TheConstants.{CELLS}
+use Rattle.ua_type.specs.Subtraces.{pair_generators, Generates}
+use Rattle.ua_type.specs.Trials.{HasMorePairs, ArePairsNarrow, ArePairsWide}
+use Rattle.ua_type.specs.declared.trials.Trial.{Trial}
+use Rattle.ua_type.specs.declared.trials.Trial.TheVariants.{Found, Vain, Beyond}
+use Rattle.ua_type.specs.Outcomes.{GoesBack, IsVain, IsMinimal, MayTry, MayTryRelated}
+use Rattle.ua_type.proofs.GeneratedPairs.{generates_itself, no_more_pairs, same_count}
+use Rattle.ua_type.proofs.PairLaws.{square-IsProduct, pair_vectors, ArePair, pair_from}
+
+pub has_from : (o : Option ℕ) (vs : List Vector) (v : Vector) → IfSome o (λ i. slice_get vs i ≡ Some v) → IfNone o (¬ Contains vs v) → IsTrue (is_some o) ↔ Contains vs v
+has_from None vs v found absent = (λ t. absurd (cc), λ c. absurd (absent c))
+has_from (Some i) vs v found absent = (λ _. Contains-slice_get vs i v found, λ _. refl)
+
+-- ---- pairs are wide or narrow all alike
+
+pub narrow_all : (b : FiniteAlgebra) (budget x y : ℕ) → ¬ IsWide (replicate 2 b) (pair_generators b x y) budget → ArePairsNarrow b budget
+narrow_all b budget x y h c d = subst (λ n. ¬ ((2 ^ 63 ≤ records (arities (replicate 2 b)) n budget) ⊎ (CELLS < cells (replicate 2 b) budget))) (same_count b x y c d) h
+
+pub wide_all : (b : FiniteAlgebra) (budget x y : ℕ) (e : CloseError) → IsCause (replicate 2 b) (pair_generators b x y) budget e → ArePairsWide b budget e
+wide_all b budget x y (Wide r k) h c d = subst (λ n. ((2 ^ 63 ≤ records (arities (replicate 2 b)) n budget) ⊎ (CELLS < cells (replicate 2 b) budget)) × (r ≡ records (arities (replicate 2 b)) n budget) × (k ≡ cells (replicate 2 b) budget)) (same_count b x y c d) h
+wide_all b budget x y OutOfMemory h c d = tt
+
+-- ---- the trial of a pair by its pairs
+
+module _ (b : FiniteAlgebra) (budget x y : ℕ) (alg : IsAlgebra b) (xw : x < b.size) (yw : y < b.size) (rows : List Row) (closed : IsClosedListing (replicate 2 b) (pair_generators b x y) budget rows) where
+  abbrev vs : List Vector
+  vs = vectors_of rows
+
+  pub within_budget : ¬ HasMorePairs b budget x y
+  within_budget = closed_has_no_more (replicate 2 b) (pair_generators b x y) budget rows closed
+
+  -- a row is a pair, and what it generates is within the budget too
+  pub record IsPairRow (v : Vector) : Type 0 where
+    pub pair : ArePair b v
+    pub generated : Generates b x y (slice_index v 0) (slice_index v 1)
+    pub within : ¬ HasMorePairs b budget (slice_index v 0) (slice_index v 1)
+
+  pub row_pair : (v : Vector) → Contains vs v → IsPairRow v
+  row_pair v c =
+      let s = (closed.exact v).0 c in
+      let pair = pair_from b v (members_vectors (replicate 2 b) (pair_generators b x y) (square-IsProduct b alg) (pair_vectors b x y xw yw) v s) in
+      let g : Generates b x y (slice_index v 0) (slice_index v 1) = subst (λ u. Sg (replicate 2 b) (pair_generators b x y) u) pair.is s in
+      record { pair = pair; generated = g; within = λ more. within_budget (no_more_pairs b budget x y (slice_index v 0) (slice_index v 1) g more) }
+
+  pub vain : (v : Vector) → Contains vs v → ¬ GoesBack b v (x, y) → IsVain b budget x y
+  vain v c never = record {
+    within = within_budget;
+    refuted = record { first = slice_index v 0; second = slice_index v 1; generated = (row_pair v c).generated; differ = λ e. never (λ n. absurd (n e)); lacks = λ g. never (λ _. g) };
+  }
+
+  pub minimal : (swap : Bool) → ((j : ℕ) → j < length vs → GoesBack b (slice_index_or vs j []) (x, y)) → (IsTrue swap ↔ Contains vs (y ∷ x ∷ [])) → IsMinimal b budget x y swap
+  minimal swap back told = record {
+    within = within_budget;
+    minimal = λ c d g n.
+        let there = (closed.exact (c ∷ d ∷ [])).1 g in
+        let at : slice_index_or vs there.0 [] ≡ c ∷ d ∷ [] = any_default vs there.0 [] (c ∷ d ∷ []) there.1 ∙ there.2 in
+        subst (λ v. GoesBack b v (x, y)) at (back there.0 there.1) n;
+    swaps = (λ t. (closed.exact (y ∷ x ∷ [])).0 (told.0 t), λ g. told.1 ((closed.exact (y ∷ x ∷ [])).1 g));
+  }
+
+-- ---- whether a pair generates another
+
+-- the pair itself need not be asked
+pub itself_back : (b : FiniteAlgebra) (row : Vector) (pair : ℕ × ℕ) → slice_index row 0 ≡ pair.0 → slice_index row 1 ≡ pair.1 → GoesBack b row pair
+itself_back b row pair first second _ =
+    subst (λ u. Generates b (slice_index row 0) (slice_index row 1) u pair.1) first
+    (subst (λ u. Generates b (slice_index row 0) (slice_index row 1) (slice_index row 0) u) second (generates_itself b (slice_index row 0) (slice_index row 1)))
+
+module _ (b : FiniteAlgebra) (budget workers x y : ℕ) where
+  pub pairs_exceed : (rows : List Row) → MayClose (replicate 2 b) (pair_generators b x y) budget workers (Ok (Exceeds rows)) → HasMorePairs b budget x y
+  pairs_exceed rows h = exceeding_has_more (replicate 2 b) (pair_generators b x y) budget rows h.1
+
+  pub try_beyond : (rows : List Row) → MayClose (replicate 2 b) (pair_generators b x y) budget workers (Ok (Exceeds rows)) → MayTry b budget (x, y) (Ok Beyond)
+  try_beyond rows h = (narrow_all b budget x y h.0, pairs_exceed rows h)
+
+  pub pairs_narrow : (rows : List Row) → MayClose (replicate 2 b) (pair_generators b x y) budget workers (Ok (Closed rows)) → ArePairsNarrow b budget
+  pairs_narrow rows h = narrow_all b budget x y h.0
+
+  pub pairs_closed : (rows : List Row) → MayClose (replicate 2 b) (pair_generators b x y) budget workers (Ok (Closed rows)) → IsClosedListing (replicate 2 b) (pair_generators b x y) budget rows
+  pairs_closed rows h = h.1
+
+  pub pairs_wide : (e : CloseError) → MayClose (replicate 2 b) (pair_generators b x y) budget workers (Err e) → ArePairsWide b budget e
+  pairs_wide e h = wide_all b budget x y e h
+
+pub back_told : (b : FiniteAlgebra) (budget workers : ℕ) (row : Vector) (pair : ℕ × ℕ) (rows : List Row) (t : Bool) → MayClose (replicate 2 b) (pair_generators b (slice_index row 0) (slice_index row 1)) budget workers (Ok (Closed rows)) → IsTrue t ↔ Contains (vectors_of rows) (pair.0 ∷ pair.1 ∷ []) → slice_index row 0 ≢ slice_index row 1 → IsTrue t ↔ GoesBack b row pair
+back_told b budget workers row pair rows t h told differ =
+    let closed = h.1 in
+    let v : Vector = pair.0 ∷ pair.1 ∷ [] in
+    (λ is _. (closed.exact v).0 (told.0 is), λ back. told.1 ((closed.exact v).1 (back differ)))
+
+-- a pair of related different elements is tried
+pub related_tried : (b : FiniteAlgebra) (theta : Partition) (budget : ℕ) (pair : ℕ × ℕ) → SameBlock theta pair.0 pair.1 → pair.0 ≢ pair.1 → (r : Result Trial CloseError) → MayTry b budget pair r → MayTryRelated b theta budget pair r
+related_tried b theta budget pair s n (Ok (Found swap)) h = (s, n, h)
+related_tried b theta budget pair s n (Ok Vain) h = λ _ _. h.1
+related_tried b theta budget pair s n (Ok Beyond) h = (s, n, h)
+related_tried b theta budget pair s n (Err e) h = (s, n, h)

@@ -1,0 +1,12 @@
+pub mod Quotients
+pub mod Subtraces
+pub mod Types
+pub mod Trials
+pub mod Outcomes
+pub mod Searches
+pub mod Squares
+pub mod Images
+pub mod Traces
+pub mod Typings
+pub mod Permitted
+pub mod Tables

@@ -1,0 +1,18 @@
+//! Subtraces and types of covers in the lattice of congruences.
+#![tactic(auto)]
+
+pub mod calls;
+mod generators;
+pub mod laws;
+mod quotients;
+mod searches;
+mod signs;
+mod squares;
+mod subtraces;
+mod tables;
+mod trials;
+mod typings;
+
+pub use subtraces::{Trace, subtrace};
+pub use tables::Types;
+pub use typings::{Typed, type_of};
