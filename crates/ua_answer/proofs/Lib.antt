@@ -3,3 +3,4 @@ mod Refused
 pub mod OperandLaws
 mod Making
 mod Reducts
+mod WrittenConditions

@@ -32,7 +32,7 @@ told_step : (b : Bool) (place : Place) (rest : List Place) → (unless (not b) p
 told_step false place rest e = (refl, e)
 told_step true place rest e = cc
 
-known_step : (b : Bool) (place : Place) → unless b place ≡ [] → b ≡ true
+pub known_step : (b : Bool) (place : Place) → unless b place ≡ [] → b ≡ true
 known_step true place e = refl
 known_step false place e = cc
 

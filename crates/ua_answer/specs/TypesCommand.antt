@@ -3,8 +3,8 @@ use Rattle.std.specs.Prelude.{ℕ, List, ◌∷◌, ◌++◌, length, codes}
 use Rattle.std.specs.Fmt.{decimal}
 use Rattle.ua_type.specs.declared.typings.Typed.{Typed}
 use Rattle.ua_type.specs.declared.typings.Typed.TheVariants as typings
-use Rattle.ua_type.specs.declared.types.Types.{Types}
-use Rattle.ua_type.specs.declared.types.Types.TheVariants.{Table, Exceeds}
+use Rattle.ua_type.specs.declared.tables.Types.{Types}
+use Rattle.ua_type.specs.declared.tables.Types.TheVariants.{Table, Exceeds}
 use Rattle.ua_type.specs.Permitted.{MayTypes}
 use Rattle.ua_text.specs.declared.named.Block.{Block}
 use Rattle.ua_script.specs.declared.script.Word.{Word}
