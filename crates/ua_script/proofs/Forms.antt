@@ -394,7 +394,7 @@ form_of (commands.Ask (provables.Hm a) modes.Count false) r = absurd r.formed.0
 form_of (commands.Types a) r = record { first = firsts.Types; named = refl; found = refl; parts = record { algebra = a; is = refl; named = r.spelled.1.0; behind = refl } }
 form_of (commands.Day a) r = record { first = firsts.Day; named = refl; found = refl; parts = record { algebra = a; is = refl; named = r.spelled.1.0; behind = refl } }
 form_of (commands.Condition a k is) r = record { first = firsts.Condition; named = refl; found = refl; parts = record { algebra = a; arity = k; identities = is; is = refl; named = r.spelled.1.0; short = r.spelled.1.1.0; behind = refl } }
-form_of (commands.Clone a k kind ps) r = record { first = firsts.Clone; named = refl; found = refl; parts = record { algebra = a; arity = k; kind = kind; values = ps; is = refl; named = r.spelled.1.0; short = r.spelled.1.1.0; short_values = short_points ps r.spelled.1.1.1.1; behind = refl } }
+form_of (commands.Clone a k kind ps) r = not_built (codes "clone") refl r.spelled.0
 form_of (commands.Ask what m true) r = not_built (codes "cert") refl r.spelled.0
 form_of (commands.Check a json) r = not_built (codes "check") refl r.spelled.0
 
