@@ -1,5 +1,5 @@
 #!/usr/bin/env python3
-"""Times `free`, `sub`, `ones`, `hom`, `holds`, `comm`, `series` and `make`, with one worker: bench/commands.py PROGRAM
+"""Times the commands beside `close`, `member`, `cg` and `con`, with one worker: bench/commands.py PROGRAM
 
 For each command the first words that its reply is to have and the processor time of the program are printed, and whether
 these are its first words.
@@ -29,6 +29,11 @@ def even_permutations(letters):
 def ring(modulus):
     """The ring of integers by a modulus."""
     return block(modulus, [(2, lambda a, b: (a + b) % modulus), (2, lambda a, b: a * b % modulus)])
+
+
+def chain(size):
+    """The chain of so many elements as a lattice."""
+    return block(size, [(2, min), (2, max)])
 
 
 def full(size):
@@ -61,6 +66,16 @@ def main():
         ("commutator in the group A4", even_permutations(4), f"comm A {full(12)} {full(12)}", "|0 "),
         ("derived series of the group A4", even_permutations(4), "series A derived", "series 3"),
         ("commutator in the ring of 8", ring(8), f"comm A {full(8)} {full(8)}", full(8)),
+        ("types of the ring of 60", ring(60), "types A", "types 20"),
+        ("types of the group A4", even_permutations(4), "types A", "types 2"),
+        ("types of a chain of 8", chain(8), "types A", "types 448"),
+        ("near-unanimity of 16 variables", lattice, "nu A 16", "yes"),
+        ("Maltsev term of the group A4", even_permutations(4), "cond A maltsev", "yes"),
+        ("majority in the integers by 21", integers(21), "cond A majority", "no 9261"),
+        ("Jonsson chain of a chain of 4", chain(4), "jonsson A", "chain 2"),
+        ("Jonsson in the integers by 21", integers(21), "jonsson A", "no 9261"),
+        ("Hagemann-Mitschke, integers by 21", integers(21), "hm A", "chain 2"),
+        ("Day chain of the integers by 9", integers(9), "day A", "chain 2"),
         ("product of 40 by 25", integers(25).replace("algebra A", "algebra B", 1) + integers(40), "make C product A B", "algebra C size 1000"),
     ]
     for name, blocks, command, known in workloads:
