@@ -1,5 +1,7 @@
-use Rattle.std.proofs.Common.{refl, sym, ap, ◌∙◌}
+use Rattle.std.proofs.Common.{refl, sym, ap, ◌∙◌, subst}
 use Rattle.std.proofs.lemmas.Result.{IfOk-weaker}
+use Rattle.ua_table.specs.Algebras.{FiniteAlgebra}
+use Rattle.ua_type.specs.Permitted.{MayTypes}
 use Rattle.ua_reply.specs.Sessions.{bounds_of, lookup}
 use Rattle.ua_reply.specs.Checks.{passed}
 use Rattle.ua_answer.specs.TypesCommand.{TypesAnswer}
@@ -13,5 +15,5 @@ returns g c =
     let k = c.in-Some.known.now in
     let known = sym (c.in-Some.ensures ∙ ap (lookup s) c.text.ensures.text) in
     IfOk-weaker c.types_reply.result _ _
-    (λ v text. known_answered s c.args.algebra.now (λ k. passed) (λ k. TypesAnswer k b) k v.items known refl (record { answer = c.types-answer.result; permitted = c.types-answer.ensures; told = text }))
+    (λ v text. known_answered s c.args.algebra.now (λ k. passed) (λ k. TypesAnswer k b) k v.items known refl (record { answer = c.types-answer.result; permitted = subst (λ (a : FiniteAlgebra). MayTypes a b.budget c.types-answer.result) c.algebra.ensures c.types-answer.ensures; told = text }))
     c.types_reply.ensures
