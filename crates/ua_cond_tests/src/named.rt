@@ -88,6 +88,17 @@ fn groups(rt: HostRuntime) -> Result<(), Fail> {
     expect_each(&rt, alloc, &permutations, &cases)
 }
 
+/// A quasigroup with its divisions, the differences modulo 4, has the Maltsev term (x / (y \ y)) * (y \ z).
+#[test]
+fn quasigroups(rt: HostRuntime) -> Result<(), Fail> {
+    let alloc = rt.alloc();
+    let cases: [(&[u8], &[u8]); 1] = [(b"maltsev", b"y")];
+    let differences = b"0321103221033210";
+    let sums = b"0123123023013012";
+    let tables: [(u8, &[u8]); 3] = [(2, differences), (2, differences), (2, sums)];
+    expect_each(&rt, alloc, &algebra(alloc, 4, &tables)?, &cases)
+}
+
 /// The implications of two elements have no Maltsev term (A. Mitschke, Implication algebras are
 /// 3-permutable and 3-distributive, 1971).
 #[test]
