@@ -166,11 +166,16 @@ module _ (a : FiniteAlgebra) (c : TermCondition) (some : 0 < a.size) (is : IsCon
   pub term_at : (t : Tree) → IsTerm (arities_of a) c.arity t → term_value (condition_power a c) (argument_vectors a c) t ≡ vector_of a (patterns_of c) t
   term_at t h = value_on_patterns a (patterns_of c) c.arity t (fill_places c is) h
 
+  pub written_from : (t : Tree) → IsTerm (arities (condition_power a c)) (length (argument_vectors a c)) t × (term_value (condition_power a c) (argument_vectors a c) t ≡ value_vector a c) → IsTerm (arities_of a) c.arity t × Meets a t c
+  written_from t h =
+      let is_term : IsTerm (arities_of a) c.arity t = subst (λ (X : Type 0). X) (same_terms t) h.0 in
+      (is_term, (meets_vector a c t).1 (sym (term_at t is_term) ∙ h.1))
+
+  pub written_as : (t : Tree) → IsTerm (arities_of a) c.arity t × Meets a t c → IsTerm (arities (condition_power a c)) (length (argument_vectors a c)) t × (term_value (condition_power a c) (argument_vectors a c) t ≡ value_vector a c)
+  written_as t h = (subst (λ (X : Type 0). X) (sym (same_terms t)) h.0, term_at t h.0 ∙ (meets_vector a c t).0 h.1)
+
   pub met_from_member : Sg (condition_power a c) (argument_vectors a c) (value_vector a c) → IsMet a c
-  met_from_member s =
-      let is_term : IsTerm (arities_of a) c.arity s.term = subst (λ (X : Type 0). X) (same_terms s.term) s.is_term in
-      record { term = s.term; is_term = is_term; meets = (meets_vector a c s.term).1 (sym (term_at s.term is_term) ∙ s.value) }
+  met_from_member s = let w = written_from s.term (s.is_term, s.value) in record { term = s.term; is_term = w.0; meets = w.1 }
 
   pub member_from_met : IsMet a c → Sg (condition_power a c) (argument_vectors a c) (value_vector a c)
-  member_from_met m =
-      record { term = m.term; is_term = subst (λ (X : Type 0). X) (sym (same_terms m.term)) m.is_term; value = term_at m.term m.is_term ∙ (meets_vector a c m.term).0 m.meets }
+  member_from_met m = let w = written_as m.term (m.is_term, m.meets) in record { term = m.term; is_term = w.0; value = w.1 }

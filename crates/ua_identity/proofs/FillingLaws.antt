@@ -1,19 +1,18 @@
 -- Fillings of one pattern after another.
-use Rattle.std.proofs.Common.{◌≡◌, ℕ, ◌+◌, ◌-◌, ◌/◌, ◌%◌, ◌^◌, ◌<◌, ◌≤◌, List, [], ◌∷◌, ◌++◌, length, map, take, drop, get_or, refl, sym, ap, ◌∙◌, arith}
+use Rattle.std.proofs.Common.{◌≡◌, ℕ, ◌+◌, ◌^◌, ◌<◌, ◌≤◌, List, [], ◌∷◌, ◌++◌, length, map, take, drop, get_or, refl, sym, ap, ◌∙◌, arith}
 use Rattle.std.specs.Prelude.{slice_index}
 use Rattle.std.specs.List.{flat_map}
 use Rattle.std.proofs.lemmas.Grind.{flat_map-append}
-use Rattle.std.proofs.lemmas.List.{length-map, length-append, map-append, append_assoc, append-nil, take_more, take_all, take-append-drop, get_or-map}
+use Rattle.std.proofs.lemmas.List.{length-map, length-append, map-append, append-nil, take_more, take-append-drop, get_or-map}
 use Rattle.std.proofs.lemmas.List.Folds.{length-flat_map-take}
-use Rattle.std.proofs.Math.Nat.{one-le-pow, pow-le-pow_right, pow-le-pow_left}
-use Rattle.ua_table.specs.declared.limits.TheConstants.{SIZE, WIDTH}
+use Rattle.std.proofs.Math.Nat.{pow-le-pow_right, pow-le-pow_left}
+use Rattle.ua_table.specs.declared.limits.TheConstants.{SIZE}
 use Rattle.ua_term.specs.Assignments.{assignments, projection}
 use Rattle.ua_term.proofs.AssignmentLaws.{length_assignments}
 use Rattle.ua_identity.specs.declared.limits.TheConstants.{LETTERS}
 use Rattle.ua_identity.specs.Identities.{VariablePattern, filled}
 use Rattle.ua_identity.specs.Patterns.{fillings, all_fillings, place_vector}
 use Rattle.ua_identity.proofs.PatternLaws.{map_twice, maps_agree}
-use Rattle.ua_identity.proofs.DigitLaws.{digit_at}
 
 -- ---- how many assignments
 
@@ -66,22 +65,3 @@ place_more n ps i j p l e low =
     ∙ map-append at (all_fillings n (take i ps)) (fillings n p)
     ∙ ap (λ (ys : List ℕ). place_vector (all_fillings n (take i ps)) j ++ ys)
     (map_twice at (filled p) (assignments n p.variables) ∙ maps_agree (λ xs. slice_index (filled p xs) j) (λ xs. slice_index xs (slice_index p.places j)) (assignments n p.variables) (λ xs c. get_or-map (slice_index xs) p.places j 0 0 low))
-
--- ---- one value of a variable more
-
-pub values_more : (old row row' : List ℕ) (n k v t x : ℕ) → row ≡ old ++ take t (projection n k v) → row' ≡ row ++ x ∷ [] → x ≡ (t / n ^ (k - 1 - v)) % n → 0 < n → t < n ^ k → v < k → row' ≡ old ++ take (t + 1) (projection n k v)
-values_more old row row' n k v t x h e is some l low =
-    let at = λ (xs : List ℕ). slice_index xs v in
-    let long = length-map (assignments n k) at ∙ length_assignments n k in
-    let here : get_or (projection n k v) t 0 ≡ x = get_or-map at (assignments n k) t [] 0 (omega (arith, l, length_assignments n k)) ∙ digit_at n k t v some l low ∙ sym is in
-    let more : take (t + 1) (projection n k v) ≡ take t (projection n k v) ++ x ∷ [] = take_more (projection n k v) t 0 (omega (arith, l, long)) ∙ ap (λ y. take t (projection n k v) ++ y ∷ []) here in
-    e ∙ ap (λ (xs : List ℕ). xs ++ x ∷ []) h ∙ append_assoc old (take t (projection n k v)) (x ∷ []) ∙ ap (λ (xs : List ℕ). old ++ xs) (sym more)
-
-pub values_all : (old row : List ℕ) (n k v t : ℕ) → row ≡ old ++ take t (projection n k v) → n ^ k ≤ t → row ≡ old ++ projection n k v
-values_all old row n k v t h l = h ∙ ap (λ (xs : List ℕ). old ++ xs) (take_all t (projection n k v) (let long = length-map (assignments n k) (λ (xs : List ℕ). slice_index xs v) ∙ length_assignments n k in omega (arith, l, long)))
-
-pub stride_below : (n k v : ℕ) → 0 < n → v < k → n ^ k ≤ WIDTH → n ^ (k - 1 - v) < 2 ^ 32
-stride_below n k v some l h = let le : n ^ (k - 1 - v) ≤ n ^ k = pow-le-pow_right some (omega (arith, l)) in omega (arith, le, h)
-
-pub stride_some : (n e : ℕ) → 0 < n → 0 < n ^ e
-stride_some n e some = one-le-pow e n some

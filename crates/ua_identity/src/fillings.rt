@@ -1,7 +1,7 @@
 //! What stands at the places of terms under patterns.
 
-ghost use Rattle.std.specs.Prelude.{◌≡◌, ◌+◌, ◌*◌, ◌<◌, ◌≤◌, ◌^◌, ◌++◌, length, IfOk, OnOk};
-ghost use Rattle.std.specs.List.{AllByRecursion};
+ghost use Rattle.std.specs.Prelude.{◌≡◌, ◌+◌, ◌*◌, ◌<◌, ◌≤◌, ◌^◌, ◌++◌, length, replicate, IfOk, OnOk};
+ghost use Rattle.std.specs.List.{AllByRecursion, flat_map, range_with_len};
 ghost use Rattle.ua_table.specs.declared.limits.TheConstants.{SIZE, WIDTH};
 ghost use Rattle.ua_term.specs.Assignments.{projection};
 ghost use Rattle.ua_identity.specs.declared.limits.TheConstants.{LETTERS};
@@ -37,6 +37,27 @@ pub fn width_of(size: u32, patterns: &[Pattern]) -> u128
     width
 }
 
+/// Appends an element so often.
+fn append_run(row: &mut Vec<Elem>, x: Elem, often: u32) -> Result<(), AllocError>
+    ensures { OnOk result (row.new.items ≡ row.old.items ++ replicate often x) }
+{
+    for _ in 0..often {
+        row.push(x)?;
+    }
+    Ok(())
+}
+
+/// Appends each of so many elements so often.
+fn append_round(row: &mut Vec<Elem>, size: u32, often: u32) -> Result<(), AllocError>
+    requires { size ≤ SIZE }
+    ensures { OnOk result (row.new.items ≡ row.old.items ++ flat_map (replicate often) (range_with_len 0 size)) }
+{
+    for x in 0..size {
+        append_run(row, x as Elem, often)?;
+    }
+    Ok(())
+}
+
 /// Appends what each assignment gives to a variable, in lexicographic order of the assignments.
 pub fn append_values(
     row: &mut Vec<Elem>,
@@ -50,9 +71,10 @@ pub fn append_values(
     requires narrow { size ^ variables ≤ WIDTH }
     ensures { OnOk result (row.new.items ≡ row.old.items ++ projection size variables variable) }
 {
-    let stride = size.pow(u32::from(variables - 1 - variable));
-    for number in 0..size.pow(u32::from(variables)) {
-        row.push((number / stride % size) as Elem)?;
+    // The variables behind it go through all their values before it goes on.
+    let often = size.pow(u32::from(variables - 1 - variable));
+    for _ in 0..size.pow(u32::from(variable)) {
+        append_round(row, size, often)?;
     }
     Ok(())
 }

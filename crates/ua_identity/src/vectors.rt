@@ -37,7 +37,7 @@ impl Condition {
         ensures { IfOk result (λ row. row.items ≡ place_vector (all_fillings a.now.size (patterns_of self.now)) place) }
     {
         let size = a.size();
-        let mut row = Vec::new(alloc);
+        let mut row = Vec::with_capacity(alloc, self.width(a) as usize)?;
         for identity in self.identities() {
             let pattern = identity.pattern();
             let variable = pattern.variable(place);
@@ -52,7 +52,7 @@ impl Condition {
         ensures { IfOk result (λ row. row.items ≡ value_vector a.now self.now) }
     {
         let size = a.size();
-        let mut row = Vec::new(alloc);
+        let mut row = Vec::with_capacity(alloc, self.width(a) as usize)?;
         for identity in self.identities() {
             let variables = identity.pattern().variables();
             append_values(&mut row, size, variables, identity.value())?;

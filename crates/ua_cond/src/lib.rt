@@ -1,0 +1,7 @@
+//! Whether some term of an algebra meets a condition.
+#![tactic(auto)]
+
+mod decisions;
+mod frames;
+
+pub use decisions::{decide, decide_rule};
