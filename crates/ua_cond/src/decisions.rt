@@ -15,9 +15,9 @@ use ua_table::Algebra;
 ///
 /// In the power with a coordinate for each identity and each assignment of its variables it closes what
 /// stands at the places of the term, within the budget of the run, until it finds what the identities say that
-/// the value is. The last of the steps of `Answer::Yes` writes such a term, in which variable j is what stands
-/// at place j. With `Answer::No` there is none. Beyond the budget the answer may be yes or `Answer::Exceeds`,
-/// by which members are found first.
+/// the value is. A power that is too wide is refused before anything is allocated. The last of the steps of
+/// `Answer::Yes` writes such a term, in which variable j is what stands at place j. With `Answer::No` there is
+/// none. Beyond the budget the answer may be yes or `Answer::Exceeds`, by which members are found first.
 pub fn decide<R: Threads + Sync, G: Gate>(
     rt: &R,
     alloc: Global,
