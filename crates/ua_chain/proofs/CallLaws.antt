@@ -1,5 +1,5 @@
 -- What a call for a least chain may answer.
-use Rattle.std.proofs.Common.{◌≡◌, ℕ, List, sym, subst, Ok}
+use Rattle.std.proofs.Common.{◌≡◌, ℕ, List, subst, Ok}
 use Rattle.ua_table.specs.Algebras.{Vector, FiniteAlgebra, Product}
 use Rattle.ua_table.specs.Listings.{Row, IsClosedListing}
 use Rattle.ua_table.specs.Orders.{IsSerialListing}

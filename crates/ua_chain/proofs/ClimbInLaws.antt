@@ -33,8 +33,8 @@ use Rattle.ua_chain.specs.KindTables.{link_of, pattern_at}
 use Rattle.ua_chain.specs.RowsOf.{AreOwnRows, AreLinksAt, HaveWidth}
 use Rattle.ua_chain.specs.ClimbsIn.{IsClimbIn}
 use Rattle.ua_chain.specs.Answers.{power_of, generators_of, term_of, AreTermSteps, IsGeneratorStep, AreChainSteps, HasNoChain, AreStepsOfRow, AreSerialTerms}
-use Rattle.ua_chain.specs.Closures.{IsClosureOf, AreRowSteps, AreStepsAt, AreEvenNumbers, AreOddNumbers, generator_step}
-use Rattle.ua_close.specs.Needed.{origin_at, AreStepsFor}
+use Rattle.ua_chain.specs.Closures.{IsClosureOf, AreStepsAt, AreEvenNumbers, AreOddNumbers, generator_step}
+use Rattle.ua_close.specs.Needed.{AreStepsFor}
 use Rattle.ua_chain.proofs.RowLaws.{chart_from, have_width, own_both}
 use Rattle.ua_chain.proofs.AnswerLaws.{AreStepsOf, step_row}
 use Rattle.ua_chain.proofs.SerialLaws.{serial_generator, generator_steps_for}

@@ -1,5 +1,5 @@
 -- The parts of each kind of chain fit together.
-use Rattle.std.proofs.Common.{◌≡◌, ◌<◌, ℕ, List, [], ◌∷◌, length, refl, arith}
+use Rattle.std.proofs.Common.{◌≡◌, ◌<◌, ℕ, List, refl, arith}
 use Rattle.std.specs.Prelude.{Contains, slice_index}
 use Rattle.ua_identity.specs.Identities.{VariablePattern, xxy, xyx, xyy}
 use Rattle.ua_identity.specs.Kinds.{IsKind, IsPatternOf, AreApart, jonsson, hagemann_mitschke, day, xyyx, xxww, xyyw}

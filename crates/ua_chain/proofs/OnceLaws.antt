@@ -1,5 +1,5 @@
 -- Vectors that stand once in a list.
-use Rattle.std.proofs.Common.{◌≡◌, ◌≢◌, ⊎_elim, ℕ, true, false, ◌<◌, List, [], length, get_or, sym, ap, ◌∙◌, subst, arith, Some}
+use Rattle.std.proofs.Common.{◌≡◌, ◌≢◌, ⊎_elim, ℕ, true, false, ◌<◌, List, [], length, get_or, sym, ◌∙◌, subst, arith, Some}
 use Rattle.std.specs.Prelude.{slice_get, nat_eq}
 use Rattle.std.specs.List.{IsDistinct}
 use Rattle.std.specs.Cmp.Lexicographic.{slice_cmp, pointwise, bytes_decides, texts_ties}

@@ -17,7 +17,7 @@ use Rattle.ua_term.specs.Assignments.{projection}
 use Rattle.ua_identity.specs.Identities.{VariablePattern, TermIdentity, Satisfies}
 use Rattle.ua_identity.specs.Chains.{ChainKind, Link, AreLinked}
 use Rattle.ua_identity.specs.Kinds.{IsKind}
-use Rattle.ua_identity.specs.Patterns.{fillings, all_fillings, start_of, vector_of}
+use Rattle.ua_identity.specs.Patterns.{fillings, all_fillings, vector_of}
 use Rattle.ua_chain.specs.Charts.{IsRowOf, IsChart}
 use Rattle.ua_identity.proofs.PatternLaws.{part_is, linked_from_parts, parts_from_linked, satisfied_from_part, part_from_satisfied}
 use Rattle.ua_chain.proofs.PartLaws.{start_more, start_below}

@@ -1,7 +1,6 @@
 -- A kind of chain by the numbers of its patterns.
 use Rattle.std.specs.Prelude.{ℕ, ◌-◌, ◌<◌, ◌≤◌, Bool, Option, Some, None, List, [], ◌∷◌, length, slice_index, slice_index_or}
 use Rattle.std.specs.Option.{IfSome}
-use Rattle.std.specs.List.{AllByRecursion}
 use Rattle.ua_identity.specs.Identities.{VariablePattern, TermIdentity}
 use Rattle.ua_identity.specs.Chains.{Link, ChainKind}
 use Rattle.ua_identity.specs.Kinds.{IsKind}

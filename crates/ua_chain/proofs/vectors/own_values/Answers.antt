@@ -1,4 +1,4 @@
-use Rattle.std.proofs.Common.{◌≡◌, ◌^◌, ◌≤◌, List, ap, ◌∙◌, arith}
+use Rattle.std.proofs.Common.{◌^◌, List, ap, ◌∙◌, arith}
 use Rattle.std.specs.Prelude.{slice_index_or}
 use Rattle.ua_identity.specs.Identities.{VariablePattern}
 use Rattle.ua_chain.proofs.PartLaws.{pattern_narrow}
