@@ -88,7 +88,7 @@ itself_back b row pair first second _ =
     (subst (λ u. Generates b (slice_index row 0) (slice_index row 1) (slice_index row 0) u) second (generates_itself b (slice_index row 0) (slice_index row 1)))
 
 module _ (b : FiniteAlgebra) (budget workers x y : ℕ) where
-  pub pairs_exceed : (rows : List Row) → MayClose (replicate 2 b) (pair_generators b x y) budget workers (Ok (Exceeds rows)) → HasMorePairs b budget x y
+  pairs_exceed : (rows : List Row) → MayClose (replicate 2 b) (pair_generators b x y) budget workers (Ok (Exceeds rows)) → HasMorePairs b budget x y
   pairs_exceed rows h = exceeding_has_more (replicate 2 b) (pair_generators b x y) budget rows h.1
 
   pub try_beyond : (rows : List Row) → MayClose (replicate 2 b) (pair_generators b x y) budget workers (Ok (Exceeds rows)) → MayTry b budget (x, y) (Ok Beyond)
