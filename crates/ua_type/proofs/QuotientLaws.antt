@@ -1,12 +1,12 @@
 -- The quotient by a congruence is an algebra, and a congruence above it is a partition of its elements.
-use Rattle.std.proofs.Common.{◌≡◌, ℕ, ◌+◌, ◌<◌, ◌≤◌, ◌^◌, List, [], ◌∷◌, ◌++◌, length, map, take, get_or, refl, sym, ap, ap₂, ◌∙◌, arith}
+use Rattle.std.proofs.Common.{◌≡◌, ℕ, ◌<◌, ◌≤◌, ◌^◌, List, [], ◌∷◌, length, map, get_or, refl, sym, ap, ◌∙◌, arith}
 use Rattle.std.specs.Prelude.{slice_index}
 use Rattle.std.specs.List.{AllByRecursion, range_with_len}
-use Rattle.std.proofs.lemmas.List.{length-map, get_or-map, ext_get_or, take_more, map-append}
+use Rattle.std.proofs.lemmas.List.{length-map, get_or-map, ext_get_or}
 use Rattle.std.proofs.lemmas.List.FromFn.{length-map-range_with_len, get_or-map-range_with_len}
 use Rattle.ua_table.specs.Algebras.{Operation, FiniteAlgebra, IsAlgebra, IsOperation, arities_of, value_at, numeral}
 use Rattle.ua_table.proofs.ApplyLemmas.{value-below, numeral-below}
-use Rattle.ua_table.proofs.Lists.{any_default, found, mapped_at}
+use Rattle.ua_table.proofs.Lists.{found, mapped_at}
 use Rattle.ua_part.specs.Partitions.{Partition, IsPartition, LiesBelow, IsByLabels}
 use Rattle.ua_part.specs.Blocks.{leaders}
 use Rattle.ua_part.proofs.PartitionLaws.{leader_within, leaders_from_below, below_both}
@@ -184,10 +184,3 @@ module _ (a : FiniteAlgebra) (p q : Partition) (cp : IsCongruence a p) (cq : IsC
 -- labels make one partition
 pub one_partition : (labels p q : List ℕ) → IsByLabels labels p → IsByLabels labels q → p ≡ q
 one_partition labels p q hp hq = below_both p q hp.partition hq.partition (λ a b s. (hq.relates a b).1 ((hp.relates a b).0 s)) (λ a b s. (hp.relates a b).1 ((hq.relates a b).0 s))
-
--- one label more
-pub labels_more : (p : Partition) (list old new : List ℕ) (k x label : ℕ) → k < length list → x ≡ get_or list k x → label ≡ slice_index p x → old ≡ map (slice_index p) (take k list) → new ≡ old ++ label ∷ [] → new ≡ map (slice_index p) (take (k + 1) list)
-labels_more p list old new k x label w read value before pushed =
-    pushed
-    ∙ ap₂ (λ (os : List ℕ) n. os ++ n ∷ []) before (value ∙ ap (slice_index p) (read ∙ any_default list k x 0 w))
-    ∙ sym (ap (map (slice_index p)) (take_more list k 0 w) ∙ map-append (slice_index p) (take k list) (get_or list k 0 ∷ []))

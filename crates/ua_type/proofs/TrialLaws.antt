@@ -1,18 +1,22 @@
 -- What closing the pairs of a pair tells of it.
-use Rattle.std.proofs.Common.{◌≡◌, ◌≢◌, ◌⊎◌, ℕ, ◌^◌, ◌<◌, ◌≤◌, Bool, List, [], ◌∷◌, length, replicate, refl, ◌∙◌, subst, Option, Some, None}
-use Rattle.std.specs.Prelude.{Contains, slice_index, slice_index_or, slice_get, IfSome, IfNone, IsTrue, ◌↔◌, Result, Ok, Err}
+use Rattle.std.proofs.Common.{◌≡◌, ◌≢◌, ◌⊎◌, ℕ, ◌^◌, ◌<◌, ◌≤◌, Bool, true, false, List, [], ◌∷◌, length, replicate, refl, sym, ◌∙◌, subst, Option, Some, None}
+use Rattle.std.specs.Prelude.{Contains, slice_index, slice_index_or, slice_get, IfSome, IfNone, IsTrue, ◌↔◌, Result, Ok, Err, Vec}
 use Rattle.std.specs.Option.{is_some}
+use Rattle.std.specs.declared.alloc.Global.{Global}
 use Rattle.ua_table.specs.Algebras.{Vector, FiniteAlgebra, IsAlgebra, arities}
 use Rattle.ua_table.specs.Generated.{Sg}
 use Rattle.ua_table.specs.Numbering.{records}
 use Rattle.ua_table.specs.Listings.{Row, vectors_of, IsClosedListing}
-use Rattle.ua_table.proofs.ListingLaws.{closed_has_no_more, exceeding_has_more}
+use Rattle.ua_table.proofs.ListingLaws.{vector_in, closed_has_no_more, exceeding_has_more}
 use Rattle.ua_table.proofs.Lists.{any_default, Contains-slice_get}
 use Rattle.ua_close.specs.declared.close.CloseError.{CloseError}
 use Rattle.ua_close.specs.declared.close.CloseError.TheVariants.{Wide, OutOfMemory}
 use Rattle.ua_close.specs.declared.close.Closure.TheVariants.{Closed, Exceeds}
 use Rattle.ua_close.specs.Answers.{IsWide, IsCause, cells}
-use Rattle.ua_close.specs.Permitted.{MayClose}
+use Rattle.ua_close.specs.declared.reaches.Reach.{Reach}
+use Rattle.ua_close.specs.declared.reaches.Reach.TheVariants as reaches
+use Rattle.ua_work.specs.declared.goals.Goal.TheVariants.{Target}
+use Rattle.ua_close.specs.Permitted.{MayClose, MayReach}
 use Rattle.ua_part.specs.Partitions.{Partition, SameBlock}
 use Rattle.ua_close.proofs.KindLaws.{members_vectors}
 use Rattle.ua_table.specs.declared.limits.TheConstants.{CELLS}
@@ -84,7 +88,7 @@ itself_back b row pair first second _ =
     (subst (λ u. Generates b (slice_index row 0) (slice_index row 1) (slice_index row 0) u) second (generates_itself b (slice_index row 0) (slice_index row 1)))
 
 module _ (b : FiniteAlgebra) (budget workers x y : ℕ) where
-  pub pairs_exceed : (rows : List Row) → MayClose (replicate 2 b) (pair_generators b x y) budget workers (Ok (Exceeds rows)) → HasMorePairs b budget x y
+  pairs_exceed : (rows : List Row) → MayClose (replicate 2 b) (pair_generators b x y) budget workers (Ok (Exceeds rows)) → HasMorePairs b budget x y
   pairs_exceed rows h = exceeding_has_more (replicate 2 b) (pair_generators b x y) budget rows h.1
 
   pub try_beyond : (rows : List Row) → MayClose (replicate 2 b) (pair_generators b x y) budget workers (Ok (Exceeds rows)) → MayTry b budget (x, y) (Ok Beyond)
@@ -99,11 +103,22 @@ module _ (b : FiniteAlgebra) (budget workers x y : ℕ) where
   pub pairs_wide : (e : CloseError) → MayClose (replicate 2 b) (pair_generators b x y) budget workers (Err e) → ArePairsWide b budget e
   pairs_wide e h = wide_all b budget x y e h
 
-pub back_told : (b : FiniteAlgebra) (budget workers : ℕ) (row : Vector) (pair : ℕ × ℕ) (rows : List Row) (t : Bool) → MayClose (replicate 2 b) (pair_generators b (slice_index row 0) (slice_index row 1)) budget workers (Ok (Closed rows)) → IsTrue t ↔ Contains (vectors_of rows) (pair.0 ∷ pair.1 ∷ []) → slice_index row 0 ≢ slice_index row 1 → IsTrue t ↔ GoesBack b row pair
-back_told b budget workers row pair rows t h told differ =
-    let closed = h.1 in
-    let v : Vector = pair.0 ∷ pair.1 ∷ [] in
-    (λ is _. (closed.exact v).0 (told.0 is), λ back. told.1 ((closed.exact v).1 (back differ)))
+module _ (b : FiniteAlgebra) (budget workers : ℕ) (row : Vector) (pair : ℕ × ℕ) (target : Vec ℕ Global) (is : target.items ≡ pair.0 ∷ pair.1 ∷ []) where
+  abbrev pub MaySeek : Result Reach CloseError → Type 0
+  MaySeek r = MayReach (replicate 2 b) (pair_generators b (slice_index row 0) (slice_index row 1)) (Target target) budget workers r
+
+  pub met_back : (rows : List Row) → MaySeek (Ok (reaches.Met rows)) → IsTrue true ↔ GoesBack b row pair
+  met_back rows h =
+      let p = replicate 2 b in
+      let gens = pair_generators b (slice_index row 0) (slice_index row 1) in
+      (λ _ _. subst (Sg p gens) is (vector_in p gens rows h.1.listing target.items h.1.met), λ _. refl)
+
+  pub closed_back : (rows : List Row) → slice_index row 0 ≢ slice_index row 1 → MaySeek (Ok (reaches.Closed rows)) → IsTrue false ↔ GoesBack b row pair
+  closed_back rows differ h =
+      (λ t. absurd (cc), λ back. absurd (h.1.1 (subst (Contains (vectors_of rows)) (sym is) ((h.1.0.exact (pair.0 ∷ pair.1 ∷ [])).1 (back differ)))))
+
+  pub never_beyond : (rows : List Row) → ¬ HasMorePairs b budget (slice_index row 0) (slice_index row 1) → MaySeek (Ok (reaches.Exceeds rows)) → ⊥
+  never_beyond rows within h = within (exceeding_has_more (replicate 2 b) (pair_generators b (slice_index row 0) (slice_index row 1)) budget rows h.1.0)
 
 -- a pair of related different elements is tried
 pub related_tried : (b : FiniteAlgebra) (theta : Partition) (budget : ℕ) (pair : ℕ × ℕ) → SameBlock theta pair.0 pair.1 → pair.0 ≢ pair.1 → (r : Result Trial CloseError) → MayTry b budget pair r → MayTryRelated b theta budget pair r

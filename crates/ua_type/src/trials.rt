@@ -2,7 +2,8 @@
 
 ghost use Rattle.std.specs.Prelude.{◌≡◌, ◌<◌, ◌↔◌, [], ◌∷◌, length, slice_index, Contains, IsTrue, replicate};
 ghost use Rattle.ua_table.specs.Listings.{vectors_of, IsClosedListing};
-ghost use Rattle.ua_close.specs.Permitted.{MayClose};
+ghost use Rattle.ua_work.specs.Goals.{IsGoal};
+ghost use Rattle.ua_close.specs.Permitted.{MayClose, MayReach};
 ghost use Rattle.ua_type.specs.Subtraces.{pair_generators};
 ghost use Rattle.ua_type.specs.Trials.{HasMorePairs, ArePairsNarrow};
 ghost use Rattle.ua_type.specs.Outcomes.{MayGoBack, MayTry};
@@ -10,7 +11,8 @@ ghost use Rattle.ua_type.specs.Outcomes.{MayGoBack, MayTry};
 use crate::generators::pair_generators;
 use std::alloc::Global;
 use std::thread::Threads;
-use ua_close::{CloseError, Closure, Gate, Listing, Run, close_set};
+use ua_close::calls::reach;
+use ua_close::{CloseError, Closure, Gate, Goal, Listing, Reach, Run, close_set};
 use ua_table::{Algebra, Elem, Frame};
 
 /// What comes of the trial of a pair.
@@ -60,8 +62,33 @@ fn is_same(pair: (Elem, Elem), other: (Elem, Elem)) -> bool
     pair.0 == other.0 && pair.1 == other.1
 }
 
+/// Closes the pairs that a pair generates until a goal is met.
+fn sought<R: Threads + Sync, G: Gate>(
+    rt: &R,
+    alloc: Global,
+    b: &Algebra,
+    x: Elem,
+    y: Elem,
+    goal: &Goal,
+    run: &Run<G>,
+) -> Result<Reach, CloseError>
+    requires first { x < b.now.size }
+    requires second { y < b.now.size }
+    requires goal { IsGoal (replicate 2 b.now) goal.now }
+    ensures { MayReach (replicate 2 b.now) (pair_generators b.now x y) goal.now run.now.budget run.now.workers result }
+{
+    // The size of an algebra is within its limit.
+    let _size = b.size();
+    let Ok(frame) = Frame::power(b, 2) else {
+        unreachable!()
+    };
+    let gens = pair_generators(alloc, b, x, y)?;
+    reach(rt, alloc, &frame, &gens, goal, run)
+}
+
 /// Whether the pair of a row, if its elements differ, generates another pair. The pairs that it generates are
-/// within the budget. The other pair itself is not asked: its pairs are not closed again.
+/// within the budget, and are closed until that pair is found. The other pair itself is not asked: its pairs
+/// are not closed again.
 fn goes_back<R: Threads + Sync, G: Gate>(
     rt: &R,
     alloc: Global,
@@ -73,6 +100,8 @@ fn goes_back<R: Threads + Sync, G: Gate>(
     requires width { length row.now ≡ 2 }
     requires first { slice_index row.now 0 < b.now.size }
     requires second { slice_index row.now 1 < b.now.size }
+    requires low { pair.0 < b.now.size }
+    requires high { pair.1 < b.now.size }
     requires within { ¬ HasMorePairs b.now run.now.budget (slice_index row.now 0) (slice_index row.now 1) }
     ensures { MayGoBack b.now run.now.budget row.now pair result }
 {
@@ -83,9 +112,11 @@ fn goes_back<R: Threads + Sync, G: Gate>(
     if is_same((c, d), pair) {
         return Ok(true);
     }
-    match generated(rt, alloc, b, c, d, run)? {
-        Closure::Exceeds(_) => unreachable!(),
-        Closure::Closed(list) => Ok(has(&list, pair)),
+    let goal = Goal::Target([pair.0, pair.1].to_vec(alloc)?);
+    match sought(rt, alloc, b, c, d, &goal, run)? {
+        Reach::Exceeds(_) => unreachable!(),
+        Reach::Met(_) => Ok(true),
+        Reach::Closed(_) => Ok(false),
     }
 }
 

@@ -1,5 +1,6 @@
 //! The first subtraces and the types of single covers.
 
+ghost use Rattle.std.specs.Prelude.{◌<◌, length};
 ghost use Rattle.ua_lattice.specs.Lattices.{IsCongruenceList, AreCovers};
 
 use crate::given::algebra;
@@ -26,11 +27,9 @@ fn put_cover<R: Threads + Sync>(
 ) -> Result<(), Fail>
     requires list { IsCongruenceList a.now list.now }
     requires covers { AreCovers list.now covers.now }
+    requires within { k < length covers.now }
 {
     laws::covers();
-    if k >= covers.len() {
-        return Err("no such cover".into());
-    }
     let run = Run::new(budget, 2, &FreeGate).ok_or("a number out of its limits")?;
     let (i, j) = covers[k];
     let (lower, upper) = (&list[i as usize], &list[j as usize]);

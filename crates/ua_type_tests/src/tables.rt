@@ -98,24 +98,23 @@ fn one_and_two_elements(rt: HostRuntime) -> Result<(), Fail> {
     expect_all(&rt, alloc, &cases)
 }
 
-/// The diamond and the pentagon, and a chain as a semilattice.
+/// The diamond and the pentagon.
 #[test]
-fn lattices_and_a_semilattice(rt: HostRuntime) -> Result<(), Fail> {
+fn lattices(rt: HostRuntime) -> Result<(), Fail> {
     let alloc = rt.alloc();
-    let diamond: [(u8, &[u8]); 2] = [
-        (2, b"0000001001002020003301234"),
-        (2, b"0123411444242443443444444"),
-    ];
-    let pentagon: [(u8, &[u8]); 2] = [
-        (2, b"0000001101012020003301234"),
-        (2, b"0123411244222443443444444"),
-    ];
-    let cases: [(u32, &[(u8, &[u8])], &[u8]); 3] = [
-        (5, &diamond, b" 01401"),
-        (5, &pentagon, b" 01412 12401 13403 24403 34401"),
-        (3, &[(2, b"000011012")], b" 01501 02512 13502 23501"),
-    ];
-    expect_all(&rt, alloc, &cases)
+    let diamond: [&[u8]; 2] = [b"0000001001002020003301234", b"0123411444242443443444444"];
+    let a = algebra(alloc, 5, &[(2, diamond[0]), (2, diamond[1])])?;
+    expect(&rt, alloc, &a, 10_000, b" 01401")?;
+    let pentagon: [&[u8]; 2] = [b"0000001101012020003301234", b"0123411244222443443444444"];
+    let a = algebra(alloc, 5, &[(2, pentagon[0]), (2, pentagon[1])])?;
+    expect(&rt, alloc, &a, 10_000, b" 01412 12401 13403 24403 34401")
+}
+
+#[test]
+fn a_chain_as_a_semilattice(rt: HostRuntime) -> Result<(), Fail> {
+    let alloc = rt.alloc();
+    let a = algebra(alloc, 3, &[(2, b"000011012")])?;
+    expect(&rt, alloc, &a, 10_000, b" 01501 02512 13502 23501")
 }
 
 /// The sums modulo 4, the permutations of three elements, and the quaternions.
