@@ -55,7 +55,7 @@ fn told<R: Threads + Sync>(
     Ok(text)
 }
 
-/// Compares the rows, with these operations on so many elements.
+/// Compares the rows of an algebra, with 1 and 2 workers.
 fn expect<R: Threads + Abort + Sync>(
     rt: &R,
     alloc: Global,
