@@ -12,6 +12,7 @@ use Rattle.ua_script.specs.declared.script.Number.{Number}
 use Rattle.ua_script.specs.declared.script.IdentityText.{IdentityText}
 use Rattle.ua_reply.specs.Checks.{Passes, ◌and◌, all_in}
 use Rattle.ua_reply.proofs.CheckLaws.{parts_pass, each_passes}
+use Rattle.ua_answer.specs.CondCommand.{nu_checks}
 use Rattle.ua_answer.specs.ConditionCommand.{number_of, numbers_in, variables_in, identity_of, condition_of, arity_in, identity_in, condition_checks}
 use Rattle.ua_answer.proofs.Reducts.{known_step}
 
@@ -61,3 +62,15 @@ is_condition k is passes some few =
       identities = are_identities (variables_in is) is few (all_named is);
       filled = are_filled k (variables_in is) is (each_passes (identity_in k) is p.1);
     }
+
+-- its terms have no more places than a byte counts
+pub few_places : (k : Number) (is : List IdentityText) → Passes (condition_checks k is) → k.value ≤ 16
+few_places k is passes =
+    let p = parts_pass (arity_in k) (all_in (identity_in k) is) passes in
+    leb-true k.value 16 (and_parts (nat_le 1 k.value) (nat_le k.value 16) (known_step (nat_le 1 k.value && nat_le k.value 16) k.place p.0.range)).1
+
+-- nor a near-unanimity term fewer than 3 or more than 16
+pub nu_places : (k : Number) → Passes (nu_checks k) → (3 ≤ k.value) × (k.value ≤ 16)
+nu_places k passes =
+    let a = and_parts (nat_le 3 k.value) (nat_le k.value 16) (known_step (nat_le 3 k.value && nat_le k.value 16) k.place passes.range) in
+    (leb-true 3 k.value a.0, leb-true k.value 16 a.1)
