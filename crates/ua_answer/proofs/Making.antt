@@ -1,5 +1,5 @@
 -- What a `make` is answered, from what it makes.
-use Rattle.std.proofs.Common.{◌≡◌, ℕ, List, Some, None, refl, sym, ap, ◌∙◌, subst}
+use Rattle.std.proofs.Common.{◌≡◌, ℕ, List, Some, None, sym, ap, ◌∙◌, subst}
 use Rattle.std.specs.Prelude.{Option, Result, Ok, Err, IfOk}
 use Rattle.std.specs.Option.{MatchOption}
 use Rattle.ua_table.specs.Algebras.{FiniteAlgebra}
@@ -8,7 +8,6 @@ use Rattle.ua_text.specs.declared.tokens.Place.{Place}
 use Rattle.ua_text.specs.declared.named.Block.{Block}
 use Rattle.ua_script.specs.declared.script.Word.{Word}
 use Rattle.ua_script.specs.declared.script.MakeForm.{MakeForm}
-use Rattle.ua_reply.specs.declared.refusals.Refusal.{Refusal}
 use Rattle.ua_reply.specs.Checks.{Checks, checks_in, first_error}
 use Rattle.ua_reply.specs.Refusals.{refusal_text}
 use Rattle.ua_answer.specs.MakeCommand.{Of, MayMake, make_checks, make_text, with_made, Makes, MakeReply}

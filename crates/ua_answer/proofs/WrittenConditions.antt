@@ -1,16 +1,15 @@
 -- What is written as a condition is one, where it passes its checks.
-use Rattle.std.proofs.Common.{◌≡◌, ℕ, suc, ◌<◌, ◌≤◌, ◌==◌, ◌&&◌, max, nat_le, List, [], ◌∷◌, ◌++◌, length, map, refl, sym, ◌∙◌, subst, arith}
+use Rattle.std.proofs.Common.{◌≡◌, ℕ, suc, ◌<◌, ◌≤◌, ◌==◌, ◌&&◌, max, nat_le, List, [], ◌∷◌, ◌++◌, length, map, ◌∙◌, arith}
 use Rattle.std.specs.Prelude.{fold}
 use Rattle.std.specs.List.{AllByRecursion, flat_map}
 use Rattle.std.proofs.Math.Nat.{le-max_left, le-max_right}
 use Rattle.std.proofs.lemmas.Bool.{and_parts, leb-true, eqb-true}
 use Rattle.std.proofs.lemmas.List.{length-map}
-use Rattle.ua_table.specs.Numbering.{greatest}
 use Rattle.ua_identity.specs.Identities.{TermIdentity}
 use Rattle.ua_identity.specs.Conditions.{IsIdentity, IsCondition}
 use Rattle.ua_script.specs.declared.script.Number.{Number}
 use Rattle.ua_script.specs.declared.script.IdentityText.{IdentityText}
-use Rattle.ua_reply.specs.Checks.{Passes, ◌and◌, all_in}
+use Rattle.ua_reply.specs.Checks.{Passes, all_in}
 use Rattle.ua_reply.proofs.CheckLaws.{parts_pass, each_passes}
 use Rattle.ua_answer.specs.CondCommand.{nu_checks}
 use Rattle.ua_answer.specs.ConditionCommand.{number_of, numbers_in, variables_in, identity_of, condition_of, arity_in, identity_in, condition_checks}

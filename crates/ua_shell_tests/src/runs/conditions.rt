@@ -83,6 +83,45 @@ fn refused_conditions(rt: HostRuntime) -> Result<(), Fail> {
     )
 }
 
+#[test]
+fn written_conditions(rt: HostRuntime) -> Result<(), Fail> {
+    let trial = Trial {
+        blocks: MEET,
+        workers: ONE,
+        ..CONDITIONS
+    };
+    let alloc = rt.alloc();
+    rows(
+        &rt,
+        alloc,
+        trial,
+        &[
+            (
+                "condition M 2 (x y) = y (y x) = y",
+                "no 3
+[0 0 0 1 0 0 0 1] 2 meet 2 1
+[0 0 1 1 0 1 0 1] 0 gen 0
+[0 1 0 1 0 0 1 1] 1 gen 1
+",
+            ),
+            ("condition M 2 (x y) = x", "yes 1\n0 gen 0\n"),
+            ("condition M 16 (x x x x x x x x x x x x x x x y) = y", "yes 1\n0 gen 15\n"),
+            ("condition M 2 (x y y) = x", "error shape 4:15\n"),
+            ("condition M 2 (x y) = x (x) = y", "error shape 4:25\n"),
+            ("condition M 0 (x) = x", "error range 4:13\n"),
+            ("condition M 17 (x) = x", "error range 4:13\n"),
+            ("condition X 17 (x) = x", "error unknown 4:11\n"),
+        ],
+    )?;
+    let groups = Trial {
+        workers: ANY,
+        ..CONDITIONS
+    };
+    begins(&rt, alloc, groups, "condition L 4 (x y y y) = y (y y x y) = y (y y y x) = y", "yes ")?;
+    begins(&rt, alloc, groups, "condition Z2 3 (x y y) = x (x x y) = y", "yes ")?;
+    begins(&rt, alloc, groups, "condition Z2 3 (w w z) = w (w z w) = w (z w w) = w", "no 8\n")
+}
+
 /// Two members are found, and neither is what the condition wants.
 #[test]
 fn conditions_beyond_the_budget(rt: HostRuntime) -> Result<(), Fail> {

@@ -1,6 +1,5 @@
 use Rattle.std.proofs.Common.{subst}
 use Rattle.ua_cond.specs.Permitted.{MayDecide}
-use Rattle.ua_answer.specs.ConditionCommand.{condition_of}
 use Rattle.ua_answer.proofs.condition.decided.Goals as goal
 
 pub returns : goal.returns

@@ -1,9 +1,6 @@
-use Rattle.std.proofs.Common.{◌≡◌, ◌<◌, ◌++◌, ◌∷◌, [], ℕ, List, length, Some, None, Ok, Err, refl, sym, ap, ◌∙◌, subst, arith}
-use Rattle.std.specs.List.{AllByRecursion}
-use Rattle.std.specs.Prelude.{Contains}
+use Rattle.std.proofs.Common.{◌≡◌, ◌++◌, ◌∷◌, [], ℕ, List, Some, Ok, sym, ap, ◌∙◌, subst}
 use Rattle.std.proofs.lemmas.Result.{IfOk-weaker}
 use Rattle.ua_table.specs.Algebras.{FiniteAlgebra}
-use Rattle.ua_part.specs.Blocks.{HasBlocks}
 use Rattle.ua_prod.specs.Permitted.{MayQuotient}
 use Rattle.ua_text.specs.Signs.{printed}
 use Rattle.ua_text.specs.Blocks.{block, unnamed}

@@ -1,6 +1,5 @@
-use Rattle.std.proofs.Common.{◌≡◌, ◌<◌, ◌++◌, ◌∷◌, [], ℕ, List, length, Some, None, Ok, Err, refl, sym, ap, ◌∙◌, subst, arith}
+use Rattle.std.proofs.Common.{◌≡◌, ◌<◌, ◌++◌, ◌∷◌, [], ℕ, List, Some, None, Ok, Err, sym, ap, ◌∙◌, subst}
 use Rattle.std.specs.List.{AllByRecursion}
-use Rattle.std.specs.Prelude.{Contains}
 use Rattle.std.proofs.lemmas.Result.{IfOk-weaker}
 use Rattle.ua_table.specs.Algebras.{FiniteAlgebra}
 use Rattle.ua_prod.specs.Permitted.{MaySub}
@@ -15,7 +14,7 @@ use Rattle.ua_answer.specs.Replies.{left_by}
 use Rattle.ua_script.specs.declared.script.Entry.{Entry}
 use Rattle.ua_script.specs.declared.script.MakeForm.TheVariants.{Sub}
 use Rattle.ua_reply.specs.Checks.{first_error}
-use Rattle.ua_reply.specs.Operands.{values_of, elements_in}
+use Rattle.ua_reply.specs.Operands.{elements_in}
 use Rattle.ua_answer.specs.MakeCommand.{MayGenerate}
 use Rattle.ua_answer.proofs.Making.{makes, both_ok, found_of, found_passes}
 use Rattle.ua_answer.proofs.make.make_sub.Goals as goal

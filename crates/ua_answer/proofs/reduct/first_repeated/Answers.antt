@@ -1,14 +1,13 @@
-use Rattle.std.proofs.Common.{◌≡◌, ◌≢◌, ◌+◌, ◌<◌, ◌≤◌, ◌==◌, ℕ, zero, suc, Bool, true, false, List, [], ◌∷◌, length, drop, set, get_or, replicate, ◌||◌, Some, inl, inr, refl, sym, ap, ◌∙◌, subst, arith, drop-cons, add-one, length-set}
+use Rattle.std.proofs.Common.{◌≡◌, ◌≢◌, ◌+◌, ◌<◌, ◌≤◌, ◌==◌, ℕ, suc, Bool, true, false, List, [], ◌∷◌, length, drop, set, get_or, ◌||◌, refl, sym, ap, ◌∙◌, subst, arith, drop-cons, add-one, length-set}
 use Rattle.std.specs.List.{list_any}
-use Rattle.std.proofs.lemmas.Bool.{cases_lt}
 use Rattle.std.proofs.lemmas.Bool.Decides.{nat_tests}
 use Rattle.std.proofs.lemmas.Grind.{common_steps}
 use Rattle.std.proofs.lemmas.List.{get_or-set_same, get_or-set_other, get_or-replicate}
 use Rattle.ua_table.specs.declared.limits.TheConstants.{OPERATIONS}
-use Rattle.ua_table.specs.Algebras.{Operation, FiniteAlgebra}
+use Rattle.ua_table.specs.Algebras.{FiniteAlgebra}
 use Rattle.ua_term.specs.Meanings.{first_place}
 use Rattle.ua_script.specs.declared.script.Word.{Word}
-use Rattle.ua_answer.specs.MakeCommand.{number_of, repeated}
+use Rattle.ua_answer.specs.MakeCommand.{repeated}
 use Rattle.ua_answer.proofs.Reducts.{repeated_here, repeated_later}
 use Rattle.ua_answer.proofs.reduct.first_repeated.Goals as goal
 

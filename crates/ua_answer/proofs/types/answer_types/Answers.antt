@@ -15,5 +15,5 @@ returns g c =
     let k = c.in-Some.known.now in
     let known = sym (c.in-Some.ensures ∙ ap (lookup s) c.text.ensures.text) in
     IfOk-weaker c.types_reply.result _ _
-    (λ v text. known_answered s c.args.algebra.now (λ k. passed) (λ k. TypesAnswer k b) k v.items known refl (record { answer = c.types-answer.result; permitted = subst (λ (a : FiniteAlgebra). MayTypes a b.budget c.types-answer.result) c.algebra.ensures c.types-answer.ensures; told = text }))
+    (λ v text. known_answered s c.args.algebra.now (λ k. passed) (λ k. TypesAnswer k b) k v.items known refl (record { answer = c.types-answer.result; permitted = subst (λ (a : FiniteAlgebra). MayTypes a b.budget c.types-answer.result) c.algebra.ensures c.types-answer.ensures.permitted; told = text }))
     c.types_reply.ensures
