@@ -12,8 +12,14 @@ const CHAINS: Trial = Trial {
 
 #[test]
 fn chains_of_length_two(rt: HostRuntime) -> Result<(), Fail> {
-    for command in ["jonsson L", "jonsson B", "hm Z2", "hm S", "day Z2", "day L"] {
-        begins(&rt, rt.alloc(), CHAINS, command, "chain 2\nterm 0 steps 1\n0 gen 0\nterm 1 steps ")?;
+    for command in ["jonsson L", "jonsson B", "hm Z2", "hm Z4", "day Z2", "day L"] {
+        begins(
+            &rt,
+            rt.alloc(),
+            CHAINS,
+            command,
+            "chain 2\nterm 0 steps 1\n0 gen 0\nterm 1 steps ",
+        )?;
     }
     Ok(())
 }
@@ -101,10 +107,20 @@ fn no_permuting_congruences(rt: HostRuntime) -> Result<(), Fail> {
         workers: ONE,
         ..CHAINS
     };
-    row(&rt, rt.alloc(), trial, "hm L", HM_L)
+    let reply = "no 9
+[0 0 0 1 0 0 0 1] 5 meet 6 3
+[0 0 0 1 0 1 0 1] 6 meet 6 4
+[0 0 1 1 0 0 0 1] 3 meet 4 3
+[0 0 1 1 0 0 1 1] 0 gen 0
+[0 0 1 1 0 1 0 1] 1 gen 1
+[0 0 1 1 0 1 1 1] 4 join 4 3
+[0 1 0 1 0 1 0 1] 2 gen 2
+[0 1 1 1 0 1 0 1] 8 join 6 4
+[0 1 1 1 0 1 1 1] 7 join 6 3
+reached even 3
+";
+    row(&rt, rt.alloc(), trial, "hm L", reply)
 }
-
-const HM_L: &str = "HM_L";
 
 #[test]
 fn chains_beyond_the_budget(rt: HostRuntime) -> Result<(), Fail> {

@@ -105,7 +105,10 @@ fn written_conditions(rt: HostRuntime) -> Result<(), Fail> {
 ",
             ),
             ("condition M 2 (x y) = x", "yes 1\n0 gen 0\n"),
-            ("condition M 16 (x x x x x x x x x x x x x x x y) = y", "yes 1\n0 gen 15\n"),
+            (
+                "condition M 16 (x x x x x x x x x x x x x x x y) = y",
+                "yes 1\n0 gen 15\n",
+            ),
             ("condition M 2 (x y y) = x", "error shape 4:15\n"),
             ("condition M 2 (x y) = x (x) = y", "error shape 4:25\n"),
             ("condition M 0 (x) = x", "error range 4:13\n"),
@@ -117,9 +120,27 @@ fn written_conditions(rt: HostRuntime) -> Result<(), Fail> {
         workers: ANY,
         ..CONDITIONS
     };
-    begins(&rt, alloc, groups, "condition L 4 (x y y y) = y (y y x y) = y (y y y x) = y", "yes ")?;
-    begins(&rt, alloc, groups, "condition Z2 3 (x y y) = x (x x y) = y", "yes ")?;
-    begins(&rt, alloc, groups, "condition Z2 3 (w w z) = w (w z w) = w (z w w) = w", "no 8\n")
+    begins(
+        &rt,
+        alloc,
+        groups,
+        "condition L 4 (x y y y) = y (y y x y) = y (y y y x) = y",
+        "yes ",
+    )?;
+    begins(
+        &rt,
+        alloc,
+        groups,
+        "condition Z2 3 (x y y) = x (x x y) = y",
+        "yes ",
+    )?;
+    begins(
+        &rt,
+        alloc,
+        groups,
+        "condition Z2 3 (w w z) = w (w z w) = w (z w w) = w",
+        "no 8\n",
+    )
 }
 
 /// Two members are found, and neither is what the condition wants.
