@@ -31,6 +31,14 @@ def ring(modulus):
     return block(modulus, [(2, lambda a, b: (a + b) % modulus), (2, lambda a, b: a * b % modulus)])
 
 
+def pairs_of_maps():
+    """Pairs of elements below four: all maps of the first alone, and the maps a x + b modulo 4 of the second alone."""
+    first = [(1, 2, 3, 0), (1, 0, 2, 3), (1, 1, 2, 3)]
+    second = [[(x + 1) % 4 for x in range(4)], [2 * x % 4 for x in range(4)], [3 * x % 4 for x in range(4)]]
+    return block(16, [(1, lambda a, f=f: 4 * f[a // 4] + a % 4) for f in first]
+                 + [(1, lambda a, f=f: 4 * (a // 4) + f[a % 4]) for f in second])
+
+
 def chain(size):
     """The chain of so many elements as a lattice."""
     return block(size, [(2, min), (2, max)])
@@ -71,15 +79,16 @@ def main():
         ("types of a chain of 8", chain(8), "types A", "types 448"),
         ("near-unanimity of 16 variables", lattice, "nu A 16", "yes"),
         ("Maltsev term of the group A4", even_permutations(4), "cond A maltsev", "yes"),
-        ("majority in the integers by 21", integers(21), "cond A majority", "no 9261"),
+        ("majority in the integers by 12", integers(12), "cond A majority", "no 1728"),
         ("Jonsson chain of a chain of 4", chain(4), "jonsson A", "chain 2"),
-        ("Jonsson in the integers by 21", integers(21), "jonsson A", "no 9261"),
-        ("Hagemann-Mitschke, integers by 21", integers(21), "hm A", "chain 2"),
-        ("Day chain of the integers by 9", integers(9), "day A", "chain 2"),
+        ("Jonsson in the integers by 12", integers(12), "jonsson A", "no 1728"),
+        ("Jonsson in 4,096 maps on 16 points", pairs_of_maps(), "jonsson A", "no 12256"),
+        ("Hagemann-Mitschke, integers by 12", integers(12), "hm A", "chain 2"),
+        ("Day chain of the integers by 7", integers(7), "day A", "chain 2"),
         ("product of 40 by 25", integers(25).replace("algebra A", "algebra B", 1) + integers(40), "make C product A B", "algebra C size 1000"),
     ]
     for name, blocks, command, known in workloads:
-        words = [sys.argv[1], "--workers", "1"]
+        words = [sys.argv[1], "--workers", "1", "--budget", "20000"]
         out, seconds, _ = measured(words, f"{blocks}{command}\n".encode())
         verdict = "as known" if out.startswith(known.encode()) else "NOT so"
         print(f"{name:34} {known:20} {seconds:8.2f} s  {verdict}")
