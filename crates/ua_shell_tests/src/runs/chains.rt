@@ -12,7 +12,14 @@ const CHAINS: Trial = Trial {
 
 #[test]
 fn chains_of_length_two(rt: HostRuntime) -> Result<(), Fail> {
-    for command in ["jonsson L", "jonsson B", "hm Z2", "hm Z4", "day Z2", "day L"] {
+    for command in [
+        "jonsson L",
+        "jonsson B",
+        "hm Z2",
+        "hm Z4",
+        "day Z2",
+        "day L",
+    ] {
         begins(
             &rt,
             rt.alloc(),
