@@ -18,7 +18,7 @@ fn chains_of_length_two(rt: HostRuntime) -> Result<(), Fail> {
         "hm Z2",
         "hm Z4",
         "day Z2",
-        "day L",
+        "day B",
     ] {
         begins(
             &rt,

@@ -25,7 +25,7 @@ fn terms_that_meet_conditions(rt: HostRuntime) -> Result<(), Fail> {
         begins(&rt, alloc, CONDITIONS, command, "yes ")?;
     }
     begins(&rt, alloc, CONDITIONS, "cond Z2 majority", "no 8\n")?;
-    begins(&rt, alloc, CONDITIONS, "cond L pixley", "no 9\n")
+    begins(&rt, alloc, CONDITIONS, "cond L pixley", "no 18\n")
 }
 
 #[test]
