@@ -32,8 +32,11 @@ and_true false b e = absurd (cc)
 other_itself : (p : ℕ × ℕ) → other p p ≡ false
 other_itself p = ap₂ (λ (a b : Bool). not (a && b)) (eq-eqb p.0 p.0 refl) (eq-eqb p.1 p.1 refl)
 
+pub same_from : (p q : ℕ × ℕ) → same_labels p q ≡ true → p ≡ q
+same_from p q e = let both = and_true (p.0 == q.0) (p.1 == q.1) e in λ i. (eqb-true p.0 q.0 both.0 i, eqb-true p.1 q.1 both.1 i)
+
 other_apart : (p q : ℕ × ℕ) → (p ≡ q → ⊥) → other p q ≡ true
-other_apart p q n = not_true (same_labels p q) (λ e. let both = and_true (p.0 == q.0) (p.1 == q.1) e in n (λ i. (eqb-true p.0 q.0 both.0 i, eqb-true p.1 q.1 both.1 i)))
+other_apart p q n = not_true (same_labels p q) (λ e. n (same_from p q e))
 
 no_more : (p : ℕ × ℕ) (xs : List (ℕ × ℕ)) → length (filter (other p) xs) ≤ length xs
 no_more p [] = omega arith

@@ -5,6 +5,8 @@ pub mod GeneratedPairs
 pub mod Descent
 pub mod PairLaws
 pub mod TrialLaws
+pub mod KnownLaws
+pub mod DescentLaws
 pub mod SearchLaws
 pub mod CoverLaws
 pub mod SquareLaws

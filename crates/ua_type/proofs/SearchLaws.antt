@@ -1,11 +1,13 @@
 -- What trials in order tell of the first subtrace.
 use Rattle.std.proofs.Common.{◌≡◌, ◌≢◌, inl, ⊎_elim, ℕ, ◌+◌, ◌<◌, Bool, sym, subst, arith}
-use Rattle.std.specs.Prelude.{Ok}
+use Rattle.std.specs.Prelude.{Ok, Option, Some, None, IfSome}
 use Rattle.std.proofs.lemmas.Bool.{cases_lt}
 use Rattle.ua_table.specs.Algebras.{FiniteAlgebra}
 use Rattle.ua_part.specs.Partitions.{Partition, SameBlock}
 use Rattle.ua_prod.specs.Congruences.{IsCongruence}
 use Rattle.ua_type.specs.Images.{RelatesTwo}
+use Rattle.ua_type.specs.declared.known.SubtracePair.{SubtracePair}
+use Rattle.ua_type.specs.Known.{IsMet, IsRelated}
 use Rattle.ua_type.specs.Subtraces.{IsRefuted, IsBefore, IsSubtrace, IsFirstSubtrace}
 use Rattle.ua_type.specs.Trials.{IsTried, HasMorePairs, AllWithin, SomeExceeds}
 use Rattle.ua_type.specs.declared.trials.Trial.TheVariants as trials
@@ -16,17 +18,17 @@ use Rattle.ua_type.proofs.GeneratedPairs.{no_more_pairs}
 use Rattle.ua_type.proofs.PairLaws.{pair_cases}
 use Rattle.ua_type.proofs.Descent.{not_all_refuted}
 
-module _ (b : FiniteAlgebra) (theta : Partition) (budget x y : ℕ) (below : AreVainBelow b theta budget x) (at : AreVainAt b theta budget x y) (related : SameBlock theta x y) (differ : x ≢ y) where
-  -- each related pair before was tried in vain
-  vain_before : (c d : ℕ) → IsBefore c d x y → SameBlock theta c d → c ≢ d → IsVain b budget c d
-  vain_before c d before s n =
-      ⊎_elim
-      (λ low. below c d low s n)
-      (λ same. subst (λ u. IsVain b budget u d) (sym same.0) (at d same.1 (subst (λ u. SameBlock theta u d) same.0 s) (subst (λ u. u ≢ d) same.0 n)))
-      before
+-- each related pair before was tried in vain
+vain_before : (b : FiniteAlgebra) (theta : Partition) (budget x y : ℕ) → AreVainBelow b theta budget x → AreVainAt b theta budget x y → (c d : ℕ) → IsBefore c d x y → SameBlock theta c d → c ≢ d → IsVain b budget c d
+vain_before b theta budget x y below at c d before s n =
+    ⊎_elim
+    (λ low. below c d low s n)
+    (λ same. subst (λ u. IsVain b budget u d) (sym same.0) (at d same.1 (subst (λ u. SameBlock theta u d) same.0 s) (subst (λ u. u ≢ d) same.0 n)))
+    before
 
+module _ (b : FiniteAlgebra) (theta : Partition) (budget x y : ℕ) (below : AreVainBelow b theta budget x) (at : AreVainAt b theta budget x y) (related : SameBlock theta x y) (differ : x ≢ y) where
   tried : IsTried b theta x y
-  tried = record { related = related; differ = differ; before = λ c d before s n. (vain_before c d before s n).refuted }
+  tried = record { related = related; differ = differ; before = λ c d before s n. (vain_before b theta budget x y below at c d before s n).refuted }
 
   pub exceeds : HasMorePairs b budget x y → SomeExceeds b theta budget
   exceeds more = record { first = x; second = y; closed = inl tried; beyond = more }
@@ -40,12 +42,12 @@ module _ (b : FiniteAlgebra) (theta : Partition) (budget x y : ℕ) (below : Are
     no_subtrace c d r s = r.lacks (s.minimal r.first r.second r.generated r.differ)
 
     first_found : IsFirstSubtrace b theta x y
-    first_found = record { subtrace = subtrace; first = λ c d before s. no_subtrace c d (vain_before c d before s.related s.differ).refuted s }
+    first_found = record { subtrace = subtrace; first = λ c d before s. no_subtrace c d (vain_before b theta budget x y below at c d before s.related s.differ).refuted s }
 
     tried_within : (c d : ℕ) → IsTried b theta c d → ¬ HasMorePairs b budget c d
     tried_within c d t =
         ⊎_elim
-        (λ before. (vain_before c d before t.related t.differ).within)
+        (λ before. (vain_before b theta budget x y below at c d before t.related t.differ).within)
         (λ rest. ⊎_elim
         (λ same. subst (λ u. ¬ HasMorePairs b budget u d) (sym same.0) (subst (λ v. ¬ HasMorePairs b budget x v) (sym same.1) h.within))
         (λ behind. absurd (no_subtrace x y (t.before x y behind related differ) subtrace))
@@ -102,3 +104,11 @@ ends_found b theta budget x y swap below at h = (
     swaps = h.2.1.swaps;
   },
 )
+
+-- the subtrace that was met does not stand before a pair whose related pairs before it were tried in vain
+pub met_ahead : (b : FiniteAlgebra) (theta : Partition) (budget x y : ℕ) → AreVainBelow b theta budget x → AreVainAt b theta budget x y → (least : Option SubtracePair) → IfSome least (IsMet b budget) → IsRelated theta least → IfSome least (λ l. ¬ IsBefore l.low l.high x y)
+met_ahead b theta budget x y below at None met related = tt
+met_ahead b theta budget x y below at (Some l) met related =
+    λ before.
+    let vain = vain_before b theta budget x y below at l.low l.high before related met.differ in
+    vain.refuted.lacks (met.minimal.minimal vain.refuted.first vain.refuted.second vain.refuted.generated vain.refuted.differ)

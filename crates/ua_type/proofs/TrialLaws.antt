@@ -1,6 +1,6 @@
 -- What closing the pairs of a pair tells of it.
-use Rattle.std.proofs.Common.{◌≡◌, ◌≢◌, ◌⊎◌, ℕ, ◌^◌, ◌<◌, ◌≤◌, Bool, true, false, List, [], ◌∷◌, length, replicate, refl, sym, ◌∙◌, subst, Option, Some, None}
-use Rattle.std.specs.Prelude.{Contains, slice_index, slice_index_or, slice_get, IfSome, IfNone, IsTrue, ◌↔◌, Result, Ok, Err, Vec}
+use Rattle.std.proofs.Common.{◌≡◌, ◌≢◌, ◌⊎◌, ℕ, ◌^◌, ◌<◌, ◌≤◌, List, [], ◌∷◌, replicate, refl, sym, subst, Option, Some, None}
+use Rattle.std.specs.Prelude.{Contains, slice_index, slice_get, IfSome, IfNone, IsTrue, ◌↔◌, Result, Ok, Err, Vec}
 use Rattle.std.specs.Option.{is_some}
 use Rattle.std.specs.declared.alloc.Global.{Global}
 use Rattle.ua_table.specs.Algebras.{Vector, FiniteAlgebra, IsAlgebra, arities}
@@ -8,7 +8,7 @@ use Rattle.ua_table.specs.Generated.{Sg}
 use Rattle.ua_table.specs.Numbering.{records}
 use Rattle.ua_table.specs.Listings.{Row, vectors_of, IsClosedListing}
 use Rattle.ua_table.proofs.ListingLaws.{vector_in, closed_has_no_more, exceeding_has_more}
-use Rattle.ua_table.proofs.Lists.{any_default, Contains-slice_get}
+use Rattle.ua_table.proofs.Lists.{Contains-slice_get}
 use Rattle.ua_close.specs.declared.close.CloseError.{CloseError}
 use Rattle.ua_close.specs.declared.close.CloseError.TheVariants.{Wide, OutOfMemory}
 use Rattle.ua_close.specs.declared.close.Closure.TheVariants.{Closed, Exceeds}
@@ -24,7 +24,8 @@ use Rattle.ua_type.specs.Subtraces.{pair_generators, Generates}
 use Rattle.ua_type.specs.Trials.{HasMorePairs, ArePairsNarrow, ArePairsWide}
 use Rattle.ua_type.specs.declared.trials.Trial.{Trial}
 use Rattle.ua_type.specs.declared.trials.Trial.TheVariants.{Found, Vain, Beyond}
-use Rattle.ua_type.specs.Outcomes.{GoesBack, IsVain, IsMinimal, MayTry, MayTryRelated}
+use Rattle.ua_type.specs.Outcomes.{GoesBack, MayTry, MayTryRelated}
+use Rattle.ua_type.specs.Descents.{IsLacking}
 use Rattle.ua_type.proofs.GeneratedPairs.{generates_itself, no_more_pairs, same_count}
 use Rattle.ua_type.proofs.PairLaws.{square-IsProduct, pair_vectors, ArePair, pair_from}
 
@@ -63,22 +64,6 @@ module _ (b : FiniteAlgebra) (budget x y : ℕ) (alg : IsAlgebra b) (xw : x < b.
       let g : Generates b x y (slice_index v 0) (slice_index v 1) = subst (λ u. Sg (replicate 2 b) (pair_generators b x y) u) pair.is s in
       record { pair = pair; generated = g; within = λ more. within_budget (no_more_pairs b budget x y (slice_index v 0) (slice_index v 1) g more) }
 
-  pub vain : (v : Vector) → Contains vs v → ¬ GoesBack b v (x, y) → IsVain b budget x y
-  vain v c never = record {
-    within = within_budget;
-    refuted = record { first = slice_index v 0; second = slice_index v 1; generated = (row_pair v c).generated; differ = λ e. never (λ n. absurd (n e)); lacks = λ g. never (λ _. g) };
-  }
-
-  pub minimal : (swap : Bool) → ((j : ℕ) → j < length vs → GoesBack b (slice_index_or vs j []) (x, y)) → (IsTrue swap ↔ Contains vs (y ∷ x ∷ [])) → IsMinimal b budget x y swap
-  minimal swap back told = record {
-    within = within_budget;
-    minimal = λ c d g n.
-        let there = (closed.exact (c ∷ d ∷ [])).1 g in
-        let at : slice_index_or vs there.0 [] ≡ c ∷ d ∷ [] = any_default vs there.0 [] (c ∷ d ∷ []) there.1 ∙ there.2 in
-        subst (λ v. GoesBack b v (x, y)) at (back there.0 there.1) n;
-    swaps = (λ t. (closed.exact (y ∷ x ∷ [])).0 (told.0 t), λ g. told.1 ((closed.exact (y ∷ x ∷ [])).1 g));
-  }
-
 -- ---- whether a pair generates another
 
 -- the pair itself need not be asked
@@ -107,15 +92,21 @@ module _ (b : FiniteAlgebra) (budget workers : ℕ) (row : Vector) (pair : ℕ �
   abbrev pub MaySeek : Result Reach CloseError → Type 0
   MaySeek r = MayReach (replicate 2 b) (pair_generators b (slice_index row 0) (slice_index row 1)) (Target target) budget workers r
 
-  pub met_back : (rows : List Row) → MaySeek (Ok (reaches.Met rows)) → IsTrue true ↔ GoesBack b row pair
-  met_back rows h =
+  pub met_back : (rows : List Row) → MaySeek (Ok (reaches.Met rows)) → GoesBack b row pair
+  met_back rows h _ =
       let p = replicate 2 b in
       let gens = pair_generators b (slice_index row 0) (slice_index row 1) in
-      (λ _ _. subst (Sg p gens) is (vector_in p gens rows h.1.listing target.items h.1.met), λ _. refl)
+      subst (Sg p gens) is (vector_in p gens rows h.1.listing target.items h.1.met)
 
-  pub closed_back : (rows : List Row) → slice_index row 0 ≢ slice_index row 1 → MaySeek (Ok (reaches.Closed rows)) → IsTrue false ↔ GoesBack b row pair
-  closed_back rows differ h =
-      (λ t. absurd (cc), λ back. absurd (h.1.1 (subst (Contains (vectors_of rows)) (sym is) ((h.1.0.exact (pair.0 ∷ pair.1 ∷ [])).1 (back differ)))))
+  pub closed_lacks : (rows : List Row) → slice_index row 0 < b.size → slice_index row 1 < b.size → ¬ HasMorePairs b budget (slice_index row 0) (slice_index row 1) → slice_index row 0 ≢ slice_index row 1 → MaySeek (Ok (reaches.Closed rows)) → IsLacking b budget (slice_index row 0, slice_index row 1) pair rows
+  closed_lacks rows first second within differ h = record {
+    first = first;
+    second = second;
+    within = within;
+    differ = differ;
+    lacks = λ g. h.1.1 (subst (Contains (vectors_of rows)) (sym is) ((h.1.0.exact (pair.0 ∷ pair.1 ∷ [])).1 g));
+    closed = h.1.0;
+  }
 
   pub never_beyond : (rows : List Row) → ¬ HasMorePairs b budget (slice_index row 0) (slice_index row 1) → MaySeek (Ok (reaches.Exceeds rows)) → ⊥
   never_beyond rows within h = within (exceeding_has_more (replicate 2 b) (pair_generators b (slice_index row 0) (slice_index row 1)) budget rows h.1.0)

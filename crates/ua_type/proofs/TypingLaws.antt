@@ -7,7 +7,7 @@ use Rattle.ua_close.specs.declared.close.CloseError.{CloseError}
 use Rattle.ua_close.specs.declared.close.CloseError.TheVariants.{Wide, OutOfMemory}
 use Rattle.ua_part.specs.Partitions.{Partition}
 use Rattle.ua_type.specs.declared.quotients.Quotient.{Quotient}
-use Rattle.ua_type.specs.declared.searches.SubtracePair.{SubtracePair}
+use Rattle.ua_type.specs.declared.known.SubtracePair.{SubtracePair}
 use Rattle.ua_type.specs.declared.searches.Search.{Search}
 use Rattle.ua_type.specs.declared.searches.Search.TheVariants as searches
 use Rattle.ua_type.specs.declared.subtraces.Trace.TheVariants as traces

@@ -3,6 +3,8 @@ pub mod Subtraces
 pub mod Types
 pub mod Trials
 pub mod Outcomes
+pub mod Known
+pub mod Descents
 pub mod Searches
 pub mod Squares
 pub mod Images

@@ -12,11 +12,6 @@ use Rattle.ua_type.specs.Trials.{HasMorePairs, ArePairsNarrow, ArePairsWide}
 abbrev pub GoesBack : FiniteAlgebra → Vector → ℕ × ℕ → Type 0
 GoesBack b row pair = slice_index row 0 ≢ slice_index row 1 → Generates b (slice_index row 0) (slice_index row 1) pair.0 pair.1
 
--- whether it does; pairs that are too wide are refused
-abbrev pub MayGoBack : FiniteAlgebra → ℕ → Vector → ℕ × ℕ → Result Bool CloseError → Type 0
-MayGoBack b budget row pair (Ok back) = IsTrue back ↔ GoesBack b row pair
-MayGoBack b budget row pair (Err e) = ArePairsWide b budget e
-
 -- (x,y) is within the budget, and refuted
 pub record IsVain (b : FiniteAlgebra) (budget x y : ℕ) : Type 0 where
   pub within : ¬ HasMorePairs b budget x y

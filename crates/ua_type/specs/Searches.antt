@@ -3,7 +3,7 @@ use Rattle.std.specs.Prelude.{◌↔◌, ℕ, ◌+◌, IsTrue, Option, Some, Non
 use Rattle.ua_table.specs.Algebras.{FiniteAlgebra}
 use Rattle.ua_close.specs.declared.close.CloseError.{CloseError}
 use Rattle.ua_part.specs.Partitions.{Partition}
-use Rattle.ua_type.specs.declared.searches.SubtracePair.{SubtracePair}
+use Rattle.ua_type.specs.declared.known.SubtracePair.{SubtracePair}
 use Rattle.ua_type.specs.declared.searches.Search.{Search}
 use Rattle.ua_type.specs.declared.searches.Search.TheVariants.{Found, Beyond}
 use Rattle.ua_type.specs.Subtraces.{Generates, IsFirstSubtrace}

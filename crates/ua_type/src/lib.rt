@@ -2,8 +2,11 @@
 #![tactic(auto)]
 
 pub mod calls;
+mod descents;
 mod generators;
+mod known;
 pub mod laws;
+mod pairs;
 mod quotients;
 mod searches;
 mod signs;

@@ -1,25 +1,20 @@
 //! The search for the first subtrace of a congruence.
 
-ghost use Rattle.std.specs.Prelude.{◌≡◌, ◌<◌, length};
+ghost use Rattle.std.specs.Prelude.{◌≡◌, ◌<◌, length, IfSome, IsOk};
 ghost use Rattle.ua_prod.specs.Congruences.{IsCongruence};
 ghost use Rattle.ua_type.specs.Images.{RelatesTwo};
 ghost use Rattle.ua_type.specs.Outcomes.{MayTryRelated, AreVainBelow};
+ghost use Rattle.ua_type.specs.Subtraces.{IsBefore};
+ghost use Rattle.ua_type.specs.Known.{IsKnown};
 ghost use Rattle.ua_type.specs.Searches.{MaySearch, MaySearchFrom};
 
+use crate::known::{Known, SubtracePair};
 use crate::trials::{Trial, try_pair};
 use std::alloc::Global;
 use std::thread::Threads;
 use ua_close::{CloseError, Gate, Run};
 use ua_part::Part;
 use ua_table::{Algebra, Elem};
-
-/// A subtrace, and whether it generates its swap.
-#[derive(Clone, Copy, Debug, PartialEq, Eq)]
-pub struct SubtracePair {
-    pub low: Elem,
-    pub high: Elem,
-    pub swap: bool,
-}
 
 /// What a search for a subtrace comes to.
 #[derive(Clone, Copy, Debug, PartialEq, Eq)]
@@ -35,13 +30,18 @@ fn try_related<R: Threads + Sync, G: Gate>(
     alloc: Global,
     b: &Algebra,
     theta: &Part,
+    known: &mut Known,
     pair: (Elem, Elem),
     run: &Run<G>,
 ) -> Result<Trial, CloseError>
     requires size { length theta.now ≡ b.now.size }
     requires first { pair.0 < b.now.size }
     requires second { pair.1 < b.now.size }
-    ensures { MayTryRelated b.now theta.now run.now.budget pair result }
+    requires congruence { IsCongruence b.now theta.now }
+    requires known { IsKnown b.now theta.now run.now.budget known.old }
+    requires before { IfSome known.old.least (λ l. ¬ IsBefore l.low l.high pair.0 pair.1) }
+    ensures tried { MayTryRelated b.now theta.now run.now.budget pair result }
+    ensures known { IsOk result → IsKnown b.now theta.now run.now.budget known.new }
 {
     if pair.0 == pair.1 {
         return Ok(Trial::Vain);
@@ -49,7 +49,7 @@ fn try_related<R: Threads + Sync, G: Gate>(
     if !theta.same(u32::from(pair.0), u32::from(pair.1)) {
         return Ok(Trial::Vain);
     }
-    try_pair(rt, alloc, b, pair, run)
+    try_pair(rt, alloc, b, known, pair, run)
 }
 
 /// Tries the pairs of an element, where all pairs of lower elements were tried in vain.
@@ -58,17 +58,21 @@ fn search_from<R: Threads + Sync, G: Gate>(
     alloc: Global,
     b: &Algebra,
     theta: &Part,
+    known: &mut Known,
     x: Elem,
     run: &Run<G>,
 ) -> Result<Option<Search>, CloseError>
     requires size { length theta.now ≡ b.now.size }
     requires element { x < b.now.size }
+    requires congruence { IsCongruence b.now theta.now }
     requires before { AreVainBelow b.now theta.now run.now.budget x }
-    ensures { MaySearchFrom b.now theta.now run.now.budget x result }
+    requires known { IsKnown b.now theta.now run.now.budget known.old }
+    ensures search { MaySearchFrom b.now theta.now run.now.budget x result }
+    ensures known { IsOk result → IsKnown b.now theta.now run.now.budget known.new }
 {
     let size = b.size();
     for y in 0..size {
-        match try_related(rt, alloc, b, theta, (x, y as Elem), run)? {
+        match try_related(rt, alloc, b, theta, known, (x, y as Elem), run)? {
             Trial::Vain => {}
             Trial::Beyond => return Ok(Some(Search::Beyond)),
             Trial::Found(swap) => {
@@ -97,8 +101,9 @@ pub fn first_subtrace<R: Threads + Sync, G: Gate>(
     ensures { MaySearch b.now theta.now run.now.budget result }
 {
     let size = b.size();
+    let mut known = Known::new(alloc);
     for x in 0..size {
-        if let Some(search) = search_from(rt, alloc, b, theta, x as Elem, run)? {
+        if let Some(search) = search_from(rt, alloc, b, theta, &mut known, x as Elem, run)? {
             return Ok(search);
         }
     }

@@ -8,7 +8,7 @@ ghost use Rattle.ua_type.specs.Types.{square_generators, HasType};
 ghost use Rattle.ua_type.specs.Squares.{MayHaveType};
 
 use crate::generators::square_generators;
-use crate::searches::SubtracePair;
+use crate::known::SubtracePair;
 use crate::signs::{Signs, type_number};
 use std::alloc::Global;
 use std::thread::Threads;

@@ -1,19 +1,20 @@
-//! The trial of a pair: what it generates, and whether each pair in that generates it.
+//! The trial of a pair: whether each pair that it generates generates it.
 
-ghost use Rattle.std.specs.Prelude.{◌≡◌, ◌<◌, ◌↔◌, [], ◌∷◌, length, slice_index, Contains, IsTrue, replicate};
-ghost use Rattle.ua_table.specs.Listings.{vectors_of, IsClosedListing};
-ghost use Rattle.ua_work.specs.Goals.{IsGoal};
-ghost use Rattle.ua_close.specs.Permitted.{MayClose, MayReach};
-ghost use Rattle.ua_type.specs.Subtraces.{pair_generators};
-ghost use Rattle.ua_type.specs.Trials.{HasMorePairs, ArePairsNarrow};
-ghost use Rattle.ua_type.specs.Outcomes.{MayGoBack, MayTry};
+ghost use Rattle.std.specs.Prelude.{◌≢◌, ℕ, ◌<◌, IfSome, IfNone, IsOk, Ok};
+ghost use Rattle.ua_table.specs.Algebras.{FiniteAlgebra};
+ghost use Rattle.ua_type.specs.Subtraces.{IsBefore};
+ghost use Rattle.ua_type.specs.Trials.{ArePairsNarrow};
+ghost use Rattle.ua_type.specs.Outcomes.{MayTry};
+ghost use Rattle.ua_type.specs.Known.{IsRight, IsKept};
+ghost use Rattle.ua_type.specs.Descents.{IsDescent};
 
-use crate::generators::pair_generators;
+use crate::descents::{Descent, Sifted, descend, sift};
+use crate::known::Known;
+use crate::pairs::{generated, has, is_same};
 use std::alloc::Global;
 use std::thread::Threads;
-use ua_close::calls::reach;
-use ua_close::{CloseError, Closure, Gate, Goal, Listing, Reach, Run, close_set};
-use ua_table::{Algebra, Elem, Frame};
+use ua_close::{CloseError, Closure, Gate, Run};
+use ua_table::{Algebra, Elem};
 
 /// What comes of the trial of a pair.
 #[derive(Clone, Copy, Debug, PartialEq, Eq)]
@@ -26,98 +27,22 @@ pub enum Trial {
     Beyond,
 }
 
-/// The pairs that a pair generates with the constants.
-fn generated<R: Threads + Sync, G: Gate>(
-    rt: &R,
-    alloc: Global,
-    b: &Algebra,
-    x: Elem,
-    y: Elem,
-    run: &Run<G>,
-) -> Result<Closure, CloseError>
-    requires first { x < b.now.size }
-    requires second { y < b.now.size }
-    ensures { MayClose (replicate 2 b.now) (pair_generators b.now x y) run.now.budget run.now.workers result }
+/// What is known of a pair before it is tried.
+fn foreseen(known: &Known, pair: (Elem, Elem)) -> Option<Trial>
+    requires before { IfSome known.now.least (λ l. ¬ IsBefore l.low l.high pair.0 pair.1) }
+    ensures known { (b : FiniteAlgebra) (budget : ℕ) → IsRight b budget known.now → pair.0 ≢ pair.1 → IfSome result (λ t. MayTry b budget pair (Ok t)) }
+    ensures before { IfNone result (IfSome known.now.least (λ l. IsBefore pair.0 pair.1 l.low l.high)) }
 {
-    // The size of an algebra is within its limit.
-    let _size = b.size();
-    let Ok(frame) = Frame::power(b, 2) else {
-        unreachable!()
+    let Some(least) = known.least else {
+        return None;
     };
-    let gens = pair_generators(alloc, b, x, y)?;
-    close_set(rt, alloc, &frame, &gens, run)
-}
-
-/// Whether a listing has a pair.
-fn has(list: &Listing, pair: (Elem, Elem)) -> bool
-    ensures { IsTrue result ↔ Contains (vectors_of list.now) (pair.0 ∷ pair.1 ∷ []) }
-{
-    list.find(&[pair.0, pair.1]).is_some()
-}
-
-/// Whether two pairs are equal.
-fn is_same(pair: (Elem, Elem), other: (Elem, Elem)) -> bool
-    ensures { IsTrue result ↔ ((pair.0 ≡ other.0) × (pair.1 ≡ other.1)) }
-{
-    pair.0 == other.0 && pair.1 == other.1
-}
-
-/// Closes the pairs that a pair generates until a goal is met.
-fn sought<R: Threads + Sync, G: Gate>(
-    rt: &R,
-    alloc: Global,
-    b: &Algebra,
-    x: Elem,
-    y: Elem,
-    goal: &Goal,
-    run: &Run<G>,
-) -> Result<Reach, CloseError>
-    requires first { x < b.now.size }
-    requires second { y < b.now.size }
-    requires goal { IsGoal (replicate 2 b.now) goal.now }
-    ensures { MayReach (replicate 2 b.now) (pair_generators b.now x y) goal.now run.now.budget run.now.workers result }
-{
-    // The size of an algebra is within its limit.
-    let _size = b.size();
-    let Ok(frame) = Frame::power(b, 2) else {
-        unreachable!()
-    };
-    let gens = pair_generators(alloc, b, x, y)?;
-    reach(rt, alloc, &frame, &gens, goal, run)
-}
-
-/// Whether the pair of a row, if its elements differ, generates another pair. The pairs that it generates are
-/// within the budget, and are closed until that pair is found. The other pair itself is not asked: its pairs
-/// are not closed again.
-fn goes_back<R: Threads + Sync, G: Gate>(
-    rt: &R,
-    alloc: Global,
-    b: &Algebra,
-    row: &[Elem],
-    pair: (Elem, Elem),
-    run: &Run<G>,
-) -> Result<bool, CloseError>
-    requires width { length row.now ≡ 2 }
-    requires first { slice_index row.now 0 < b.now.size }
-    requires second { slice_index row.now 1 < b.now.size }
-    requires low { pair.0 < b.now.size }
-    requires high { pair.1 < b.now.size }
-    requires within { ¬ HasMorePairs b.now run.now.budget (slice_index row.now 0) (slice_index row.now 1) }
-    ensures { MayGoBack b.now run.now.budget row.now pair result }
-{
-    let (c, d) = (row[0], row[1]);
-    if c == d {
-        return Ok(true);
+    if is_same(pair, (least.low, least.high)) {
+        return Some(Trial::Found(least.swap));
     }
-    if is_same((c, d), pair) {
-        return Ok(true);
+    if known.is_settled(pair) {
+        return Some(Trial::Vain);
     }
-    let goal = Goal::Target([pair.0, pair.1].to_vec(alloc)?);
-    match sought(rt, alloc, b, c, d, &goal, run)? {
-        Reach::Exceeds(_) => unreachable!(),
-        Reach::Met(_) => Ok(true),
-        Reach::Closed(_) => Ok(false),
-    }
+    None
 }
 
 /// The trial of a pair, by the pairs that it generates.
@@ -125,41 +50,55 @@ fn tried<R: Threads + Sync, G: Gate>(
     rt: &R,
     alloc: Global,
     b: &Algebra,
-    list: &Listing,
-    pair: (Elem, Elem),
+    known: &mut Known,
+    descent: Descent,
     run: &Run<G>,
 ) -> Result<Trial, CloseError>
-    requires first { pair.0 < b.now.size }
-    requires second { pair.1 < b.now.size }
     requires narrow { ArePairsNarrow b.now run.now.budget }
-    requires closed { IsClosedListing (replicate 2 b.now) (pair_generators b.now pair.0 pair.1) run.now.budget list.now }
-    ensures { MayTry b.now run.now.budget pair result }
+    requires right { IsRight b.now run.now.budget known.old }
+    requires descent { IsDescent b.now run.now.budget descent }
+    requires before { IfSome known.old.least (λ l. IsBefore descent.pair.0 descent.pair.1 l.low l.high) }
+    ensures tried { MayTry b.now run.now.budget descent.pair result }
+    ensures kept { IsOk result → IsKept b.now run.now.budget descent.pair.0 descent.pair.1 known.old known.new }
 {
-    // What this call ensures says that the algebra is one.
-    let _size = b.size();
-    for i in 0..list.len() {
-        if !goes_back(rt, alloc, b, list.row(i), pair, run)? {
-            return Ok(Trial::Vain);
+    let mut descent = descent;
+    match sift(rt, alloc, b, known, &mut descent, run)? {
+        Sifted::Minimal => {
+            let (x, y) = descent.pair;
+            return Ok(Trial::Found(has(&descent.list, (y, x))));
+        }
+        Sifted::Settled => known.settle(descent.above.as_slice())?,
+        Sifted::Lacks { pair, list } => {
+            descent.go_down(pair, list)?;
+            descend(rt, alloc, b, known, descent, run)?;
         }
     }
-    Ok(Trial::Found(has(list, (pair.1, pair.0))))
+    Ok(Trial::Vain)
 }
 
 /// The trial of a pair: it is a subtrace where each pair of different elements that it generates
-/// generates it.
+/// generates it. What a pair generates is closed at most once in all trials of a search.
 pub fn try_pair<R: Threads + Sync, G: Gate>(
     rt: &R,
     alloc: Global,
     b: &Algebra,
+    known: &mut Known,
     pair: (Elem, Elem),
     run: &Run<G>,
 ) -> Result<Trial, CloseError>
     requires first { pair.0 < b.now.size }
     requires second { pair.1 < b.now.size }
-    ensures { MayTry b.now run.now.budget pair result }
+    requires differ { pair.0 ≢ pair.1 }
+    requires right { IsRight b.now run.now.budget known.old }
+    requires before { IfSome known.old.least (λ l. ¬ IsBefore l.low l.high pair.0 pair.1) }
+    ensures tried { MayTry b.now run.now.budget pair result }
+    ensures kept { IsOk result → IsKept b.now run.now.budget pair.0 pair.1 known.old known.new }
 {
+    if let Some(trial) = foreseen(known, pair) {
+        return Ok(trial);
+    }
     match generated(rt, alloc, b, pair.0, pair.1, run)? {
         Closure::Exceeds(_) => Ok(Trial::Beyond),
-        Closure::Closed(list) => tried(rt, alloc, b, &list, pair, run),
+        Closure::Closed(list) => tried(rt, alloc, b, known, Descent::new(alloc, pair, list)?, run),
     }
 }

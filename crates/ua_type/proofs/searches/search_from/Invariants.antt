@@ -1,5 +1,6 @@
 use Rattle.ua_type.specs.Outcomes.{AreVainAt}
+use Rattle.ua_type.specs.Known.{IsKnown}
 use Rattle.ua_type.proofs.searches.search_from.Given as goal
 
 abbrev pub invariant-loop-y : goal.invariant-loop-y
-invariant-loop-y g l = AreVainAt l.b l.theta l.run.budget l.x l.y
+invariant-loop-y g l = AreVainAt l.b l.theta l.run.budget l.x l.y × IsKnown l.b l.theta l.run.budget l.known

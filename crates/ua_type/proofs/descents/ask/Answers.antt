@@ -1,15 +1,15 @@
-use Rattle.std.proofs.Common.{◌≡◌, [], ◌∷◌, replicate, subst, refl, sym}
+use Rattle.std.proofs.Common.{◌≡◌, [], ◌∷◌, replicate, subst, sym}
 use Rattle.std.specs.Prelude.{Ok, slice_index}
 use Rattle.std.proofs.lemmas.Result.{err_from_is_err_and}
 use Rattle.ua_table.specs.Algebras.{IsVector}
 use Rattle.ua_close.specs.declared.reaches.Reach.{Reach}
-use Rattle.ua_type.proofs.TrialLaws.{itself_back, wide_all, MaySeek, met_back, closed_back, never_beyond}
-use Rattle.ua_type.proofs.trials.goes_back.Goals as goal
+use Rattle.ua_type.proofs.TrialLaws.{itself_back, wide_all, MaySeek, met_back, closed_lacks, never_beyond}
+use Rattle.ua_type.proofs.descents.ask.Goals as goal
 
 pub returns-then-is_same : goal.returns-then-is_same
 returns-then-is_same g c =
     let same = c.is_same.ensures.0 c.if-is_same.true in
-    (λ _. itself_back c.args.b.now c.args.row.now c.args.pair same.0 same.1, λ _. refl)
+    itself_back c.args.b.now c.args.row.now c.args.pair same.0 same.1
 
 pub sought-requires-clause-goal : goal.sought-requires-clause-goal
 sought-requires-clause-goal g c _ _ =
@@ -49,5 +49,5 @@ returns g c =
     let w = c.args.run.now.workers in
     let target = c.in_ok-to_vec.field-0 in
     let is : c.in_ok-to_vec.field-0.items ≡ c.args.pair.0 ∷ c.args.pair.1 ∷ [] = c.in_ok-to_vec.ensures.items_if_clones_equal (λ y e h. h) in
-    closed_back b budget w c.args.row.now c.args.pair target is c.in-Closed.field-0 c.if-c-d.false
+    closed_lacks b budget w c.args.row.now c.args.pair target is c.in-Closed.list c.requires.first c.requires.second c.requires.within c.if-c-d.false
     (subst (λ (r : Reach). MaySeek b budget w c.args.row.now c.args.pair target is (Ok r)) c.in-Closed.is c.in_ok-sought.ensures)

@@ -3,7 +3,7 @@ use Rattle.std.specs.Prelude.{Contains, IsTrue, ◌↔◌}
 use Rattle.ua_table.specs.Algebras.{Vector}
 use Rattle.ua_table.specs.Listings.{vectors_of}
 use Rattle.ua_type.proofs.TrialLaws.{has_from}
-use Rattle.ua_type.proofs.trials.has.Goals as goal
+use Rattle.ua_type.proofs.pairs.has.Goals as goal
 
 pub returns : goal.returns
 returns c =

@@ -3,7 +3,7 @@ use Rattle.std.specs.List.{AllByRecursion}
 use Rattle.ua_table.specs.Algebras.{Product, IsVector}
 use Rattle.ua_work.specs.Goals.{IsGoal}
 use Rattle.ua_type.proofs.PairLaws.{pair_vectors}
-use Rattle.ua_type.proofs.trials.sought.Goals as goal
+use Rattle.ua_type.proofs.pairs.sought.Goals as goal
 
 pub reach-requires-clause-admitted : goal.reach-requires-clause-admitted
 reach-requires-clause-admitted g c _ _ =

@@ -2,7 +2,7 @@ use Rattle.std.proofs.Common.{replicate, subst, sym}
 use Rattle.std.specs.List.{AllByRecursion}
 use Rattle.ua_table.specs.Algebras.{Product, IsVector}
 use Rattle.ua_type.proofs.PairLaws.{pair_vectors}
-use Rattle.ua_type.proofs.trials.generated.Goals as goal
+use Rattle.ua_type.proofs.pairs.generated.Goals as goal
 
 pub close_set-requires-after_bounds : goal.close_set-requires-after_bounds
 close_set-requires-after_bounds g c _ _ =

@@ -1,0 +1,104 @@
+use Rattle.std.proofs.Common.{◌≡◌, ◌+◌, List, length, ◌∙◌, ap, subst, arith}
+use Rattle.std.specs.Prelude.{Ok, slice_index}
+use Rattle.std.specs.HashSet as set
+use Rattle.std.proofs.lemmas.List.{length-map}
+use Rattle.std.proofs.lemmas.Result.{err_from_is_err_and}
+use Rattle.ua_table.specs.Listings.{Row}
+use Rattle.ua_part.specs.Labels.{same_labels}
+use Rattle.ua_type.specs.declared.descents.Asked.{Asked}
+use Rattle.ua_type.specs.Descents.{MayAsk}
+use Rattle.ua_type.proofs.KnownLaws.{settled_is}
+use Rattle.ua_type.proofs.DescentLaws.{row_width, row_first, row_second, row_within, row_generated, row_leads, row_settles, one_back, back_below, descent_more, all_back}
+use Rattle.ua_type.proofs.descents.sift.Goals.{then-c-d+in_ok-put_above-in-Back, else-c-d}
+use Rattle.ua_type.proofs.descents.sift.Goals as goal
+
+pub bounds-row-0 : goal.bounds-row-0
+bounds-row-0 g c =
+    let w = row_width c.args.b.now c.args.run.now.budget c.size-size.ensures.algebra.algebra c.loop-i.descent c.loop-i.invariant.2 c.loop-i.i c.row-row.result.now c.row-row.ensures in
+    omega (arith, w)
+
+pub bounds-row-1 : goal.bounds-row-1
+bounds-row-1 g c =
+    let w = row_width c.args.b.now c.args.run.now.budget c.size-size.ensures.algebra.algebra c.loop-i.descent c.loop-i.invariant.2 c.loop-i.i c.row-row.result.now c.row-row.ensures in
+    omega (arith, w)
+
+pub ask-requires-clause-width : goal.ask-requires-clause-width
+ask-requires-clause-width g c _ _ = row_width c.args.b.now c.args.run.now.budget c.size-size.ensures.algebra.algebra c.loop-i.descent c.loop-i.invariant.2 c.loop-i.i c.row-row.result.now c.row-row.ensures
+
+pub ask-requires-clause-first : goal.ask-requires-clause-first
+ask-requires-clause-first g c _ _ = row_first c.args.b.now c.args.run.now.budget c.size-size.ensures.algebra.algebra c.loop-i.descent c.loop-i.invariant.2 c.loop-i.i c.row-row.result.now c.row-row.ensures
+
+pub ask-requires-clause-second : goal.ask-requires-clause-second
+ask-requires-clause-second g c _ _ = row_second c.args.b.now c.args.run.now.budget c.size-size.ensures.algebra.algebra c.loop-i.descent c.loop-i.invariant.2 c.loop-i.i c.row-row.result.now c.row-row.ensures
+
+pub ask-requires-clause-within : goal.ask-requires-clause-within
+ask-requires-clause-within g c _ _ = row_within c.args.b.now c.args.run.now.budget c.size-size.ensures.algebra.algebra c.loop-i.descent c.loop-i.invariant.2 c.loop-i.i c.row-row.result.now c.row-row.ensures
+
+pub returns-in_err-ask : goal.returns-in_err-ask
+returns-in_err-ask g c =
+    let p = err_from_is_err_and c.from_residual.result c.from_residual.ensures.1 in
+    rw (p.1, p.2) c.in_err-ask.ensures
+
+pub returns-in-Settled : goal.returns-in-Settled
+returns-in-Settled g c =
+    let b = c.args.b.now in
+    let budget = c.args.run.now.budget in
+    let known = c.args.known.now in
+    let row = c.row-row.result.now in
+    let told : set.contains same_labels known.settled (slice_index row 0, slice_index row 1) ≡ _ = subst (λ (a : Asked). MayAsk b budget known row c.loop-i.descent.pair (Ok a)) c.in-Settled.is c.in_ok-ask.ensures in
+    record {
+      pair_stays = c.loop-i.invariant.0;
+      list_stays = c.loop-i.invariant.1;
+      descent = c.loop-i.invariant.2;
+      sifted = row_settles b budget c.size-size.ensures.algebra.algebra c.loop-i.descent c.loop-i.invariant.2 c.loop-i.i row c.row-row.ensures known.least
+          (settled_is b budget known.least (set.contains same_labels known.settled) c.requires.right.settled (slice_index row 0, slice_index row 1) told);
+    }
+
+pub returns-in-Lacks : goal.returns-in-Lacks
+returns-in-Lacks g c =
+    let b = c.args.b.now in
+    let budget = c.args.run.now.budget in
+    let row = c.row-row.result.now in
+    record {
+      pair_stays = c.loop-i.invariant.0;
+      list_stays = c.loop-i.invariant.1;
+      descent = c.loop-i.invariant.2;
+      sifted = (
+        row_generated b budget c.size-size.ensures.algebra.algebra c.loop-i.descent c.loop-i.invariant.2 c.loop-i.i row c.row-row.ensures,
+        subst (λ (a : Asked). MayAsk b budget c.args.known.now row c.loop-i.descent.pair (Ok a)) c.in-Lacks.is c.in_ok-ask.ensures,
+      );
+    }
+
+pub loop-i-preserved : goal.loop-i-preserved
+loop-i-preserved g c =
+    let b = c.args.b.now in
+    let budget = c.args.run.now.budget in
+    let alg = c.size-size.ensures.algebra.algebra in
+    let row = c.row-row.result.now in
+    let d = c.loop-i.invariant.2 in
+    let back = subst (λ (a : Asked). MayAsk b budget c.args.known.now row c.loop-i.descent.pair (Ok a)) c.in-Back.is c.in_ok-ask.ensures in
+    let below = one_back b budget alg c.loop-i.descent d c.loop-i.i row c.row-row.ensures back c.loop-i.invariant.3 in
+    elim c.if-c-d.branch [
+      | then-c-d+in_ok-put_above-in-Back w ↦
+          let pair = w.in_ok-put_above-in-Back.ensures.pair in
+          let list = w.in_ok-put_above-in-Back.ensures.list in
+          rw w.descent-is (
+            pair ∙ c.loop-i.invariant.0,
+            list ∙ c.loop-i.invariant.1,
+            descent_more b budget c.loop-i.descent w.put_above.new.self (slice_index row 0, slice_index row 1) pair list w.in_ok-put_above-in-Back.ensures.above
+                (row_leads b budget alg c.loop-i.descent d c.loop-i.i row c.row-row.ensures w.if-c-d.true back) d,
+            back_below b budget c.loop-i.descent w.put_above.new.self (c.loop-i.i + 1) pair list below,
+          )
+      | else-c-d w ↦ rw w.descent-is (c.loop-i.invariant.0, c.loop-i.invariant.1, d, below)
+    ]
+
+pub returns : goal.returns
+returns g c =
+    let n = length-map c.loop-i.descent.list (λ (r : Row). r.vector) in
+    let m = ap (λ (rows : List Row). length rows) c.loop-i.invariant.1 in
+    record {
+      pair_stays = c.loop-i.invariant.0;
+      list_stays = c.loop-i.invariant.1;
+      descent = c.loop-i.invariant.2;
+      sifted = all_back c.args.b.now c.args.run.now.budget c.loop-i.descent c.loop-i.i c.loop-i.invariant.2 (omega (arith, n, m, c.loop-i-test.false, c.len-i-end.ensures)) c.loop-i.invariant.3;
+    }
