@@ -58,6 +58,15 @@ settled_grown r new o same pre h =
       stands = subst (λ (p : List Vector × Vector). Contains p.0 p.1) (λ i. (sym pre.whole i, sym q.1 i)) (in_left (values_in r) pre.rest (value_in r o) h.stands);
     }
 
+-- what holds of all holds of the first and of those behind
+pub all_before : (P : List ℕ → Type 0) (xs ys : List (List ℕ)) → AllByRecursion P (xs ++ ys) → AllByRecursion P xs
+all_before P [] ys h = tt
+all_before P (x ∷ xs) ys h = (h.0, all_before P xs ys h.1)
+
+all_behind : (P : List ℕ → Type 0) (xs ys : List (List ℕ)) → AllByRecursion P (xs ++ ys) → AllByRecursion P ys
+all_behind P [] ys h = h
+all_behind P (x ∷ xs) ys h = all_behind P xs ys h.1
+
 -- the tuples of a slice, before the first
 pub left_start : (r : Replica) (s n f : ℕ) (left : List (List ℕ)) → IsShape r.shape → r.shape ≡ arities r.operations → s < bound r.shape n → n ≡ length r.places.items → f ≡ slice_operation r.shape s → left ≡ tuples_in r.shape s → IsLeftOf r f (tuples_in r.shape s) left
 left_start r s n f left shape same below count op is = record {
@@ -71,14 +80,14 @@ left_start r s n f left shape same below count op is = record {
       subst O (λ i. (same i, count i, sym op i)) (slice_origin r.shape (length r.gens.now.items) n s tuple shape below h))));
 }
 
--- one tuple further
-pub left_on : (r new : Replica) (f : ℕ) (all left : List (List ℕ)) (args : List ℕ) → SameClosure r new → IsPrefix (values_in r) (values_in new) → IsLeftOf r f all (args ∷ left) → IsSettled new (Op f args) → IsLeftOf new f all left
-left_on r new f all left args same pre l h = record {
-  done = l.done ++ args ∷ [];
-  whole = l.whole ∙ sym (append_assoc l.done (args ∷ []) left);
-  settled = all_append (λ xs. IsSettled new (Op f xs)) l.done (args ∷ [])
-      (all_weaker (λ xs. IsSettled r (Op f xs)) (λ xs. IsSettled new (Op f xs)) (λ xs k. settled_grown r new (Op f xs) same pre k) l.done l.settled) (h, tt);
-  origins = all_weaker (λ xs. IsOriginIn r (Op f xs)) (λ xs. IsOriginIn new (Op f xs)) (λ xs k. (settled_more r new (Op f xs) pre.rest same pre.whole k).0) left l.origins.1;
+-- some tuples further
+pub left_on : (r new : Replica) (f : ℕ) (all run left : List (List ℕ)) → SameClosure r new → IsPrefix (values_in r) (values_in new) → IsLeftOf r f all (run ++ left) → AllByRecursion (λ xs. IsSettled new (Op f xs)) run → IsLeftOf new f all left
+left_on r new f all run left same pre l h = record {
+  done = l.done ++ run;
+  whole = l.whole ∙ sym (append_assoc l.done run left);
+  settled = all_append (λ xs. IsSettled new (Op f xs)) l.done run
+      (all_weaker (λ xs. IsSettled r (Op f xs)) (λ xs. IsSettled new (Op f xs)) (λ xs k. settled_grown r new (Op f xs) same pre k) l.done l.settled) h;
+  origins = all_weaker (λ xs. IsOriginIn r (Op f xs)) (λ xs. IsOriginIn new (Op f xs)) (λ xs k. (settled_more r new (Op f xs) pre.rest same pre.whole k).0) left (all_behind (λ xs. IsOriginIn r (Op f xs)) run left l.origins);
 }
 
 -- the end of a slice

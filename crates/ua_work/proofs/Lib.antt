@@ -12,3 +12,5 @@ pub mod SerialLaws
 pub mod LoneLaws
 pub mod LoneSlices
 pub mod BeginLaws
+pub mod TupleRuns
+pub mod SliceRuns

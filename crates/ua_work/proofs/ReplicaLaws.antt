@@ -11,7 +11,8 @@ use Rattle.ua_rows.specs.RowLists.{RowList, rows_at}
 use Rattle.ua_rows.proofs.OperationLaws.{applied_vector}
 use Rattle.ua_rows.proofs.RowLemmas.{place_below}
 use Rattle.ua_work.specs.Values.{with_new, different}
-use Rattle.ua_work.specs.Replicas.{values_in, value_in, IsOriginIn, IsReplica}
+use Rattle.ua_lanes.specs.LaneLists.{LaneList}
+use Rattle.ua_work.specs.Replicas.{AreLanesOf, values_in, value_in, IsOriginIn, IsReplica}
 use Rattle.ua_work.specs.declared.replicas.Replica.{Replica}
 use Rattle.ua_work.proofs.RowValues.{with_old, with_absent, either_way, in_different, in_all, different_push, rows_at_push, rows_at_new, named_push, rows_twice, length-rows_at}
 
@@ -58,7 +59,7 @@ has_value r v found b replica e some none =
     )
 
 -- a replica with another vector in the scratch
-pub with_scratch : (r : Replica) (v : Vector) → IsReplica r → length v ≡ length r.operations → IsReplica record { operations = r.operations; gens = r.gens; shape = r.shape; rows = r.rows; places = r.places; scratch = v }
+pub with_scratch : (r : Replica) (v : Vector) → IsReplica r → length v ≡ length r.operations → IsReplica record { operations = r.operations; gens = r.gens; shape = r.shape; rows = r.rows; places = r.places; scratch = v; lanes = r.lanes }
 with_scratch r v replica long = record {
   product = replica.product;
   shape = replica.shape;
@@ -68,6 +69,7 @@ with_scratch r v replica long = record {
   named = replica.named;
   rows_are = replica.rows_are;
   vectors = replica.vectors;
+  lanes = replica.lanes;
 }
 
 -- the value of no record is no row
@@ -103,10 +105,11 @@ all_new P rows v all h = ⊎_elim
     (either_way rows v)
 
 -- a replica into which a value was entered
-pub entered : (r : Replica) (rows : RowList) (places : Vec ℕ Global) (v : Vector) → IsReplica r → IsVector r.operations v → rows.width ≡ r.rows.width → rows.items ≡ with_new r.rows.items v
+pub entered : (r : Replica) (rows : RowList) (places : Vec ℕ Global) (lanes : Option LaneList) (v : Vector) → IsReplica r → IsVector r.operations v → rows.width ≡ r.rows.width → rows.items ≡ with_new r.rows.items v
     → rows_at rows.items places.items ≡ values_in r ++ v ∷ [] → AllByRecursion (λ k. k < length rows.items) places.items
-    → IsReplica record { operations = r.operations; gens = r.gens; shape = r.shape; rows = rows; places = places; scratch = r.scratch }
-entered r rows places v replica vector width new values named = record {
+    → IfSome lanes (AreLanesOf r.operations (values_in r ++ v ∷ []))
+    → IsReplica record { operations = r.operations; gens = r.gens; shape = r.shape; rows = rows; places = places; scratch = r.scratch; lanes = lanes }
+entered r rows places lanes v replica vector width new values named held = record {
   product = replica.product;
   shape = replica.shape;
   admitted = replica.admitted;
@@ -115,6 +118,7 @@ entered r rows places v replica vector width new values named = record {
   named = named;
   rows_are = new ∙ ap (λ (l : List Vector). with_new l v) replica.rows_are ∙ sym (different_push (values_in r) v) ∙ sym (ap different values);
   vectors = subst (AllByRecursion (IsVector r.operations)) (sym new) (all_new (IsVector r.operations) r.rows.items v replica.vectors vector);
+  lanes = subst (λ (vs : List Vector). IfSome lanes (AreLanesOf r.operations vs)) (sym values) held;
 }
 
 -- the places, where one was pushed
@@ -122,26 +126,26 @@ pub pushed_place : {E : Type 0} (places new : List ℕ) (i : ℕ) (r : Result (U
 pushed_place places new i r u e ok = e ∙ ap (λ q. if is_ok q then places ++ i ∷ [] else places) ok
 
 -- the scratch is entered, as the value of one record more
-module _ (r : Replica) (places : Vec ℕ Global) (i : ℕ) (replica : IsReplica r) (more : places.items ≡ r.places.items ++ i ∷ []) where
+module _ (r : Replica) (places : Vec ℕ Global) (lanes : Option LaneList) (i : ℕ) (replica : IsReplica r) (more : places.items ≡ r.places.items ++ i ∷ []) (held : IfSome lanes (AreLanesOf r.operations (values_in r ++ r.scratch ∷ []))) where
   -- where it is a row
   module _ (at : slice_get r.rows.items i ≡ Some r.scratch) where
     pub old_values : rows_at r.rows.items places.items ≡ values_in r ++ r.scratch ∷ []
     old_values = ap (rows_at r.rows.items) more ∙ rows_at_push r.rows.items r.places.items i r.scratch at
 
-    pub entered_old : IsReplica record { operations = r.operations; gens = r.gens; shape = r.shape; rows = r.rows; places = places; scratch = r.scratch }
-    entered_old = entered r r.rows places r.scratch replica (All-slice_get (IsVector r.operations) r.rows.items i r.scratch replica.vectors at) refl
+    pub entered_old : IsReplica record { operations = r.operations; gens = r.gens; shape = r.shape; rows = r.rows; places = places; scratch = r.scratch; lanes = lanes }
+    entered_old = entered r r.rows places lanes r.scratch replica (All-slice_get (IsVector r.operations) r.rows.items i r.scratch replica.vectors at) refl
         (sym (with_old r.rows.items r.scratch (Contains-slice_get r.rows.items i r.scratch at))) old_values
         (subst (AllByRecursion (λ k. k < length r.rows.items)) (sym more)
-        (named_push (length r.rows.items) (length r.rows.items) i r.places.items replica.named (omega arith) (place_below r.rows.items i r.scratch at)))
+        (named_push (length r.rows.items) (length r.rows.items) i r.places.items replica.named (omega arith) (place_below r.rows.items i r.scratch at))) held
 
   -- where it is none
   module _ (rows : RowList) (new : ¬ Contains (values_in r) r.scratch) (vector : IsVector r.operations r.scratch) (width : rows.width ≡ r.rows.width) (pushed : rows.items ≡ r.rows.items ++ r.scratch ∷ []) (last : i ≡ length r.rows.items) where
     pub new_values : rows_at rows.items places.items ≡ values_in r ++ r.scratch ∷ []
     new_values = (λ j. rows_at (pushed j) (more j)) ∙ rows_at_new r.rows.items r.places.items i r.scratch replica.named last
 
-    pub entered_new : IsReplica record { operations = r.operations; gens = r.gens; shape = r.shape; rows = rows; places = places; scratch = r.scratch }
+    pub entered_new : IsReplica record { operations = r.operations; gens = r.gens; shape = r.shape; rows = rows; places = places; scratch = r.scratch; lanes = lanes }
     entered_new =
         let long : length rows.items ≡ length r.rows.items + 1 = ap (length {A = Vector}) pushed ∙ length-append r.rows.items (r.scratch ∷ []) in
-        entered r rows places r.scratch replica vector width (pushed ∙ sym (with_absent r.rows.items r.scratch (no_row r r.scratch replica new))) new_values
+        entered r rows places lanes r.scratch replica vector width (pushed ∙ sym (with_absent r.rows.items r.scratch (no_row r r.scratch replica new))) new_values
         (subst (AllByRecursion (λ k. k < length rows.items)) (sym more)
-        (named_push (length r.rows.items) (length rows.items) i r.places.items replica.named (omega (arith, long)) (omega (arith, long, last))))
+        (named_push (length r.rows.items) (length rows.items) i r.places.items replica.named (omega (arith, long)) (omega (arith, long, last)))) held

@@ -98,7 +98,7 @@ same_working r new w same replica k = record {
     for_values : record_values r w.seen ≡ record_values new w.seen
     for_values = λ i. values (sym same.closure.operations i) (sym same.closure.gens i).now.items w.seen
 
-pub same_scratch : (r new : Replica) (v : Vector) → new ≡ record { operations = r.operations; gens = r.gens; shape = r.shape; rows = r.rows; places = r.places; scratch = v } → SameRecords r new
+pub same_scratch : (r new : Replica) (v : Vector) → new ≡ record { operations = r.operations; gens = r.gens; shape = r.shape; rows = r.rows; places = r.places; scratch = v; lanes = r.lanes } → SameRecords r new
 same_scratch r new v e = subst (SameRecords r) (sym e) record { closure = record { operations = refl; gens = refl; shape = refl }; rows = refl; places = refl }
 
 pub records_trans : (r s t : Replica) → SameRecords r s → SameRecords s t → SameRecords r t

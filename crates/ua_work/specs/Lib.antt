@@ -7,3 +7,4 @@ pub mod Replicas
 pub mod Workings
 pub mod Walks
 pub mod Beginnings
+pub mod Runs

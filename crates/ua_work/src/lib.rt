@@ -6,6 +6,7 @@ mod goals;
 mod harvests;
 mod puts;
 mod replicas;
+mod runs;
 mod workers;
 
 pub use beginnings::{Begun, start};

@@ -1,14 +1,18 @@
 //! A worker's own copy of the records that its seat has seen.
 
-ghost use Rattle.std.specs.Prelude.{◌≡◌, ◌<◌, ◌≤◌, ◌++◌, ◌∷◌, [], ◌↔◌, length, map, take, slice_index, Contains, IfOk, OnOk, IsTrue, IsFalse};
+ghost use Rattle.std.specs.Prelude.{◌≡◌, ◌<◌, ◌≤◌, ◌++◌, ◌∷◌, [], ◌↔◌, ◌/◌, length, map, take, slice_index, Contains, List, IfOk, IfSome, OnOk, IsTrue, IsFalse};
 ghost use Rattle.std.specs.List.{AllByRecursion};
 ghost use Rattle.ua_table.specs.declared.origins.Origin.TheVariants.{Op};
-ghost use Rattle.ua_table.specs.Algebras.{IsVector};
-ghost use Rattle.ua_work.specs.Replicas.{values_in, value_in, IsOriginIn, IsReplica, HasRoom, SameClosure, SameRecords};
+ghost use Rattle.ua_table.specs.Algebras.{Vector, Product, IsVector, arities};
+ghost use Rattle.ua_lanes.specs.LaneLists.{LaneList};
+ghost use Rattle.ua_lanes.specs.Windows.{tuple_of, AreBitsOf};
+ghost use Rattle.ua_work.specs.Runs.{AreBitsIn};
+ghost use Rattle.ua_work.specs.Replicas.{AreLanesOf, values_in, value_in, IsOriginIn, IsReplica, HasRoom, SameClosure, SameRecords};
 
 use std::alloc::{AllocError, Global};
+use ua_lanes::Lanes;
 use ua_rows::{Operations, Rows, Scratch};
-use ua_table::{Frame, Origin, Shape, Vectors};
+use ua_table::{Elem, Frame, Origin, Shape, Vectors};
 
 /// The different values of records, with a look-up, and what computes them.
 ///
@@ -24,6 +28,8 @@ pub(crate) struct Replica<'a> {
     pub(crate) places: Vec<u32>,
     /// The value that was computed last.
     pub(crate) scratch: Scratch,
+    /// The value of each record once more, where lanes tell faster that a tuple gives none that is new.
+    pub(crate) lanes: Option<Lanes<'a>>,
 }
 
 /// Writes the rows of the records that the arguments name to the front. It answers no array, since that is
@@ -36,6 +42,45 @@ fn name_rows(places: &[u32], args: &[u32], rows: &mut [u32; 4])
 {
     for (j, a) in args.iter().enumerate() {
         rows[j] = places[*a as usize];
+    }
+}
+
+/// Makes room for one more vector in the lanes, where there are any.
+fn reserve_lanes(lanes: &mut Option<Lanes>) -> Result<(), AllocError>
+    ensures kept { (p : Product) (vs : List Vector) → IfSome lanes.old (AreLanesOf p vs) → IfSome lanes.new (AreLanesOf p vs) }
+    ensures ok { OnOk result (IfSome lanes.new (λ (l : LaneList). 0 < l.spare)) }
+{
+    if let Some(lanes) = lanes {
+        lanes.reserve()?;
+    }
+    Ok(())
+}
+
+/// Appends a vector to the lanes, where there are any.
+fn push_lanes(lanes: &mut Option<Lanes>, v: &[Elem])
+    requires vector { IfSome lanes.old (λ (l : LaneList). IsVector l.product v.now) }
+    requires spare { IfSome lanes.old (λ (l : LaneList). 0 < l.spare) }
+    ensures { (p : Product) (vs : List Vector) → IfSome lanes.old (AreLanesOf p vs) → IfSome lanes.new (AreLanesOf p (vs ++ v.now ∷ [])) }
+{
+    if let Some(lanes) = lanes {
+        lanes.push_reserved(v);
+    }
+}
+
+/// What lanes tell of an operation at the tuples that differ from this one at a place alone: a bit for each
+/// number there beside its own.
+#[inline(always)]
+fn told_by(lanes: &mut Option<Lanes>, op: u32, args: &[u32; 4], place: usize) -> u32
+    requires operation { IfSome lanes.old (λ (l : LaneList). op < length (arities l.product)) }
+    requires place { IfSome lanes.old (λ (l : LaneList). place < slice_index (arities l.product) op) }
+    requires few { place < 4 }
+    requires named { IfSome lanes.old (λ (l : LaneList). AllByRecursion (λ a. a < length l.items) (tuple_of l.product op args.now)) }
+    ensures same { lanes.new ≡ lanes.old }
+    ensures told { (p : Product) (vs : List Vector) → IfSome lanes.old (AreLanesOf p vs) → AreBitsOf p vs op args.now place result }
+{
+    match lanes {
+        Some(lanes) => lanes.known(op, args, place),
+        None => 0,
     }
 }
 
@@ -60,6 +105,7 @@ impl<'a> Replica<'a> {
             rows: Rows::new(alloc, width),
             places: Vec::new(alloc),
             scratch: Scratch::new(alloc, width)?,
+            lanes: Lanes::new(alloc, frame)?,
         })
     }
 
@@ -73,6 +119,7 @@ impl<'a> Replica<'a> {
     {
         self.places.reserve(1)?;
         self.rows.reserve()?;
+        reserve_lanes(&mut self.lanes)?;
         Ok(())
     }
 
@@ -115,8 +162,23 @@ impl<'a> Replica<'a> {
         self.rows.find_scratch(&self.scratch).is_some()
     }
 
-    /// Writes the value of an operation at records into the scratch, and answers whether it is the value
-    /// of a record. It takes no memory.
+    /// Of an operation at the tuples of records that differ from this one at a place alone, which values are
+    /// known to be values of records: a bit for each number there beside its own, from a multiple of sixteen
+    /// on. A clear bit says nothing. It takes no memory.
+    #[inline(always)]
+    pub(crate) fn known(&mut self, op: u32, args: &[u32; 4], place: usize) -> u32
+        requires replica { IsReplica self.old }
+        requires origin { IsOriginIn self.old (Op op args.now) }
+        requires place { place < slice_index (arities self.old.operations) op }
+        requires few { place < 4 }
+        ensures same { self.new ≡ self.old }
+        ensures known { AreBitsIn self.old op args.now place (slice_index args.now place / 16) result }
+    {
+        told_by(&mut self.lanes, op, args, place)
+    }
+
+    /// Whether the value of an operation at records is the value of a record. If it is none, the scratch has
+    /// it. It takes no memory.
     #[inline(always)]
     pub(crate) fn has(&mut self, op: u32, args: &[u32; 4]) -> bool
         requires replica { IsReplica self.old }
@@ -160,6 +222,7 @@ impl<'a> Replica<'a> {
     {
         let place = self.rows.push_scratch(&self.scratch);
         self.places.push(place).unwrap();
+        push_lanes(&mut self.lanes, self.scratch.as_slice());
         place
     }
 
@@ -179,6 +242,7 @@ impl<'a> Replica<'a> {
         match self.rows.find_scratch(&self.scratch) {
             Some(place) => {
                 self.places.push(place).unwrap();
+                push_lanes(&mut self.lanes, self.scratch.as_slice());
                 false
             }
             None => {

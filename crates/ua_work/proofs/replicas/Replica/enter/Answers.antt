@@ -1,7 +1,8 @@
 use Rattle.std.proofs.Common.{◌++◌, ◌∷◌, [], sym, ap, ◌∙◌, subst}
+use Rattle.std.specs.Prelude.{IfSome}
 use Rattle.ua_table.specs.Algebras.{Vector, Product, IsVector}
 use Rattle.ua_work.specs.declared.replicas.Replica.{Replica}
-use Rattle.ua_work.specs.Replicas.{values_in}
+use Rattle.ua_work.specs.Replicas.{AreLanesOf, values_in}
 use Rattle.ua_work.proofs.ReplicaLaws.{value_vector, no_value, pushed_place, old_values, entered_old}
 use Rattle.ua_work.proofs.replicas.Replica.enter.Goals as goal
 
@@ -10,7 +11,8 @@ returns-in-Some-clause-replica c =
     let r = c.compute.new.self in
     let place = c.in-Some.place in
     let more = pushed_place r.places.items c.push.new.self.items place c.push.result c.unwrap.result c.push.ensures.items c.unwrap.ensures in
-    entered_old r c.push.new.self place c.compute.ensures.replica more c.in-Some.ensures.found
+    let held = subst (λ (v : Vector). IfSome c.push_lanes.new.lanes (AreLanesOf r.operations (values_in r ++ v ∷ []))) c.as_slice.ensures (c.push_lanes.ensures r.operations (values_in r) c.compute.ensures.replica.lanes) in
+    entered_old r c.push.new.self c.push_lanes.new.lanes place c.compute.ensures.replica more held c.in-Some.ensures.found
 
 pub returns-in-Some-clause-values : goal.returns-in-Some-clause-values
 returns-in-Some-clause-values c =
@@ -18,7 +20,8 @@ returns-in-Some-clause-values c =
     let e = c.compute.ensures in
     let place = c.in-Some.place in
     let more = pushed_place r.places.items c.push.new.self.items place c.push.result c.unwrap.result c.push.ensures.items c.unwrap.ensures in
-    old_values r c.push.new.self place e.replica more c.in-Some.ensures.found ∙ (λ j. ap values_in e.same j ++ e.value j ∷ [])
+    let held = subst (λ (v : Vector). IfSome c.push_lanes.new.lanes (AreLanesOf r.operations (values_in r ++ v ∷ []))) c.as_slice.ensures (c.push_lanes.ensures r.operations (values_in r) e.replica.lanes) in
+    old_values r c.push.new.self c.push_lanes.new.lanes place e.replica more held c.in-Some.ensures.found ∙ (λ j. ap values_in e.same j ++ e.value j ∷ [])
 
 pub enter_new-requires-clause-vector : goal.enter_new-requires-clause-vector
 enter_new-requires-clause-vector c =

@@ -3,7 +3,7 @@ use Rattle.std.specs.Prelude.{Contains}
 use Rattle.ua_table.specs.declared.origins.Origin.TheVariants.{Op}
 use Rattle.ua_work.specs.Replicas.{values_in, value_in}
 use Rattle.ua_work.proofs.WorkLaws.{same_scratch, same_goes, same_settled, same_new}
-use Rattle.ua_work.proofs.workers.settle.Goals as goal
+use Rattle.ua_work.proofs.workers.settle_tuple.Goals as goal
 
 pub returns-then-has-clause-done : goal.returns-then-has-clause-done
 returns-then-has-clause-done c =

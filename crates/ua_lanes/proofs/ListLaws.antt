@@ -1,0 +1,178 @@
+-- Lists, their parts, and bits of numbers.
+use Rattle.std.proofs.Common.{◌≡◌, ℕ, zero, suc, ◌+◌, ◌-◌, ◌*◌, ◌/◌, ◌%◌, ◌^◌, ◌<◌, ◌≤◌, List, [], ◌∷◌, ◌++◌, length, map, take, drop, get_or, set, refl, sym, ap, ◌∙◌, subst, arith, ⊎_elim}
+use Rattle.std.specs.Prelude.{slice_index, slice_range, replicate}
+use Rattle.std.specs.List.{AllByRecursion, range_with_len}
+use Rattle.std.specs.Simd.Lanes.{number_l}
+use Rattle.std.proofs.Math.Nat.{pow-le-pow_right, mod-lt, div-eq_of_lt}
+use Rattle.std.proofs.Math.Arith.{mod-mul}
+use Rattle.std.proofs.lemmas.Nat.{pow-add, pow_pos, div-mul-add, mod-mul-add}
+use Rattle.std.proofs.lemmas.List.{length-drop, length-take-le, drop-append-le, take-append-le, take-append-drop, append-nil, take_all, drop_all, drop_at, drop-drop}
+use Rattle.std.proofs.Math.Seq.{take-append_seam}
+use borrow.Rule.Slice.PartMut.{put_mid, post_of, drop_put}
+use Rattle.std.proofs.lemmas.List.FromFn.{map-range_with_len_more}
+use Rattle.std.proofs.lemmas.Bool.{cases_lt}
+
+-- what holds of each element, and of what stands past the end, holds at every place
+pub all_or : {X : Type 0} (P : X → Type 0) (xs : List X) (k : ℕ) (d : X) → P d → AllByRecursion P xs → P (get_or xs k d)
+all_or P [] k d past all = past
+all_or P (x ∷ xs) zero d past all = all.0
+all_or P (x ∷ xs) (suc k) d past all = all_or P xs k d past all.1
+
+pub all_below : {X : Type 0} (P : X → Type 0) (xs : List X) (k : ℕ) (d : X) → k < length xs → AllByRecursion P xs → P (get_or xs k d)
+all_below P [] k d low all = absurd (omega (arith, low))
+all_below P (x ∷ xs) zero d low all = all.0
+all_below P (x ∷ xs) (suc k) d low all = all_below P xs k d (omega (arith, low)) all.1
+
+pub all_set : {X : Type 0} (P : X → Type 0) (xs : List X) (i : ℕ) (x : X) → P x → AllByRecursion P xs → AllByRecursion P (set xs i x)
+all_set P [] i x here all = tt
+all_set P (y ∷ ys) zero x here all = (here, all.1)
+all_set P (y ∷ ys) (suc i) x here all = (all.0, all_set P ys i x here all.1)
+
+pub all_drop : {X : Type 0} (P : X → Type 0) (xs : List X) (n : ℕ) → AllByRecursion P xs → AllByRecursion P (drop n xs)
+all_drop P [] zero all = tt
+all_drop P [] (suc n) all = tt
+all_drop P (x ∷ xs) zero all = all
+all_drop P (x ∷ xs) (suc n) all = all_drop P xs n all.1
+
+pub all_take : {X : Type 0} (P : X → Type 0) (xs : List X) (n : ℕ) → AllByRecursion P xs → AllByRecursion P (take n xs)
+all_take P [] zero all = tt
+all_take P [] (suc n) all = tt
+all_take P (x ∷ xs) zero all = tt
+all_take P (x ∷ xs) (suc n) all = (all.0, all_take P xs n all.1)
+
+pub all_weaker : {X : Type 0} (P Q : X → Type 0) → ((x : X) → P x → Q x) → (xs : List X) → AllByRecursion P xs → AllByRecursion Q xs
+all_weaker P Q each [] all = tt
+all_weaker P Q each (x ∷ xs) all = (each x all.0, all_weaker P Q each xs all.1)
+
+pub all_append : {X : Type 0} (P : X → Type 0) (xs ys : List X) → AllByRecursion P xs → AllByRecursion P ys → AllByRecursion P (xs ++ ys)
+all_append P [] ys all more = more
+all_append P (x ∷ xs) ys all more = (all.0, all_append P xs ys all.1 more)
+
+pub all_replicate : {X : Type 0} (P : X → Type 0) (n : ℕ) (x : X) → P x → AllByRecursion P (replicate n x)
+all_replicate P zero x here = tt
+all_replicate P (suc n) x here = (here, all_replicate P n x here)
+
+-- a part of a list that goes on
+pub range_before : {X : Type 0} (xs ys : List X) (a b : ℕ) → a ≤ b → b ≤ length xs → slice_range (xs ++ ys) a b ≡ slice_range xs a b
+range_before xs ys a b order within =
+    ap (take (b - a)) (drop-append-le a xs ys (omega (arith, order, within)))
+    ∙ take-append-le (b - a) (drop a xs) ys (let l = length-drop a xs in omega (arith, l, order, within))
+
+-- a part that was written over: what stands there, before it and after it
+pub range_put : {X : Type 0} (xs ys : List X) (a k : ℕ) → length ys ≡ k → a + k ≤ length xs → slice_range (put_mid a k xs ys) a (a + k) ≡ ys
+range_put xs ys a k long within =
+    let front : length (take a xs) ≡ a = length-take-le a xs (omega (arith, within)) in
+    let count : a + k - a ≡ length ys = omega (arith, long) in
+    ap (take (a + k - a)) (drop_at (take a xs) (ys ++ post_of a k xs) a front)
+    ∙ ap (λ n. take n (ys ++ post_of a k xs)) count ∙ take-append_seam ys (post_of a k xs)
+
+pub range_put_before : {X : Type 0} (xs ys : List X) (a k b n : ℕ) → a + k ≤ length xs → b + n ≤ a → slice_range (put_mid a k xs ys) b (b + n) ≡ slice_range xs b (b + n)
+range_put_before xs ys a k b n within before =
+    let front : length (take a xs) ≡ a = length-take-le a xs (omega (arith, within)) in
+    let low : b + n ≤ length (take a xs) = omega (arith, front, before) in
+    range_before (take a xs) (ys ++ post_of a k xs) b (b + n) (omega arith) low
+    ∙ sym (range_before (take a xs) (drop a xs) b (b + n) (omega arith) low)
+    ∙ ap (λ l. slice_range l b (b + n)) (take-append-drop a xs)
+
+pub range_put_after : {X : Type 0} (xs ys : List X) (a k b n : ℕ) → length ys ≡ k → a + k ≤ length xs → a + k ≤ b → slice_range (put_mid a k xs ys) b (b + n) ≡ slice_range xs b (b + n)
+range_put_after xs ys a k b n long within after =
+    let e : a + k - a ≡ k = omega arith in
+    let split : b ≡ (a + k) + (b - (a + k)) = omega (arith, after) in
+    let order : a ≤ a + k = omega arith in
+    let same : drop (a + k) (put_mid a k xs ys) ≡ drop (a + k) xs = subst (λ m. drop (a + k) (put_mid a m xs ys) ≡ drop (a + k) xs) e (drop_put a (a + k) xs ys order within (long ∙ sym e)) in
+    ap (take (b + n - b)) (ap (λ m. drop m (put_mid a k xs ys)) split ∙ sym (drop-drop (b - (a + k)) (a + k) (put_mid a k xs ys)) ∙ ap (drop (b - (a + k))) same ∙ drop-drop (b - (a + k)) (a + k) xs ∙ sym (ap (λ m. drop m xs) split))
+
+-- a vector of a `Vec` that was written through its slice
+pub rewritten : {X : Type 0} (n : ℕ) (ys xs : List X) → length ys ≡ length xs → length xs ≡ n → take n (ys ++ drop (length ys) xs) ≡ ys
+rewritten n ys xs same long =
+    let all : length xs ≤ length ys = omega (arith, same) in
+    ap (λ t. take n (ys ++ t)) (drop_all (length ys) xs all) ∙ ap (take n) (append-nil ys) ∙ take_all n ys (omega (arith, same, long))
+
+pub drop_more : (xs : List ℕ) (k : ℕ) → k < length xs → drop k xs ≡ slice_index xs k ∷ drop (suc k) xs
+drop_more [] k low = absurd (omega (arith, low))
+drop_more (x ∷ xs) zero low = refl
+drop_more (x ∷ xs) (suc k) low = drop_more xs k (omega (arith, low))
+
+-- at each place a list of lists that was mapped
+pub mapped_or : {X Y : Type 0} (f : X → Y) (xs : List X) (k : ℕ) (d : X) (e : Y) → k < length xs → get_or (map f xs) k e ≡ f (get_or xs k d)
+mapped_or f [] k d e low = absurd (omega (arith, low))
+mapped_or f (x ∷ xs) zero d e low = refl
+mapped_or f (x ∷ xs) (suc k) d e low = mapped_or f xs k d e (omega (arith, low))
+
+-- ---- what a function makes of a range
+
+pub map_range_same : {X : Type 0} (f g : ℕ → X) (a n : ℕ) → ((k : ℕ) → k < n → f (a + k) ≡ g (a + k)) → map f (range_with_len a n) ≡ map g (range_with_len a n)
+map_range_same f g a zero each = refl
+map_range_same f g a (suc n) each =
+    let s : suc n ≡ n + 1 = omega arith in
+    ap (λ m. map f (range_with_len a m)) s ∙ map-range_with_len_more f a n (a + n) refl
+    ∙ ap (λ front. front ++ f (a + n) ∷ []) (map_range_same f g a n (λ k low. each k (omega (arith, low))))
+    ∙ ap (λ last. map g (range_with_len a n) ++ last ∷ []) (each n (omega arith))
+    ∙ sym (map-range_with_len_more g a n (a + n) refl) ∙ sym (ap (λ m. map g (range_with_len a m)) s)
+
+pub all_map_range : {X : Type 0} (P : X → Type 0) (f : ℕ → X) (a n : ℕ) → ((k : ℕ) → P (f k)) → AllByRecursion P (map f (range_with_len a n))
+all_map_range P f a zero each = tt
+all_map_range P f a (suc n) each =
+    let s : suc n ≡ n + 1 = omega arith in
+    subst (AllByRecursion P) (sym (ap (λ m. map f (range_with_len a m)) s ∙ map-range_with_len_more f a n (a + n) refl))
+    (all_append P (map f (range_with_len a n)) (f (a + n) ∷ []) (all_map_range P f a n each) (each (a + n), tt))
+
+-- ---- numbers by their digits
+
+number_below : (xs : List ℕ) → AllByRecursion (λ x. x < 16) xs → number_l 16 xs < 16 ^ length xs
+number_below [] all = omega arith
+number_below (x ∷ xs) all =
+    let rest = number_below xs all.1 in
+    let here = all.0 in
+    let power : 16 ^ (1 + length xs) ≡ 16 * 16 ^ length xs = pow-add 16 1 (length xs) in
+    let one : suc (length xs) ≡ 1 + length xs = omega arith in
+    subst (λ n. number_l 16 (x ∷ xs) < 16 ^ n) (sym one) (
+    omega (arith, rest, here, power))
+
+pub number_small : (xs : List ℕ) → AllByRecursion (λ x. x < 16) xs → length xs ≤ 15 → number_l 16 xs < 2 ^ 60
+number_small xs all short =
+    let some : 0 < 16 = omega arith in
+    let below = number_below xs all in
+    let most : 16 ^ length xs ≤ 16 ^ 15 = pow-le-pow_right some short in
+    omega (arith, below, most)
+
+-- ---- bits
+
+even_part : (y q : ℕ) → 0 < q → y % (q * 2) % 2 ≡ y % 2
+even_part y q some =
+    let two : 0 < 2 = omega arith in
+    ap (λ n. n % 2) (mod-mul y some two) ∙ (let low : y % 2 < 2 = omega arith in mod-mul-add (y / 2 % q) 2 (y % 2) low)
+
+-- the bits of what is left by a power are the first ones
+pub bit_of_first : (x l r : ℕ) → x % 2 ^ l / 2 ^ r % 2 ≡ 1 → (r < l) × (x / 2 ^ r % 2 ≡ 1)
+bit_of_first x l r set = ⊎_elim
+    (λ low. (low, first low))
+    (λ high. absurd (past high))
+    (cases_lt r l)
+  where
+    first : r < l → x / 2 ^ r % 2 ≡ 1
+    first low =
+        let k : ℕ = l - suc r in
+        let split : l ≡ (k + 1) + r = omega (arith, low) in
+        let power : 2 ^ l ≡ (2 ^ k * 2) * 2 ^ r = ap (λ n. 2 ^ n) split ∙ pow-add 2 (k + 1) r ∙ ap (λ n. n * 2 ^ r) (pow-add 2 k 1) in
+        let some : 0 < 2 ^ k = pow_pos k in
+        let wide : 0 < 2 ^ k * 2 = omega (arith, some) in
+        let one : 0 < 2 ^ r = pow_pos r in
+        let rest : x % 2 ^ r < 2 ^ r = mod-lt x one in
+        let is : x % 2 ^ l / 2 ^ r ≡ x / 2 ^ r % (2 ^ k * 2) = ap (λ n. x % n / 2 ^ r) power ∙ ap (λ n. n / 2 ^ r) (mod-mul x wide one) ∙ div-mul-add (x / 2 ^ r % (2 ^ k * 2)) (2 ^ r) (x % 2 ^ r) rest in
+        sym (ap (λ n. n % 2) is ∙ even_part (x / 2 ^ r) (2 ^ k) some) ∙ set
+
+    past : l ≤ r → ⊥
+    past high =
+        let two : 0 < 2 = omega arith in
+        let most : 2 ^ l ≤ 2 ^ r = pow-le-pow_right two high in
+        let one : 0 < 2 ^ l = pow_pos l in
+        let below : x % 2 ^ l < 2 ^ l = mod-lt x one in
+        let none : x % 2 ^ l / 2 ^ r ≡ 0 = div-eq_of_lt (omega (arith, below, most)) in
+        (let e = ap (λ n. n % 2) none in omega (arith, e, set))
+
+-- entries below sixteen are bytes
+pub tiles_bytes : (tiles : List (List (List ℕ))) → AllByRecursion (AllByRecursion (AllByRecursion (λ x. x < 16))) tiles → AllByRecursion (AllByRecursion (AllByRecursion (λ x. x < 256))) tiles
+tiles_bytes tiles all =
+    all_weaker (AllByRecursion (AllByRecursion (λ x. x < 16))) (AllByRecursion (AllByRecursion (λ x. x < 256)))
+    (λ tile small. all_weaker (AllByRecursion (λ x. x < 16)) (AllByRecursion (λ x. x < 256)) (λ column low. all_weaker (λ x. x < 16) (λ x. x < 256) (λ x below. omega (arith, below)) column low) tile small) tiles all

@@ -1,0 +1,55 @@
+use Rattle.std.proofs.Common.{◌≡◌, ◌+◌, ◌/◌, ◌%◌, ◌++◌, ◌∷◌, [], ℕ, List, false, length, take, drop, set, sym, ap, ◌∙◌, subst, arith, cond}
+use Rattle.std.specs.Prelude.{is_ok}
+use Rattle.std.proofs.lemmas.List.{length-map}
+use Rattle.ua_table.specs.Algebras.{Vector}
+use Rattle.ua_lanes.specs.Columns.{VectorColumns, key_of, block_of, vectors_in, HasRoom, AreColumns}
+use Rattle.ua_lanes.proofs.ListLaws.{rewritten}
+use Rattle.ua_lanes.proofs.PushLaws.{some_one, block_whole, IsEntered, pushed_vectors, pushed_columns}
+use Rattle.ua_lanes.proofs.columns.Columns.push_reserved.Goals as goal
+
+-- there is room, as the caller says
+has_room : (c : goal.After-self-5-1) → HasRoom c.self.inside.words c.self.inside.count c.self.inside.blocks c.self.inside.keys
+has_room c = c.self.invariant.room (some_one c.self.inside.ready (let e = ap (λ (v : VectorColumns). v.spare) c.self.view_is in let s = c.requires.spare in omega (arith, e, s)))
+
+-- the tiles, written through their slice
+written : (c : goal.After-self-5-1) → take c.self.inside.tiles.len (c.enter_lane.new.tiles ++ drop (length c.enter_lane.new.tiles) c.self.inside.tiles.items) ≡ c.enter_lane.new.tiles
+written c =
+    let here = c.self.inside in
+    rewritten here.tiles.len c.enter_lane.new.tiles here.tiles.items (c.enter_lane.ensures.length ∙ ap (length {A = List (List ℕ)}) c.as_mut_slice.ensures.value) (sym here.tiles.ok.0)
+
+entered : (c : goal.After-self-5-1) → IsEntered c.self.inside.words c.self.inside.count c.self.inside.tiles.items c.enter_lane.new.tiles c.args.v.now
+entered c =
+    let here = c.self.inside in
+    let e = c.enter_lane.ensures in
+    let room = has_room c in
+    subst (λ (tiles : List (List (List ℕ))). IsEntered here.words here.count tiles c.enter_lane.new.tiles c.args.v.now) c.as_mut_slice.ensures.value record {
+      long = e.length;
+      whole = block_whole here.words here.count here.blocks (length c.as_mut_slice.result.now) room.block (let w = c.self.invariant.whole in let l = ap (length {A = List (List ℕ)}) c.as_mut_slice.ensures.value in omega (arith, w, l));
+      others = e.others;
+      lane = e.lane;
+      lanes = e.lanes;
+    }
+
+pub invariant_of-self : goal.invariant_of-self
+invariant_of-self c =
+    let here = c.self.inside in
+    let e = c.enter_lane.ensures in
+    let block = c.block_in-columns.result.now in
+    let key = c.write_key.new.key in
+    let words : length key ≡ here.words = ap (length {A = ℕ}) c.write_key.ensures ∙ length-map block _ ∙ c.block_in-columns.ensures.length in
+    let keyed : take here.key.len (key ++ drop (length key) here.key.items) ≡ key = rewritten here.key.len key here.key.items (words ∙ sym c.self.invariant.key_long) (sym here.key.ok.0) in
+    let added : c.extend_from_slice.new.self.items ≡ here.keys.items ++ key = c.extend_from_slice.ensures.items ∙ ap (λ r. cond (is_ok r) (here.keys.items ++ c.as_slice-2.result.now) here.keys.items) c.unwrap.ensures ∙ ap (λ (k : List ℕ). here.keys.items ++ k) (c.as_slice-2.ensures.value ∙ keyed) in
+    let is : key ≡ key_of (block_of c.enter_lane.new.tiles here.words (here.count / 16)) (here.count % 16) = c.write_key.ensures ∙ ap (λ (b : List (List (List ℕ))). key_of b (here.count % 16)) (c.block_in-columns.ensures.block ∙ ap (λ (ts : List (List (List ℕ))). block_of ts here.words (here.count / 16)) (c.as_slice.ensures.value ∙ written c)) in
+    subst (λ (q : List (List (List ℕ)) × List ℕ). AreColumns here.width here.words (here.count + 1) here.blocks q.0 c.extend_from_slice.new.self q.1 (set here.front.items c.slot_of-slot.result here.count) false)
+    (λ j. (sym (written c) j, sym keyed j))
+    (pushed_columns here.width here.words here.count here.blocks here.tiles.items here.keys here.key.items here.front.items here.ready c.self.invariant
+    c.enter_lane.new.tiles c.args.v.now c.extend_from_slice.new.self key c.slot_of-slot.result (entered c) e.small (has_room c).block (has_room c).few is added words)
+
+pub returns-clause-items : goal.returns-clause-items
+returns-clause-items c =
+    let here = c.self.inside in
+    let e = c.self.view_is in
+    let long : length c.args.v.now ≡ here.width = c.requires.width ∙ sym (ap (λ (v : VectorColumns). v.width) e) in
+    ap (λ (ts : List (List (List ℕ))). vectors_in here.width ts (here.count + 1)) (written c)
+    ∙ pushed_vectors here.words here.count here.tiles.items c.enter_lane.new.tiles c.args.v.now (entered c) here.width c.self.invariant.words_are long
+    ∙ ap (λ (vs : List Vector). vs ++ c.args.v.now ∷ []) (ap (λ (v : VectorColumns). v.items) e)

@@ -1,0 +1,40 @@
+use Rattle.std.proofs.Common.{◌≡◌, ◌+◌, ◌*◌, ◌-◌, ◌<◌, ◌++◌, List, ℕ, length, take, drop, ap, ◌∙◌, arith}
+use Rattle.std.specs.List.{AllByRecursion}
+use borrow.Rule.Slice.PartMut.{mid_len}
+use Rattle.ua_lanes.specs.Columns.{entry_of}
+use Rattle.ua_lanes.proofs.ListLaws.{all_append, all_take, all_drop}
+use Rattle.ua_lanes.proofs.ColumnLaws.{block_put, block_put_other}
+use Rattle.ua_lanes.proofs.columns.enter_lane.Goals as goal
+
+pub returns-clause-small : goal.returns-clause-small
+returns-clause-small c =
+    let start = c.args.block * c.args.words in
+    let n = start + c.args.words - start in
+    let tiles = c.args.tiles.now in
+    let P = AllByRecursion (AllByRecursion (λ x. x < 16)) in
+    all_append P (take start tiles) (c.write_lane.new.block ++ drop n (drop start tiles)) (all_take P tiles start c.requires.small)
+    (all_append P c.write_lane.new.block (drop n (drop start tiles)) c.write_lane.ensures.small (all_drop P (drop start tiles) n (all_drop P tiles start c.requires.small)))
+
+pub returns-clause-others : goal.returns-clause-others
+returns-clause-others c b apart =
+    let start = c.args.block * c.args.words in
+    let n = start + c.args.words - start in
+    let is : n ≡ c.args.words = omega arith in
+    let long : length c.write_lane.new.block ≡ c.args.words = c.write_lane.ensures.length ∙ mid_len start (start + c.args.words) c.args.tiles.now c.requires.whole ∙ is in
+    block_put_other c.args.tiles.now c.write_lane.new.block c.args.words c.args.block n b is long c.requires.whole apart
+
+pub returns-clause-lane : goal.returns-clause-lane
+returns-clause-lane c x low =
+    let start = c.args.block * c.args.words in
+    let n = start + c.args.words - start in
+    let is : n ≡ c.args.words = omega arith in
+    let long : length c.write_lane.new.block ≡ c.args.words = c.write_lane.ensures.length ∙ mid_len start (start + c.args.words) c.args.tiles.now c.requires.whole ∙ is in
+    ap (λ (b : List (List (List ℕ))). entry_of b c.args.lane x) (block_put c.args.tiles.now c.write_lane.new.block c.args.words c.args.block n is long c.requires.whole) ∙ c.write_lane.ensures.lane x low
+
+pub returns-clause-lanes : goal.returns-clause-lanes
+returns-clause-lanes c r x apart =
+    let start = c.args.block * c.args.words in
+    let n = start + c.args.words - start in
+    let is : n ≡ c.args.words = omega arith in
+    let long : length c.write_lane.new.block ≡ c.args.words = c.write_lane.ensures.length ∙ mid_len start (start + c.args.words) c.args.tiles.now c.requires.whole ∙ is in
+    ap (λ (b : List (List (List ℕ))). entry_of b r x) (block_put c.args.tiles.now c.write_lane.new.block c.args.words c.args.block n is long c.requires.whole) ∙ c.write_lane.ensures.others r x apart

@@ -1,0 +1,9 @@
+pub mod Tiles
+pub mod Columns
+pub mod Quads
+pub mod Lines
+pub mod Windows
+pub mod LaneLists
+pub mod SmallLanes
+pub mod LargeLanes
+pub mod Lanes

@@ -1,0 +1,119 @@
+//! A front: a table that guesses a vector by the hash of its words. What it forgets and what it confuses costs time
+//! and nothing else.
+
+ghost use Rattle.std.specs.Prelude.{◌≡◌, ℕ, ◌-◌, ◌*◌, ◌/◌, ◌%◌, ◌^◌, ◌<◌, ◌≤◌, length, vec_len, IfOk};
+ghost use Rattle.std.specs.List.{AllByRecursion};
+
+use crate::tiles::LANES;
+use std::alloc::{AllocError, Global};
+
+/// How many slots the front has at least for each vector.
+const SLOTS: usize = 8;
+
+/// How many slots the first front has.
+pub(crate) const FRONT: usize = 256;
+
+pub(crate) const SEED: u64 = 0x9E37_79B9_7F4A_7C15;
+
+const FACTOR: u64 = 0xA076_1D64_78BD_642F;
+
+/// A hash and a word, mixed.
+#[inline(always)]
+fn mixed(hash: u64, word: u64) -> u64 {
+    let (low, high) = (hash ^ word).carrying_mul(FACTOR, 0);
+    low ^ high
+}
+
+/// The hash of some words. It only guides a look-up, so nothing is said of it.
+pub(crate) fn hash_of(key: &[u64]) -> u64 {
+    let mut hash = SEED;
+    for word in key {
+        hash = mixed(hash, *word);
+    }
+    hash
+}
+
+/// Mixes a word into each hash.
+#[inline(always)]
+pub(crate) fn mix_all(hashes: &mut [u64; 16], words: &[u64; 16]) {
+    for r in 0..16 {
+        hashes[r] = mixed(hashes[r], words[r]);
+    }
+}
+
+/// The place of a hash in a front of so many slots.
+#[inline(always)]
+pub(crate) fn slot_of(hash: u64, slots: usize) -> usize
+    requires { 0 < slots }
+    ensures { result < slots }
+{
+    (hash >> 20) as usize & (slots - 1)
+}
+
+/// A front of so many slots, with these vectors.
+fn front_of(
+    alloc: Global,
+    keys: &[u64],
+    words: usize,
+    count: usize,
+    slots: usize,
+) -> Result<Vec<u32>, AllocError>
+    requires some { 0 < slots }
+    requires few { count < 2 ^ 32 }
+    requires keys { length keys.now ≡ count * words }
+    ensures named { IfOk result (λ front. AllByRecursion (λ r. r ≤ count - 1) front.items) }
+    ensures slots { IfOk result (λ front. vec_len front ≡ slots) }
+{
+    let mut front = vec![in alloc; 0u32; slots]?;
+    for i in 0..count {
+        let start = i * words;
+        let slot = slot_of(hash_of(&keys[start..start + words]), slots);
+        front[slot] = i as u32;
+    }
+    Ok(front)
+}
+
+/// Sees to it that the front has slots enough for one more vector.
+pub(crate) fn reserve_slots(
+    alloc: Global,
+    front: &mut Vec<u32>,
+    keys: &[u64],
+    words: usize,
+    count: usize,
+) -> Result<(), AllocError>
+    requires some { 0 < length front.old.items }
+    requires few { count < 2 ^ 32 }
+    requires keys { length keys.now ≡ count * words }
+    requires named { AllByRecursion (λ r. r ≤ count - 1) front.old.items }
+    ensures some { 0 < length front.new.items }
+    ensures named { AllByRecursion (λ r. r ≤ count - 1) front.new.items }
+{
+    if count * SLOTS >= front.len() {
+        *front = front_of(alloc, keys, words, count, front.len() * 2)?;
+    }
+    Ok(())
+}
+
+/// The vectors that the hashes may be those of.
+#[inline(always)]
+pub(crate) fn guesses(front: &[u32], hashes: &[u64; 16], count: usize) -> [usize; 16]
+    requires some { 0 < length front.now }
+    requires vectors { 0 < count }
+    requires named { AllByRecursion (λ r. r ≤ count - 1) front.now }
+    ensures { AllByRecursion (λ i. i < count) result }
+{
+    let mut guesses = [0; 16];
+    for r in 0..LANES {
+        guesses[r] = front[slot_of(hashes[r], front.len())] as usize;
+    }
+    guesses
+}
+
+/// The first bits, so many.
+#[inline(always)]
+pub(crate) fn first_bits(bits: u32, count: usize) -> u32
+    requires { count ≤ LANES }
+    ensures { (r : ℕ) → result / 2 ^ r % 2 ≡ 1 → (r < count) × (bits / 2 ^ r % 2 ≡ 1) }
+{
+    bits % (1 << count)
+}

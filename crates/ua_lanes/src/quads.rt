@@ -1,0 +1,104 @@
+//! Words of four entries each, and the values of lines at them, for algebras of any size.
+
+ghost use Rattle.std.specs.Prelude.{◌≡◌, ℕ, ◌+◌, ◌-◌, ◌*◌, ◌/◌, ◌<◌, ◌≤◌, [], length, drop, slice_index, slice_index_or};
+ghost use Rattle.std.specs.List.{AllByRecursion};
+ghost use Rattle.ua_rows.specs.Words.{lanes_of};
+ghost use Rattle.ua_lanes.specs.Quads.{IsBelow, values_in_word};
+
+use crate::fronts::{SEED, mix_all};
+use crate::tiles::LANES;
+use ua_table::Elem;
+
+/// How many entries a word holds.
+pub(crate) const ENTRIES: usize = 4;
+
+/// The word of four entries, of which the first is its lowest part.
+#[inline(always)]
+pub(crate) fn word_of(entries: [Elem; 4]) -> u64
+    ensures { lanes_of result ≡ entries }
+{
+    let [a, b, c, d] = entries;
+    u64::from(a)
+        + u64::from(b) * 65_536
+        + u64::from(c) * 4_294_967_296
+        + u64::from(d) * 281_474_976_710_656
+}
+
+/// The entries of a word.
+#[inline(always)]
+pub(crate) fn entries_of(word: u64) -> [Elem; 4]
+    ensures { result ≡ lanes_of word }
+{
+    [
+        (word % 65_536) as Elem,
+        (word / 65_536 % 65_536) as Elem,
+        (word / 4_294_967_296 % 65_536) as Elem,
+        (word / 281_474_976_710_656 % 65_536) as Elem,
+    ]
+}
+
+/// The values of four lines of a size at the entries of a word.
+#[inline(always)]
+fn value_of(lines: &[Elem], size: usize, word: u64) -> u64
+    requires lines { 4 * size ≤ length lines.now }
+    requires below { IsBelow size word }
+    ensures { lanes_of result ≡ values_in_word lines.now size word }
+{
+    let [a, b, c, d] = entries_of(word);
+    word_of([
+        lines[a as usize],
+        lines[size + b as usize],
+        lines[2 * size + c as usize],
+        lines[3 * size + d as usize],
+    ])
+}
+
+/// The values of four lines at word j of each key of a block.
+#[inline(always)]
+fn values_at(
+    lines: &[Elem],
+    size: usize,
+    keys: &[u64],
+    words: usize,
+    j: usize,
+    count: usize,
+) -> [u64; 16]
+    requires few { count ≤ LANES }
+    requires lines { 4 * size ≤ length lines.now }
+    requires keys { count * words ≤ length keys.now }
+    requires word { j < words }
+    requires below { AllByRecursion (IsBelow size) keys.now }
+    ensures { (r : ℕ) → r < count → lanes_of (slice_index result r) ≡ values_in_word lines.now size (slice_index keys.now (r * words + j)) }
+{
+    let mut values = [0; 16];
+    for r in 0..count {
+        values[r] = value_of(lines, size, keys[r * words + j]);
+    }
+    values
+}
+
+/// Writes the values of lines at the keys of a block, four coordinates a word, and answers a hash for each key.
+/// The hash only guides a look-up, so nothing is said of it.
+#[inline(always)]
+pub(crate) fn write_values(
+    lines: &[Elem],
+    size: usize,
+    keys: &[u64],
+    count: usize,
+    out: &mut [[u64; 16]],
+) -> [u64; 16]
+    requires few { count ≤ LANES }
+    requires lines { 4 * size * length out.old ≤ length lines.now }
+    requires keys { count * length out.old ≤ length keys.now }
+    requires below { AllByRecursion (IsBelow size) keys.now }
+    ensures { (j r : ℕ) → j < length out.new → r < count → lanes_of (slice_index (slice_index_or out.new j []) r) ≡ values_in_word (drop (4 * size * j) lines.now) size (slice_index keys.now (r * length out.new + j)) }
+{
+    let words = out.len();
+    let mut hashes = [SEED; 16];
+    for j in 0..words {
+        let values = values_at(&lines[4 * size * j..], size, keys, words, j, count);
+        mix_all(&mut hashes, &values);
+        out[j] = values;
+    }
+    hashes
+}

@@ -1,0 +1,5 @@
+//! Tests of vectors in lanes.
+#![tactic(auto)]
+
+#[cfg(test)]
+mod sums;
