@@ -3,15 +3,16 @@ use Rattle.std.proofs.Common.{◌≡◌, ℕ, ◌+◌, ◌^◌, ◌<◌, ◌≤�
 use Rattle.std.specs.Prelude.{slice_index}
 use Rattle.std.specs.List.{flat_map}
 use Rattle.std.proofs.lemmas.Grind.{flat_map-append}
-use Rattle.std.proofs.lemmas.List.{length-map, length-append, map-append, append-nil, take_more, take-append-drop, get_or-map}
+use Rattle.std.proofs.lemmas.List.{length-map, length-append, length-replicate, map-append, append-nil, take_more, take-append-drop, get_or-map}
 use Rattle.std.proofs.lemmas.List.Folds.{length-flat_map-take}
-use Rattle.std.proofs.Math.Nat.{pow-le-pow_right, pow-le-pow_left}
+use Rattle.std.proofs.Math.Nat.{one-le-pow, pow-le-pow_right, pow-le-pow_left}
 use Rattle.ua_table.specs.declared.limits.TheConstants.{SIZE}
+use Rattle.ua_table.specs.Algebras.{FiniteAlgebra}
 use Rattle.ua_term.specs.Assignments.{assignments, projection}
 use Rattle.ua_term.proofs.AssignmentLaws.{length_assignments}
 use Rattle.ua_identity.specs.declared.limits.TheConstants.{LETTERS}
 use Rattle.ua_identity.specs.Identities.{VariablePattern, filled}
-use Rattle.ua_identity.specs.Patterns.{fillings, all_fillings, place_vector}
+use Rattle.ua_identity.specs.Patterns.{fillings, all_fillings, place_vector, power}
 use Rattle.ua_identity.proofs.PatternLaws.{map_twice, maps_agree}
 
 -- ---- how many assignments
@@ -35,6 +36,18 @@ pieces_more g xs i d l = ap (flat_map g) (take_more xs i d l) ∙ flat_map-appen
 
 pub length_fillings : (n : ℕ) (p : VariablePattern) → length (fillings n p) ≡ n ^ p.variables
 length_fillings n p = length-map (assignments n p.variables) (filled p) ∙ length_assignments n p.variables
+
+-- over some pattern there is some filling
+some_fillings : (n : ℕ) (ps : List VariablePattern) → 0 < n → 0 < length ps → 0 < length (all_fillings n ps)
+some_fillings n [] some l = absurd (omega (arith, l))
+some_fillings n (p ∷ ps) some l =
+    let one = length_fillings n p in
+    let low : 0 < n ^ p.variables = one-le-pow p.variables n some in
+    let both = length-append (fillings n p) (all_fillings n ps) in
+    omega (arith, one, low, both)
+
+pub power_wide : (a : FiniteAlgebra) (ps : List VariablePattern) → 0 < a.size → 0 < length ps → 0 < length (power a ps)
+power_wide a ps some l = let wide = some_fillings a.size ps some l in let long = length-replicate (length (all_fillings a.size ps)) a in omega (arith, wide, long)
 
 -- as many fillings more as there are assignments
 pub width_more : (n : ℕ) (ps : List VariablePattern) (i : ℕ) (p : VariablePattern) → i < length ps → p ≡ get_or ps i p → length (all_fillings n (take (i + 1) ps)) ≡ length (all_fillings n (take i ps)) + n ^ p.variables

@@ -1,18 +1,20 @@
 //! Laws of terms on patterns, and of conditions: each function does nothing, and its contract states them.
 
-ghost use Rattle.std.specs.Prelude.{◌≡◌, ◌↔◌, ℕ, ◌<◌, List, length};
+ghost use Rattle.std.specs.Prelude.{◌≡◌, ◌↔◌, ℕ, ◌<◌, ◌≤◌, List, length};
 ghost use Rattle.std.specs.List.{AllByRecursion};
 ghost use Rattle.ua_table.specs.Algebras.{FiniteAlgebra, IsVector, arities_of, arities};
 ghost use Rattle.ua_table.specs.Terms.{Tree, IsTerm, term_value};
 ghost use Rattle.ua_table.specs.Generated.{Sg};
 ghost use Rattle.ua_identity.specs.Identities.{VariablePattern};
-ghost use Rattle.ua_identity.specs.Conditions.{TermCondition, IsPattern, IsCondition, Meets, IsMet};
+ghost use Rattle.ua_identity.specs.declared.limits.TheConstants.{PLACES};
+ghost use Rattle.ua_identity.specs.Conditions.{TermCondition, IsPattern, IsCondition, Meets, IsMet, maltsev, majority, minority, pixley, near_unanimity};
 ghost use Rattle.ua_identity.specs.Patterns.{vector_of, power, generators, condition_power, argument_vectors, value_vector, patterns_of};
 
 /// In the power with a coordinate for each pattern and each assignment, a term at the vectors of the places
 /// has as its value the term's values on the patterns.
 pub fn patterns()
     ensures values { (a : FiniteAlgebra) (ps : List VariablePattern) (places : ℕ) (t : Tree) → AllByRecursion (λ (p : VariablePattern). length p.places ≡ places) ps → IsTerm (arities_of a) places t → term_value (power a ps) (generators a ps places) t ≡ vector_of a ps t }
+    ensures wide { (a : FiniteAlgebra) (ps : List VariablePattern) → 0 < a.size → 0 < length ps → 0 < length (power a ps) }
     ensures places { (a : FiniteAlgebra) (ps : List VariablePattern) (places : ℕ) → AllByRecursion IsPattern ps → AllByRecursion (λ (p : VariablePattern). length p.places ≡ places) ps → AllByRecursion (IsVector (power a ps)) (generators a ps places) }
 {}
 
@@ -26,4 +28,13 @@ pub fn conditions()
     ensures member { (a : FiniteAlgebra) (c : TermCondition) → 0 < a.size → IsCondition c → Sg (condition_power a c) (argument_vectors a c) (value_vector a c) ↔ IsMet a c }
     ensures arguments { (a : FiniteAlgebra) (c : TermCondition) → IsCondition c → AllByRecursion (IsVector (condition_power a c)) (argument_vectors a c) }
     ensures value { (a : FiniteAlgebra) (c : TermCondition) → IsCondition c → IsVector (condition_power a c) (value_vector a c) }
+{}
+
+/// The conditions with names are conditions.
+pub fn named()
+    ensures maltsev { IsCondition maltsev }
+    ensures majority { IsCondition majority }
+    ensures minority { IsCondition minority }
+    ensures pixley { IsCondition pixley }
+    ensures near_unanimity { (k : ℕ) → 1 ≤ k → k ≤ PLACES → IsCondition (near_unanimity k) }
 {}

@@ -1,0 +1,4 @@
+pub mod Reading
+pub mod Lengths
+pub mod Certificates
+pub mod Writing

@@ -1,0 +1,3 @@
+mod Flawless
+mod Loops
+mod Words

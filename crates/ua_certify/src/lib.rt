@@ -1,0 +1,7 @@
+//! The certificates of answers.
+#![tactic(auto)]
+
+mod answers;
+mod parts;
+
+pub use answers::{certify_chain, certify_closure, certify_condition, certify_membership};

@@ -1,0 +1,468 @@
+-- Rows that are closed, with the positions of those that beginnings of chains reach where there is no chain, have no flaw.
+use Rattle.std.proofs.Common.{◌≡◌, ℕ, zero, suc, ◌+◌, ◌<◌, ◌≤◌, Bool, true, false, not, ◌&&◌, ◌||◌, Some, None, List, [], ◌∷◌, ◌++◌, map, length, ⊎_elim, refl, sym, ap, ◌∙◌, subst, arith}
+use Rattle.std.specs.Prelude.{Contains, ◌↔◌, slice_get, slice_index, slice_index_or, ◌==◌, nat_lt, replicate}
+use Rattle.std.specs.List.{AllByRecursion, list_any}
+use Rattle.std.proofs.lemmas.Bool.Decides.{nat_tests}
+use Rattle.std.proofs.lemmas.List.{length-map, length-replicate}
+use Rattle.std.proofs.lemmas.List.FromFn.{length-map-range_with_len}
+use Rattle.std.proofs.lemmas.List.Elements.{All-from_recursion}
+use Rattle.ua_table.specs.declared.limits.TheConstants.{WIDTH}
+use Rattle.ua_table.specs.Algebras.{Vector, FiniteAlgebra, IsVector, arities_of, arities, IsIncreasing}
+use Rattle.ua_table.specs.Terms.{Tree, Generator, IsTerm, eval, term_value}
+use Rattle.ua_table.specs.Generated.{Sg}
+use Rattle.ua_table.specs.Refusals.{refusal_if}
+use Rattle.ua_table.proofs.Lists.{found, get_or-slice_get, Contains-head, Contains-tail, Contains-cases, Contains-none, Contains-slice_get, all_at, All-slice_get, all_append}
+use Rattle.ua_term.specs.Assignments.{IsAssignment}
+use Rattle.ua_walk.specs.Sequences.{Alternates, BeginsWith, EndsWith, ends_even}
+use Rattle.ua_identity.specs.Identities.{VariablePattern, TermIdentity, xxy, xyx, xyy}
+use Rattle.ua_identity.specs.Chains.{ChainKind, AreLinked, IsOwn, IsPlace, IsBeginning, IsChain, is_among_even, IsReached}
+use Rattle.ua_identity.specs.Patterns.{all_fillings, vector_of, place_vector, part_of}
+use Rattle.ua_identity.specs.Kinds.{alike}
+use Rattle.ua_identity.proofs.PatternLaws.{part_is, linked_from_parts, satisfied_from_part}
+use Rattle.ua_cert.specs.declared.certs.ChainName.{ChainName}
+use Rattle.ua_cert.specs.declared.certs.ChainName.TheVariants.{Jonsson, Hm}
+use Rattle.ua_check.specs.declared.flaws.ListName.TheVariants.{Rows}
+use Rattle.ua_check.specs.declared.flaws.Flaw.TheVariants as flaw
+use Rattle.ua_check.specs.Firsts.{first_bad, is_same}
+use Rattle.ua_check.specs.Shapes.{power}
+use Rattle.ua_check.specs.Answers.{AreExact, AreThose}
+use Rattle.ua_check.specs.Flaws.{vectors_flaw, closed_flaw}
+use Rattle.ua_check.specs.Chains.{kind_of, chain_width, HasNoChain}
+use Rattle.ua_check.specs.Reached.{even_parts, odd_parts, leads, is_own_row, holds_position, odd_positions, is_position, positions_flaw, parity_flaw, is_led_to, is_started, is_followed, is_not_end, places_of, place_of, row_flaw, reached_lines, reached_flaw, rows_flaw, sides_flaw, no_chain_lines, no_chain_flaw}
+use Rattle.ua_check.proofs.FirstLaws.{same_is}
+use Rattle.ua_check.proofs.StepLaws.{arities_power}
+use Rattle.ua_check.proofs.NoChainLaws.{VectorLaw, three_long, three, vec, even_leads, odd_leads, start_is}
+use Rattle.ua_check.proofs.ReachedLaws.{some_wide}
+use Rattle.ua_check.proofs.FlawlessLaws.{is_below, is_equal, all_true, no_line, no_refusal, no_option, none_bad, no_vector_flaw, no_closed_flaw}
+
+-- ---- positions
+
+is_held : (ps : List ℕ) (i : ℕ) → Contains ps i → holds_position ps i ≡ true
+is_held [] i c = absurd (Contains-none i c)
+is_held (p ∷ ps) i c = cases (p == i) refl (λ rest. is_held ps i rest)
+  where
+    equal : p ≡ i → (p == i) ≡ false → ⊥
+    equal e f = grind (arith, nat_tests, e)
+
+    cases : (b : Bool) → (p == i) ≡ b → (Contains ps i → holds_position ps i ≡ true) → (b || holds_position ps i) ≡ true
+    cases true e held = refl
+    cases false e held = held (⊎_elim (λ same. absurd (equal same e)) (λ rest. rest) (Contains-cases p i ps c))
+
+held_is : (ps : List ℕ) (i : ℕ) → holds_position ps i ≡ true → Contains ps i
+held_is [] i h = cc
+held_is (p ∷ ps) i h =
+    elim (p == i) as (λ b. (p == i) ≡ b → (b || holds_position ps i) ≡ true → Contains (p ∷ ps) i) [
+      | true ↦ λ e k. (let same : p ≡ i = (grind (arith, nat_tests)) in subst (λ z. Contains (p ∷ ps) z) same (Contains-head p ps))
+      | false ↦ λ e k. Contains-tail p i ps (held_is ps i k)
+    ] refl h
+
+position_fine : (n : ℕ) (ps : List ℕ) → ((j k : ℕ) → j < k → k < length ps → slice_index ps j < slice_index ps k) → AllByRecursion (λ i. i < n) ps → (i p : ℕ) → slice_get ps i ≡ Some p → is_position n ps i p ≡ true
+position_fine n ps up low zero p at = is_below p n (All-slice_get (λ x. x < n) ps 0 p low at)
+position_fine n ps up low (suc i) p at =
+    let next : slice_index ps (suc i) ≡ p = get_or-slice_get ps (suc i) p 0 at in
+    let step = up i (suc i) (omega arith) (there ps (suc i) p at) in
+    all_true (nat_lt p n) (nat_lt (slice_index ps i) p) (is_below p n (All-slice_get (λ x. x < n) ps (suc i) p low at)) (is_below (slice_index ps i) p (subst (λ z. slice_index ps i < z) next step))
+  where
+    there : (xs : List ℕ) (j x : ℕ) → slice_get xs j ≡ Some x → j < length xs
+    there [] j x e = cc
+    there (y ∷ ys) zero x e = omega arith
+    there (y ∷ ys) (suc j) x e = let l = there ys j x e in omega (arith, l)
+
+no_position_flaw : (a : FiniteAlgebra) (name : ChainName) (even : Bool) (rows : List Vector) (ps : List ℕ) → AreThose a name even rows ps → positions_flaw (length rows) ps ≡ None
+no_position_flaw a name even rows ps h =
+    no_option (λ i. flaw.Reached (slice_index ps i)) (first_bad (is_position (length rows) ps) 0 ps)
+    (none_bad (is_position (length rows) ps) 0 ps (λ i p at. (let z : 0 + i ≡ i = omega arith in ap (λ k. is_position (length rows) ps k p) z ∙ position_fine (length rows) ps h.ascending h.within i p at)))
+
+-- where all are told among the even ones, none is told at odd indices
+no_odd : (a : FiniteAlgebra) (rows : List Vector) (odd : List ℕ) → AreThose a Hm false rows odd → (length odd == 0) ≡ true
+no_odd a rows [] h = refl
+no_odd a rows (p ∷ ps) h =
+    let v = found rows p h.within.0 in
+    let r = (h.exact p v.0 v.1).0 (Contains-head p ps) in
+    absurd (never (ends_even r.terms) r.parity)
+  where
+    never : (b : Bool) → (b || true) ≡ false → ⊥
+    never true e = cc
+    never false e = cc
+
+no_parity_flaw : (a : FiniteAlgebra) (name : ChainName) (rows : List Vector) (odd : List ℕ) → AreThose a name false rows odd → parity_flaw name odd ≡ None
+no_parity_flaw a Jonsson rows odd h = refl
+no_parity_flaw a Hm rows odd h = no_refusal (not (length odd == 0)) (flaw.Reached (slice_index odd 0)) (ap not (no_odd a rows odd h))
+
+-- ---- one term more
+
+last_vector : {X : Type 0} (P : X → Type 0) (xs : List X) (x : X) → P x → EndsWith P (xs ++ x ∷ [])
+last_vector P [] x h = h
+last_vector P (y ∷ []) x h = h
+last_vector P (y ∷ z ∷ zs) x h = last_vector P (z ∷ zs) x h
+
+begins_still : {X : Type 0} (P : X → Type 0) (xs ys : List X) → BeginsWith P xs → BeginsWith P (xs ++ ys)
+begins_still {X = X} P [] ys h = elim h [ ]
+begins_still P (x ∷ xs) ys h = h
+
+ends_other : {X : Type 0} (xs : List X) (x : X) → ends_even (xs ++ x ∷ []) ≡ not (ends_even xs)
+ends_other [] x = refl
+ends_other (y ∷ ys) x = ap not (ends_other ys x)
+
+-- the last of the list is linked to one more: by the first link where it stands at an even index
+link_more : {X : Type 0} (E O : X → X → Type 0) (L : X → Type 0) (xs : List X) (x : X) → Alternates E O xs → EndsWith L xs → (ends_even xs ≡ true → (d : X) → L d → E d x) → (ends_even xs ≡ false → (d : X) → L d → O d x) → Alternates E O (xs ++ x ∷ [])
+link_more E O L [] x h l e o = absurd l
+link_more E O L (d ∷ []) x h l e o = (e refl d l, tt)
+link_more E O L (c ∷ d ∷ rest) x h l e o = (h.0, link_more O E L (d ∷ rest) x h.1 l (λ k. o (ap not k)) (λ k. e (ap not k)))
+
+module _ (a : FiniteAlgebra) (name : ChainName) where
+  -- a beginning goes on to a term that is linked to its last
+  goes_on : (even : Bool) (v : Vector) (e : Tree) → (r : IsReached a (kind_of name) even v) → IsTerm (arities_of a) (kind_of name).places e → IsOwn a (kind_of name) e → (ends_even r.terms ≡ true → (d : Tree) → vec a name d ≡ v → AreLinked a (kind_of name).even d e) → (ends_even r.terms ≡ false → (d : Tree) → vec a name d ≡ v → AreLinked a (kind_of name).odd d e)
+      → IsReached a (kind_of name) (is_among_even (kind_of name) (r.terms ++ e ∷ [])) (vec a name e)
+  unfolding vec
+  goes_on even v e r is_term own over back = record {
+    terms = r.terms ++ e ∷ [];
+    beginning = record {
+      terms_are = all_append (IsTerm (arities_of a) (kind_of name).places) r.terms (e ∷ []) r.beginning.terms_are (is_term, tt);
+      first = begins_still (IsPlace a (kind_of name).places 0) r.terms (e ∷ []) r.beginning.first;
+      own = all_append (IsOwn a (kind_of name)) r.terms (e ∷ []) r.beginning.own (own, tt);
+      linked = link_more (AreLinked a (kind_of name).even) (AreLinked a (kind_of name).odd) (λ t. vector_of a (kind_of name).patterns t ≡ v) r.terms e r.beginning.linked r.reaches over back;
+    };
+    parity = refl;
+    reaches = last_vector (λ t. vector_of a (kind_of name).patterns t ≡ vector_of a (kind_of name).patterns e) r.terms e refl;
+  }
+
+-- ---- rows by their parts
+
+linked_even : (a : FiniteAlgebra) (name : ChainName) (d e : Tree) → leads a.size name (even_parts name) (vec a name d) (vec a name e) ≡ true → AreLinked a (kind_of name).even d e
+unfolding vec
+linked_even a Jonsson d e h = linked_from_parts a (kind_of Jonsson).even d e refl (sym (part_is a.size (kind_of Jonsson).patterns 1 xxy (λ xs. eval a xs d) refl) ∙ same_is _ _ h ∙ part_is a.size (kind_of Jonsson).patterns 1 xxy (λ xs. eval a xs e) refl)
+linked_even a Hm d e h = linked_from_parts a (kind_of Hm).even d e refl (sym (part_is a.size (kind_of Hm).patterns 0 xxy (λ xs. eval a xs d) refl) ∙ same_is _ _ h ∙ part_is a.size (kind_of Hm).patterns 1 xyy (λ xs. eval a xs e) refl)
+
+linked_odd : (a : FiniteAlgebra) (name : ChainName) (d e : Tree) → leads a.size name (odd_parts name) (vec a name d) (vec a name e) ≡ true → AreLinked a (kind_of name).odd d e
+unfolding vec
+linked_odd a Jonsson d e h = linked_from_parts a (kind_of Jonsson).odd d e refl (sym (part_is a.size (kind_of Jonsson).patterns 2 xyy (λ xs. eval a xs d) refl) ∙ same_is _ _ h ∙ part_is a.size (kind_of Jonsson).patterns 2 xyy (λ xs. eval a xs e) refl)
+linked_odd a Hm d e h = linked_from_parts a (kind_of Hm).odd d e refl (sym (part_is a.size (kind_of Hm).patterns 0 xxy (λ xs. eval a xs d) refl) ∙ same_is _ _ h ∙ part_is a.size (kind_of Hm).patterns 1 xyy (λ xs. eval a xs e) refl)
+
+leads_even : (a : FiniteAlgebra) (name : ChainName) (d e : Tree) → AreLinked a (kind_of name).even d e → leads a.size name (even_parts name) (vec a name d) (vec a name e) ≡ true
+unfolding vec
+leads_even a name d e h = even_leads a name d e h
+
+leads_odd : (a : FiniteAlgebra) (name : ChainName) (d e : Tree) → AreLinked a (kind_of name).odd d e → leads a.size name (odd_parts name) (vec a name d) (vec a name e) ≡ true
+unfolding vec
+leads_odd a name d e h = odd_leads a name d e h
+
+-- the vector of a term that is place 0
+first_vector : (a : FiniteAlgebra) (name : ChainName) (t : Tree) → IsPlace a (kind_of name).places 0 t → vec a name t ≡ vec a name (Generator 0)
+first_vector a name t h = start_is a name t h ∙ sym (start_is a name (Generator 0) (λ xs g. refl))
+
+own_term : (a : FiniteAlgebra) (name : ChainName) (t : Tree) → is_own_row a.size name (vec a name t) ≡ true → IsOwn a (kind_of name) t
+unfolding vec
+own_term a Jonsson t h = (satisfied_from_part a (record { pattern = xyx; value = 0 }) t (sym (part_is a.size (kind_of Jonsson).patterns 0 xyx (λ xs. eval a xs t) refl) ∙ same_is _ _ h), tt)
+own_term a Hm t h = tt
+
+-- some position leads there
+led_from : (f : ℕ → Bool) (ps : List ℕ) → list_any f ps ≡ true → (p : ℕ) × Contains ps p × (f p ≡ true)
+led_from f [] h = cc
+led_from f (p ∷ ps) h =
+    elim (f p) as (λ b. f p ≡ b → (b || list_any f ps) ≡ true → (q : ℕ) × Contains (p ∷ ps) q × (f q ≡ true)) [
+      | true ↦ λ e k. (p, Contains-head p ps, e)
+      | false ↦ λ e k. (let r = led_from f ps k in (r.0, Contains-tail p r.0 ps r.1, r.2))
+    ] refl h
+
+where_so : (b c : Bool) → (b ≡ true → c ≡ true) → (not b || c) ≡ true
+where_so true c h = h refl
+where_so false c h = refl
+
+or_not : (b c : Bool) → (c ≡ true → b ≡ true) → (b || not c) ≡ true
+or_not b true h = ap (λ z. z || false) (h refl)
+or_not true false h = refl
+or_not false false h = refl
+
+not_held : (b : Bool) → (b ≡ true → ⊥) → not b ≡ true
+not_held true h = absurd (h refl)
+not_held false h = refl
+
+-- ---- the start
+
+start_reached : (a : FiniteAlgebra) (name : ChainName) → IsReached a (kind_of name) true (place_of a name 0)
+start_reached a Jonsson = record {
+  terms = Generator 0 ∷ [];
+  beginning = record { terms_are = (omega arith, tt); first = λ xs h. refl; own = ((λ xs h. refl, tt), tt); linked = tt };
+  parity = refl;
+  reaches = refl;
+}
+start_reached a Hm = record {
+  terms = Generator 0 ∷ [];
+  beginning = record { terms_are = (omega arith, tt); first = λ xs h. refl; own = (tt, tt); linked = tt };
+  parity = refl;
+  reaches = refl;
+}
+
+-- ---- the end
+
+-- a term at the places that both vectors share
+same_place : (a : FiniteAlgebra) (name : ChainName) → vec a name (Generator 0) ≡ vec a name (Generator 2) → (ys : List ℕ) → IsAssignment a.size 3 ys → slice_index ys 0 ≡ slice_index ys 2
+unfolding vec
+same_place a name same ys h = here name same
+  where
+    is_two : IsAssignment a.size 2 (slice_index ys 0 ∷ slice_index ys 2 ∷ [])
+    is_two = record {
+      count = refl;
+      elements = (
+        All-from_recursion (λ u. u < a.size) ys h.elements 0 0 (let long = h.count in omega (arith, long)),
+        (All-from_recursion (λ u. u < a.size) ys h.elements 2 0 (let long = h.count in omega (arith, long)), tt),
+      );
+    }
+
+    here : (name : ChainName) → vec a name (Generator 0) ≡ vec a name (Generator 2) → slice_index ys 0 ≡ slice_index ys 2
+    here Jonsson e = linked_from_parts a (alike xxy) (Generator 0) (Generator 2) refl (sym (part_is a.size (kind_of Jonsson).patterns 1 xxy (λ xs. eval a xs (Generator 0)) refl) ∙ ap (part_of a.size (kind_of Jonsson).patterns 1 xxy) e ∙ part_is a.size (kind_of Jonsson).patterns 1 xxy (λ xs. eval a xs (Generator 2)) refl) (slice_index ys 0 ∷ slice_index ys 2 ∷ []) is_two
+    here Hm e = linked_from_parts a (alike xxy) (Generator 0) (Generator 2) refl (sym (part_is a.size (kind_of Hm).patterns 0 xxy (λ xs. eval a xs (Generator 0)) refl) ∙ ap (part_of a.size (kind_of Hm).patterns 0 xxy) e ∙ part_is a.size (kind_of Hm).patterns 0 xxy (λ xs. eval a xs (Generator 2)) refl) (slice_index ys 0 ∷ slice_index ys 2 ∷ []) is_two
+
+-- the list with another last element
+with_last : {X : Type 0} → X → List X → List X
+with_last g [] = []
+with_last g (x ∷ []) = g ∷ []
+with_last g (x ∷ y ∷ rest) = x ∷ with_last g (y ∷ rest)
+
+all_with_last : {X : Type 0} (P : X → Type 0) (g : X) (xs : List X) → P g → AllByRecursion P xs → AllByRecursion P (with_last g xs)
+unfolding with_last
+all_with_last P g [] h all = tt
+all_with_last P g (x ∷ []) h all = (h, tt)
+all_with_last P g (x ∷ y ∷ rest) h all = (all.0, all_with_last P g (y ∷ rest) h all.1)
+
+ends_with_last : {X : Type 0} (P : X → Type 0) (g x : X) (xs : List X) → P g → EndsWith P (with_last g (x ∷ xs))
+unfolding with_last
+ends_with_last P g x [] h = h
+ends_with_last P g x (y ∷ []) h = h
+ends_with_last P g x (y ∷ z ∷ rest) h = ends_with_last P g y (z ∷ rest) h
+
+-- what is linked to the last is linked to the other
+link_with_last : {X : Type 0} (E O : X → X → Type 0) (L : X → Type 0) (g : X) (xs : List X) → ((d e : X) → L e → E d e → E d g) → ((d e : X) → L e → O d e → O d g) → EndsWith L xs → Alternates E O xs → Alternates E O (with_last g xs)
+unfolding with_last
+link_with_last E O L g [] over back l h = tt
+link_with_last E O L g (x ∷ []) over back l h = tt
+link_with_last E O L g (x ∷ y ∷ []) over back l h = (over x y l h.0, tt)
+link_with_last E O L g (x ∷ y ∷ z ∷ rest) over back l h = (h.0, link_with_last O E L g (y ∷ z ∷ rest) back over l h.1)
+
+module _ (a : FiniteAlgebra) (name : ChainName) where
+  -- a term whose vector is that of the last place, in the place of the last of a beginning
+  end_over : (d e : Tree) → vec a name e ≡ vec a name (Generator 2) → AreLinked a (kind_of name).even d e → AreLinked a (kind_of name).even d (Generator 2)
+  end_over d e same h = linked_even a name d (Generator 2) (subst (λ v. leads a.size name (even_parts name) (vec a name d) v ≡ true) same (leads_even a name d e h))
+
+  end_back : (d e : Tree) → vec a name e ≡ vec a name (Generator 2) → AreLinked a (kind_of name).odd d e → AreLinked a (kind_of name).odd d (Generator 2)
+  end_back d e same h = linked_odd a name d (Generator 2) (subst (λ v. leads a.size name (odd_parts name) (vec a name d) v ≡ true) same (leads_odd a name d e h))
+
+  end_own : IsOwn a (kind_of name) (Generator 2)
+  end_own = own name
+    where
+      own : (name : ChainName) → IsOwn a (kind_of name) (Generator 2)
+      own Jonsson = (λ xs h. refl, tt)
+      own Hm = tt
+
+  end_is_place : IsPlace a (kind_of name).places (kind_of name).end (Generator 2)
+  end_is_place = is name
+    where
+      is : (name : ChainName) → IsPlace a (kind_of name).places (kind_of name).end (Generator 2)
+      is Jonsson xs h = refl
+      is Hm xs h = refl
+
+  end_term : IsTerm (arities_of a) (kind_of name).places (Generator 2)
+  end_term = is name
+    where
+      is : (name : ChainName) → IsTerm (arities_of a) (kind_of name).places (Generator 2)
+      is Jonsson = omega arith
+      is Hm = omega arith
+
+  -- one term alone is place 0
+  alone_ends : (name : ChainName) (t : Tree) → IsPlace a (kind_of name).places 0 t → vec a name t ≡ vec a name (Generator 2) → IsPlace a (kind_of name).places (kind_of name).end t
+  alone_ends Jonsson t h same xs g = h xs g ∙ same_place a Jonsson (sym (first_vector a Jonsson t h) ∙ same) xs g
+  alone_ends Hm t h same xs g = h xs g ∙ same_place a Hm (sym (first_vector a Hm t h) ∙ same) xs g
+
+  ended : (terms : List Tree) → IsBeginning a (kind_of name) terms → EndsWith (λ t. vec a name t ≡ vec a name (Generator 2)) terms → (ts : List Tree) × IsChain a (kind_of name) ts
+  unfolding with_last
+  ended [] b l = absurd l
+  ended (t ∷ []) b l = (t ∷ [], record { beginning = b; last = alone_ends name t b.first l })
+  ended (t ∷ u ∷ rest) b l = (
+    with_last (Generator 2) (t ∷ u ∷ rest),
+    record {
+      beginning = record {
+        terms_are = all_with_last (IsTerm (arities_of a) (kind_of name).places) (Generator 2) (t ∷ u ∷ rest) end_term b.terms_are;
+        first = b.first;
+        own = all_with_last (IsOwn a (kind_of name)) (Generator 2) (t ∷ u ∷ rest) end_own b.own;
+        linked = link_with_last (AreLinked a (kind_of name).even) (AreLinked a (kind_of name).odd) (λ e. vec a name e ≡ vec a name (Generator 2)) (Generator 2) (t ∷ u ∷ rest) end_over end_back l b.linked;
+      };
+      last = ends_with_last (IsPlace a (kind_of name).places (kind_of name).end) (Generator 2) t (u ∷ rest) end_is_place;
+    },
+  )
+
+  end_vector : place_of a name (kind_of name).end ≡ vec a name (Generator 2)
+  unfolding vec
+  end_vector = is name
+    where
+      is : (name : ChainName) → place_of a name (kind_of name).end ≡ vec a name (Generator 2)
+      is Jonsson = refl
+      is Hm = refl
+
+  -- where there is no chain, the end is not reached
+  end_not_reached : (even : Bool) → IsReached a (kind_of name) even (place_of a name (kind_of name).end) → HasNoChain a name → ⊥
+  unfolding vec
+  end_not_reached even r none =
+      let reaches : EndsWith (λ t. vector_of a (kind_of name).patterns t ≡ vec a name (Generator 2)) r.terms = subst (λ v. EndsWith (λ t. vector_of a (kind_of name).patterns t ≡ v) r.terms) end_vector r.reaches in
+      let c = ended r.terms r.beginning reaches in
+      none c.0 c.1
+
+module _ (a : FiniteAlgebra) (name : ChainName) (rows : List Vector) (even odd : List ℕ) (law : VectorLaw) (some : 0 < length (all_fillings a.size (kind_of name).patterns))
+    (exact : AreExact a (chain_width a name) (places_of a name) rows) (evens : AreThose a name true rows even) (odds : AreThose a name false rows odd) (none : HasNoChain a name) where
+  -- the term of a row
+  record TermOf (v : Vector) : Type 0 where
+    term : Tree
+    is_term : IsTerm (arities_of a) (kind_of name).places term
+    vector : vec a name term ≡ v
+
+  term_of : (i : ℕ) (v : Vector) → slice_get rows i ≡ Some v → TermOf v
+  unfolding vec
+  term_of i v at =
+      let wide = length (all_fillings a.size (kind_of name).patterns) in
+      let gens = places_of a name in
+      let count : length gens ≡ (kind_of name).places = length-map-range_with_len (place_vector (all_fillings a.size (kind_of name).patterns)) 0 (kind_of name).places in
+      let s : Sg (replicate wide a) gens v = subst (λ n. Sg (replicate n a) gens v) (length-replicate wide a) (exact.generated v (Contains-slice_get rows i v at)) in
+      let is : IsTerm (arities_of a) (kind_of name).places s.term = subst (λ n. IsTerm (arities_of a) n s.term) count (subst (λ ks. IsTerm ks (length gens) s.term) (arities_power a wide some) s.is_term) in
+      record {
+        term = s.term;
+        is_term = is;
+        vector = sym (law a (kind_of name).patterns (kind_of name).places s.term (subst (λ n. AllByRecursion (λ (p : VariablePattern). length p.places ≡ n) (kind_of name).patterns) (sym (three name)) (three_long name)) is) ∙ s.value;
+      }
+
+  -- a row that is reached leads to another, by the link of its side
+  led : (side : Bool) (i : ℕ) (v u : Vector) (at : slice_get rows i ≡ Some v) → is_own_row a.size name v ≡ true → (r : IsReached a (kind_of name) side u) → (ends_even r.terms ≡ true → leads a.size name (even_parts name) u v ≡ true) → (ends_even r.terms ≡ false → leads a.size name (odd_parts name) u v ≡ true)
+      → IsReached a (kind_of name) (is_among_even (kind_of name) (r.terms ++ (term_of i v at).term ∷ [])) v
+  led side i v u at own r over back =
+      let t = term_of i v at in
+      let mine = own_term a name t.term (subst (λ z. is_own_row a.size name z ≡ true) (sym t.vector) own) in
+      subst (IsReached a (kind_of name) (is_among_even (kind_of name) (r.terms ++ t.term ∷ []))) t.vector
+      (goes_on a name side u t.term r t.is_term mine
+      (λ e d same. linked_even a name d t.term (subst (λ z. leads a.size name (even_parts name) z (vec a name t.term) ≡ true) (sym same) (subst (λ z. leads a.size name (even_parts name) u z ≡ true) (sym t.vector) (over e))))
+      (λ e d same. linked_odd a name d t.term (subst (λ z. leads a.size name (odd_parts name) z (vec a name t.term) ≡ true) (sym same) (subst (λ z. leads a.size name (odd_parts name) u z ≡ true) (sym t.vector) (back e)))))
+
+  row_at : (p : ℕ) → p < length rows → (u : Vector) × (slice_get rows p ≡ Some u)
+  row_at p l = found rows p l
+
+  start_fine : (i : ℕ) (v : Vector) → slice_get rows i ≡ Some v → is_started (place_of a name 0) even i v ≡ true
+  start_fine i v at = where_so (is_same v (place_of a name 0)) (holds_position even i) (λ same.
+      is_held even i ((evens.exact i v at).1 (subst (IsReached a (kind_of name) true) (sym (same_is v (place_of a name 0) same)) (start_reached a name))))
+
+  end_fine : (i : ℕ) (v : Vector) → slice_get rows i ≡ Some v → is_not_end (place_of a name (kind_of name).end) even (odd_positions name even odd) i v ≡ true
+  end_fine i v at = where_so (is_same v (place_of a name (kind_of name).end)) (not (holds_position even i) && not (holds_position (odd_positions name even odd) i)) (λ same.
+      let is = same_is v (place_of a name (kind_of name).end) same in
+      let no_even : holds_position even i ≡ true → ⊥ = λ h. end_not_reached a name true (subst (IsReached a (kind_of name) true) is ((evens.exact i v at).0 (held_is even i h))) none in
+      let no_odd : holds_position odd i ≡ true → ⊥ = λ h. end_not_reached a name false (subst (IsReached a (kind_of name) false) is ((odds.exact i v at).0 (held_is odd i h))) none in
+      all_true (not (holds_position even i)) (not (holds_position (odd_positions name even odd) i)) (not_held (holds_position even i) no_even) (not_held (holds_position (odd_positions name even odd) i) (other name no_even no_odd)))
+    where
+      other : (n : ChainName) → (holds_position even i ≡ true → ⊥) → (holds_position odd i ≡ true → ⊥) → holds_position (odd_positions n even odd) i ≡ true → ⊥
+      other Jonsson e o = o
+      other Hm e o = e
+
+-- ---- the rows that are led to
+
+-- those of a kind whose sides are told apart
+module _ (a : FiniteAlgebra) (rows : List Vector) (even odd : List ℕ) (law : VectorLaw) (some : 0 < length (all_fillings a.size (kind_of Jonsson).patterns))
+    (exact : AreExact a (chain_width a Jonsson) (places_of a Jonsson) rows) (evens : AreThose a Jonsson true rows even) (odds : AreThose a Jonsson false rows odd) (none : HasNoChain a Jonsson) where
+  from_even : (i : ℕ) (v : Vector) → slice_get rows i ≡ Some v → is_own_row a.size Jonsson v ≡ true → is_led_to a.size Jonsson (even_parts Jonsson) rows even v ≡ true → holds_position odd i ≡ true
+  from_even i v at own h =
+      let q = led_from (λ p. leads a.size Jonsson (even_parts Jonsson) (slice_index_or rows p []) v) even h in
+      let u = found rows q.0 (all_at (λ p. p < length rows) even q.0 evens.within q.1) in
+      let from : leads a.size Jonsson (even_parts Jonsson) u.0 v ≡ true = ap (λ z. leads a.size Jonsson (even_parts Jonsson) z v) (sym (get_or-slice_get rows q.0 u.0 [] u.1)) ∙ q.2 in
+      let r = (evens.exact q.0 u.0 u.1).0 q.1 in
+      let side : ends_even r.terms ≡ true = left_true (ends_even r.terms) r.parity in
+      let next = led a Jonsson rows even odd law some exact evens odds none true i v u.0 at own r (λ e. from) (λ e. absurd (apart side e)) in
+      let t = (term_of a Jonsson rows even odd law some exact evens odds none i v at).term in
+      let flips : is_among_even (kind_of Jonsson) (r.terms ++ t ∷ []) ≡ false = ap (λ b. b || false) (ends_other r.terms t ∙ ap not side) in
+      is_held odd i ((odds.exact i v at).1 (subst (λ b. IsReached a (kind_of Jonsson) b v) flips next))
+    where
+      left_true : (b : Bool) → (b || false) ≡ true → b ≡ true
+      left_true true e = refl
+      left_true false e = cc
+
+      apart : {b : Bool} → b ≡ true → b ≡ false → ⊥
+      apart e f = cc
+
+  from_odd : (i : ℕ) (v : Vector) → slice_get rows i ≡ Some v → is_own_row a.size Jonsson v ≡ true → is_led_to a.size Jonsson (odd_parts Jonsson) rows odd v ≡ true → holds_position even i ≡ true
+  from_odd i v at own h =
+      let q = led_from (λ p. leads a.size Jonsson (odd_parts Jonsson) (slice_index_or rows p []) v) odd h in
+      let u = found rows q.0 (all_at (λ p. p < length rows) odd q.0 odds.within q.1) in
+      let from : leads a.size Jonsson (odd_parts Jonsson) u.0 v ≡ true = ap (λ z. leads a.size Jonsson (odd_parts Jonsson) z v) (sym (get_or-slice_get rows q.0 u.0 [] u.1)) ∙ q.2 in
+      let r = (odds.exact q.0 u.0 u.1).0 q.1 in
+      let side : ends_even r.terms ≡ false = left_false (ends_even r.terms) r.parity in
+      let next = led a Jonsson rows even odd law some exact evens odds none false i v u.0 at own r (λ e. absurd (apart e side)) (λ e. from) in
+      let t = (term_of a Jonsson rows even odd law some exact evens odds none i v at).term in
+      let flips : is_among_even (kind_of Jonsson) (r.terms ++ t ∷ []) ≡ true = ap (λ b. b || false) (ends_other r.terms t ∙ ap not side) in
+      is_held even i ((evens.exact i v at).1 (subst (λ b. IsReached a (kind_of Jonsson) b v) flips next))
+    where
+      left_false : (b : Bool) → (b || false) ≡ false → b ≡ false
+      left_false true e = cc
+      left_false false e = refl
+
+      apart : {b : Bool} → b ≡ true → b ≡ false → ⊥
+      apart e f = cc
+
+  followed_jonsson : (i : ℕ) (v : Vector) → slice_get rows i ≡ Some v → is_followed a.size Jonsson rows even odd i v ≡ true
+  followed_jonsson i v at = where_so (is_own_row a.size Jonsson v) ((holds_position odd i || not (is_led_to a.size Jonsson (even_parts Jonsson) rows even v)) && (holds_position even i || not (is_led_to a.size Jonsson (odd_parts Jonsson) rows odd v))) (λ own.
+      all_true (holds_position odd i || not (is_led_to a.size Jonsson (even_parts Jonsson) rows even v)) (holds_position even i || not (is_led_to a.size Jonsson (odd_parts Jonsson) rows odd v))
+      (or_not (holds_position odd i) (is_led_to a.size Jonsson (even_parts Jonsson) rows even v) (from_even i v at own))
+      (or_not (holds_position even i) (is_led_to a.size Jonsson (odd_parts Jonsson) rows odd v) (from_odd i v at own)))
+
+-- those of a kind whose sides are not
+module _ (a : FiniteAlgebra) (rows : List Vector) (even odd : List ℕ) (law : VectorLaw) (some : 0 < length (all_fillings a.size (kind_of Hm).patterns))
+    (exact : AreExact a (chain_width a Hm) (places_of a Hm) rows) (evens : AreThose a Hm true rows even) (odds : AreThose a Hm false rows odd) (none : HasNoChain a Hm) where
+  from_any : (i : ℕ) (v : Vector) → slice_get rows i ≡ Some v → is_led_to a.size Hm (even_parts Hm) rows even v ≡ true → holds_position even i ≡ true
+  from_any i v at h =
+      let q = led_from (λ p. leads a.size Hm (even_parts Hm) (slice_index_or rows p []) v) even h in
+      let u = found rows q.0 (all_at (λ p. p < length rows) even q.0 evens.within q.1) in
+      let from : leads a.size Hm (even_parts Hm) u.0 v ≡ true = ap (λ z. leads a.size Hm (even_parts Hm) z v) (sym (get_or-slice_get rows q.0 u.0 [] u.1)) ∙ q.2 in
+      let r = (evens.exact q.0 u.0 u.1).0 q.1 in
+      let next = led a Hm rows even odd law some exact evens odds none true i v u.0 at refl r (λ e. from) (λ e. from) in
+      let t = (term_of a Hm rows even odd law some exact evens odds none i v at).term in
+      is_held even i ((evens.exact i v at).1 (subst (λ b. IsReached a (kind_of Hm) b v) (always (ends_even (r.terms ++ t ∷ []))) next))
+    where
+      always : (b : Bool) → (b || true) ≡ true
+      always true = refl
+      always false = refl
+
+  followed_hm : (i : ℕ) (v : Vector) → slice_get rows i ≡ Some v → is_followed a.size Hm rows even even i v ≡ true
+  followed_hm i v at =
+      all_true (holds_position even i || not (is_led_to a.size Hm (even_parts Hm) rows even v)) (holds_position even i || not (is_led_to a.size Hm (odd_parts Hm) rows even v))
+      (or_not (holds_position even i) (is_led_to a.size Hm (even_parts Hm) rows even v) (from_any i v at))
+      (or_not (holds_position even i) (is_led_to a.size Hm (odd_parts Hm) rows even v) (from_any i v at))
+
+follows_fine : (a : FiniteAlgebra) (name : ChainName) (rows : List Vector) (even odd : List ℕ) → VectorLaw → 0 < length (all_fillings a.size (kind_of name).patterns) → AreExact a (chain_width a name) (places_of a name) rows → AreThose a name true rows even → AreThose a name false rows odd → HasNoChain a name
+    → (i : ℕ) (v : Vector) → slice_get rows i ≡ Some v → is_followed a.size name rows even (odd_positions name even odd) i v ≡ true
+follows_fine a Jonsson rows even odd law some exact evens odds none i v at = followed_jonsson a rows even odd law some exact evens odds none i v at
+follows_fine a Hm rows even odd law some exact evens odds none i v at = followed_hm a rows even odd law some exact evens odds none i v at
+
+-- ---- the whole
+
+each_row : (good : ℕ → Vector → Bool) (rows : List Vector) → ((i : ℕ) (v : Vector) → slice_get rows i ≡ Some v → good i v ≡ true) → row_flaw good rows ≡ None
+each_row good rows h = no_option flaw.Reached (first_bad good 0 rows) (none_bad good 0 rows (λ i v at. (let z : 0 + i ≡ i = omega arith in ap (λ k. good k v) z ∙ h i v at)))
+
+pub flawless_no_chain : (a : FiniteAlgebra) (name : ChainName) (rows : List Vector) (even odd : List ℕ) → VectorLaw → 0 < a.size → chain_width a name ≤ WIDTH → IsIncreasing rows → AllByRecursion (IsVector (power a (chain_width a name))) rows → AreExact a (chain_width a name) (places_of a name) rows
+    → AreThose a name true rows even → AreThose a name false rows odd → HasNoChain a name → no_chain_flaw a name rows even odd ≡ None
+flawless_no_chain a name rows even odd law size narrow inc vectors exact evens odds none =
+    let some = some_wide a.size name size in
+    no_line (no_chain_lines a name rows even odd) (
+      no_line (refusal_if (nat_lt WIDTH (chain_width a name)) flaw.Width ∷ vectors_flaw a.size (chain_width a name) Rows rows ∷ closed_flaw a (chain_width a name) (places_of a name) rows ∷ []) (
+        no_refusal (nat_lt WIDTH (chain_width a name)) flaw.Width (within (chain_width a name) narrow),
+        (no_vector_flaw a (chain_width a name) Rows rows vectors, (no_closed_flaw a (chain_width a name) (places_of a name) rows inc exact, tt)),
+      ),
+      (
+        no_line (positions_flaw (length rows) even ∷ positions_flaw (length rows) odd ∷ parity_flaw name odd ∷ []) (no_position_flaw a name true rows even evens, (no_position_flaw a name false rows odd odds, (no_parity_flaw a name rows odd odds, tt))),
+        (
+          no_line (reached_lines a.size name (place_of a name 0) (place_of a name (kind_of name).end) rows even (odd_positions name even odd)) (
+            each_row (is_started (place_of a name 0) even) rows (start_fine a name rows even odd law some exact evens odds none),
+            (
+              each_row (is_followed a.size name rows even (odd_positions name even odd)) rows (follows_fine a name rows even odd law some exact evens odds none),
+              (each_row (is_not_end (place_of a name (kind_of name).end) even (odd_positions name even odd)) rows (end_fine a name rows even odd law some exact evens odds none), tt),
+            ),
+          ),
+          tt,
+        ),
+      ),
+    )
+  where
+    within : (n : ℕ) → n ≤ WIDTH → nat_lt WIDTH n ≡ false
+    within n l = grind (arith, nat_tests)

@@ -1,0 +1,13 @@
+pub mod Firsts
+pub mod Steps
+pub mod Shapes
+pub mod Closing
+pub mod Flaws
+pub mod Properties
+pub mod Equations
+pub mod Conditions
+pub mod Chains
+pub mod Reached
+pub mod ChartsOf
+pub mod Checking
+pub mod Answers

@@ -1,0 +1,229 @@
+//! Certificates that terms are a chain.
+
+ghost use Rattle.std.specs.Prelude.{◌≡◌, ◌<◌, ◌≤◌, ◌^◌, ◌==◌, length, map, slice_index_or, List, [], ◌∷◌, ◌++◌, IsOk, IfOk, OnOk};
+ghost use Rattle.std.specs.List.{AllByRecursion, list_any};
+ghost use Rattle.ua_table.specs.Algebras.{arities_of};
+ghost use Rattle.ua_term.specs.Steps.{AreSteps};
+ghost use Rattle.ua_cert.specs.declared.certs.CertStep.{CertStep};
+ghost use Rattle.ua_check.specs.Steps.{written_term, origins_of};
+ghost use Rattle.ua_check.specs.Flaws.{Tells};
+ghost use Rattle.ua_check.specs.Chains as chains;
+
+use crate::equations::{Side, first_failure, identity_failure};
+use crate::flaws::{CheckError, Flaw};
+use crate::patterns::{XXY, XYX, XYY, XYZ, patterns};
+use crate::steps::read_steps;
+use std::alloc::{AllocError, Global};
+use ua_cert::{CertStep, ChainName};
+use ua_identity::width_of;
+use ua_table::limits::WIDTH;
+use ua_table::{Algebra, Elem, Listed, Origin};
+
+/// Whether the term that the steps write is always what stands at this of its three places.
+fn is_place(a: &Algebra, steps: &[Origin], place: u8, values: &mut [Elem]) -> bool
+    requires some { 0 < length steps.now }
+    requires steps { AreSteps (arities_of a.now) 3 steps.now }
+    requires place { place < 3 }
+    requires room { length steps.now ≤ length values.old }
+    ensures { result ≡ chains.satisfies a.now (chains.place_identity 3 place) (written_term (arities_of a.now) steps.now) }
+{
+    identity_failure(a, steps, 3, &XYZ, place, values).is_none()
+}
+
+/// Whether the term that the steps write satisfies what each term of a chain does.
+fn is_own(a: &Algebra, name: ChainName, steps: &[Origin], values: &mut [Elem]) -> bool
+    requires some { 0 < length steps.now }
+    requires steps { AreSteps (arities_of a.now) 3 steps.now }
+    requires room { length steps.now ≤ length values.old }
+    ensures { result ≡ chains.satisfies_all a.now (chains.kind_of name).own (written_term (arities_of a.now) steps.now) }
+{
+    match name {
+        ChainName::Jonsson => identity_failure(a, steps, 2, &XYX, 0, values).is_none(),
+        ChainName::Hm => true,
+    }
+}
+
+/// Whether term i of so many is as it should be by itself.
+fn is_fit(
+    a: &Algebra,
+    name: ChainName,
+    steps: &[Origin],
+    i: usize,
+    count: usize,
+    values: &mut [Elem],
+) -> bool
+    requires some { 0 < length steps.now }
+    requires steps { AreSteps (arities_of a.now) 3 steps.now }
+    requires place { i < count }
+    requires room { length steps.now ≤ length values.old }
+    ensures { result ≡ chains.is_fit a.now (chains.kind_of name) count i (written_term (arities_of a.now) steps.now) }
+{
+    is_own(a, name, steps, values)
+        && (i != 0 || is_place(a, steps, 0, values))
+        && (i + 1 != count || is_place(a, steps, 2, values))
+}
+
+/// How a term at an index is linked to the next: what stands at the places of the one, and of the other.
+fn link_at(name: ChainName, i: usize) -> ([u8; 3], [u8; 3])
+    ensures first { result.0 ≡ (chains.link_at (chains.kind_of name) i).pattern.places }
+    ensures next { result.1 ≡ (chains.link_at (chains.kind_of name) i).next.places }
+{
+    match name {
+        ChainName::Jonsson => { if i % 2 == 0 { (XXY, XXY) } else { (XYY, XYY) } }
+        ChainName::Hm => (XXY, XYY),
+    }
+}
+
+/// Whether the term at an index is linked to the next.
+fn are_linked(
+    a: &Algebra,
+    name: ChainName,
+    steps: &[Origin],
+    next: &[Origin],
+    i: usize,
+    values: &mut [Elem],
+) -> bool
+    requires some { 0 < length steps.now }
+    requires steps { AreSteps (arities_of a.now) 3 steps.now }
+    requires room { length steps.now ≤ length values.old }
+    requires next_some { 0 < length next.now }
+    requires next_steps { AreSteps (arities_of a.now) 3 next.now }
+    requires next_room { length next.now ≤ length values.old }
+    ensures { result ≡ chains.are_linked a.now (chains.link_at (chains.kind_of name) i) (written_term (arities_of a.now) steps.now) (written_term (arities_of a.now) next.now) }
+{
+    let (first, second) = link_at(name, i);
+    let left = Side {
+        steps,
+        places: &first,
+    };
+    let right = Side {
+        steps: next,
+        places: &second,
+    };
+    first_failure(a, &left, &right, 2, [0; 4], 0, values).is_none()
+}
+
+/// Whether term i is as it should be by itself, and is linked to the next.
+fn is_in_chain(
+    a: &Algebra,
+    name: ChainName,
+    terms: &[Listed<Origin>],
+    i: usize,
+    values: &mut [Elem],
+) -> bool
+    requires place { i < length terms.now }
+    requires terms { AllByRecursion (chains.AreTermSteps a.now (length values.old)) terms.now }
+    ensures { result ≡ chains.is_in_chain a.now (chains.kind_of name) (map (written_term (arities_of a.now)) terms.now) i (written_term (arities_of a.now) (slice_index_or terms.now i [])) }
+{
+    let steps = terms[i].as_slice();
+    if !is_fit(a, name, steps, i, terms.len(), values) {
+        return false;
+    }
+    i + 1 == terms.len() || are_linked(a, name, steps, terms[i + 1].as_slice(), i, values)
+}
+
+/// The first term that is not as it should be, by itself or with the next.
+fn links(
+    a: &Algebra,
+    name: ChainName,
+    terms: &[Listed<Origin>],
+    values: &mut [Elem],
+) -> Result<(), CheckError>
+    requires few { length terms.now < 2 ^ 32 }
+    requires terms { AllByRecursion (chains.AreTermSteps a.now (length values.old)) terms.now }
+    ensures { Tells (chains.links_flaw a.now (chains.kind_of name) (map (written_term (arities_of a.now)) terms.now)) result }
+{
+    for i in 0..terms.len() {
+        if !is_in_chain(a, name, terms, i, values) {
+            return Err(CheckError::Flaw(Flaw::Link(i as u32)));
+        }
+    }
+    Ok(())
+}
+
+/// What the steps of the terms are, or the first that is none.
+fn read_terms(
+    alloc: Global,
+    a: &Algebra,
+    terms: &[Listed<CertStep>],
+) -> Result<Vec<Listed<Origin>>, CheckError>
+    requires few { length terms.now < 2 ^ 32 }
+    requires each { AllByRecursion (λ (steps : List CertStep). length steps < 2 ^ 32) terms.now }
+    ensures told { Tells (chains.terms_flaw a.now 3 terms.now) result }
+    ensures read { IfOk result (λ list. list.items ≡ map (origins_of a.now) terms.now) }
+{
+    let mut list = Vec::with_capacity(alloc, terms.len())?;
+    for (i, steps) in terms.iter().enumerate() {
+        let steps = read_steps(alloc, a, 3, Some(i as u32), steps.as_slice())?;
+        keep(&mut list, steps)?;
+    }
+    Ok(list)
+}
+
+/// Appends the steps of a term.
+fn keep(list: &mut Vec<Listed<Origin>>, steps: Vec<Origin>) -> Result<(), AllocError>
+    ensures { OnOk result (list.new.items ≡ list.old.items ++ steps.items ∷ []) }
+{
+    list.push(Listed::new(steps))?;
+    Ok(())
+}
+
+/// The most steps that a term has.
+fn most_steps(terms: &[Listed<CertStep>]) -> usize
+    ensures { AllByRecursion (λ (steps : List CertStep). length steps ≤ result) terms.now }
+{
+    let mut most = 0;
+    for steps in terms {
+        most = steps.as_slice().len().max(most);
+    }
+    most
+}
+
+/// Whether there is a term without steps.
+fn has_bare_term(terms: &[Listed<CertStep>]) -> bool
+    ensures { result ≡ list_any (λ (steps : List CertStep). length steps == 0) terms.now }
+{
+    terms.iter().any(|steps| steps.as_slice().is_empty())
+}
+
+/// Whether there are no terms, or no steps of one.
+fn is_without_term(terms: &[Listed<CertStep>]) -> bool
+    ensures { result ≡ chains.is_without_term terms.now }
+{
+    terms.is_empty() || has_bare_term(terms)
+}
+
+/// The first flaw of a certificate that terms are a chain.
+fn chain_flaws(
+    alloc: Global,
+    a: &Algebra,
+    name: ChainName,
+    terms: &[Listed<CertStep>],
+) -> Result<(), CheckError>
+    requires few { length terms.now < 2 ^ 32 }
+    requires each { AllByRecursion (λ (steps : List CertStep). length steps < 2 ^ 32) terms.now }
+    ensures { Tells (chains.chain_flaw a.now name terms.now) result }
+{
+    let patterns = patterns(alloc, name)?;
+    if width_of(a.size(), patterns.as_slice()) > u128::from(WIDTH) || is_without_term(terms) {
+        return Err(CheckError::Flaw(Flaw::Width));
+    }
+    let list = read_terms(alloc, a, terms)?;
+    let mut values = vec![in alloc; 0; most_steps(terms)]?;
+    links(a, name, list.as_slice(), values.as_mut_slice())
+}
+
+/// Checks a certificate that terms are a chain.
+pub(crate) fn chain(
+    alloc: Global,
+    a: &Algebra,
+    name: ChainName,
+    terms: &[Listed<CertStep>],
+) -> Result<(), CheckError>
+    requires few { length terms.now < 2 ^ 32 }
+    requires each { AllByRecursion (λ (steps : List CertStep). length steps < 2 ^ 32) terms.now }
+    ensures told { Tells (chains.chain_flaw a.now name terms.now) result }
+    ensures holds { IsOk result → chains.WritesChain a.now name terms.now }
+{
+    chain_flaws(alloc, a, name, terms)
+}

@@ -1,0 +1,208 @@
+//! Certificates that there is no chain.
+
+ghost use Rattle.std.specs.Prelude.{◌≡◌, ◌<◌, ◌≤◌, ◌^◌, [], ◌∷◌, length, map, IsOk, IfOk};
+ghost use Rattle.std.specs.List.{AllByRecursion, range_with_len};
+ghost use Rattle.ua_table.specs.declared.limits.TheConstants.{SIZE, WIDTH};
+ghost use Rattle.ua_table.specs.Refusals.{first_refusal};
+ghost use Rattle.ua_term.specs.Assignments.{projection};
+ghost use Rattle.ua_identity.specs.Identities.{VariablePattern};
+ghost use Rattle.ua_identity.specs.Patterns.{all_fillings, place_vector};
+ghost use Rattle.ua_check.specs.Flaws.{Tells};
+ghost use Rattle.ua_check.specs.Chains.{kind_of, chain_width, HasNoChain};
+ghost use Rattle.ua_check.specs.Reached as reached;
+ghost use Rattle.ua_check.specs.ChartsOf.{IsChartOf};
+
+use crate::charts::Chart;
+use crate::flaws::{CheckError, Flaw, ListName};
+use crate::outside::closed_rows;
+use crate::patterns::patterns;
+use crate::positions::Positions;
+use crate::reached::{ended, followed, marks, odd_positions, parity, positions, started};
+use crate::vectors::vectors;
+use std::alloc::{AllocError, Global};
+use ua_cert::ChainName;
+use ua_identity::{Pattern, append_values, laws, place_row, width_of};
+use ua_rows::Rows;
+use ua_table::limits::WIDTH;
+use ua_table::{Algebra, Elem, Frame, Listed, Vectors};
+
+/// What stands at each place of the terms, as vectors of so many entries.
+fn places(alloc: Global, size: u32, patterns: &[Pattern], width: u32) -> Result<Vectors, AllocError>
+    requires some { 0 < size }
+    requires small { size ≤ SIZE }
+    requires three { AllByRecursion (λ (p : VariablePattern). length p.places ≡ 3) patterns.now }
+    requires width { width ≡ length (all_fillings size patterns.now) }
+    requires narrow { width ≤ WIDTH }
+    ensures width { IfOk result (λ vectors. vectors.width ≡ width) }
+    ensures vectors { IfOk result (λ vectors. vectors.items ≡ map (place_vector (all_fillings size patterns.now)) (range_with_len 0 3)) }
+{
+    let mut vectors = Vectors::new(alloc, width);
+    for place in 0..3 {
+        let row = place_row(alloc, size, patterns, place)?;
+        vectors.add(row.as_slice())?;
+    }
+    Ok(vectors)
+}
+
+/// The rows and the vectors of the places, where the rows hold all that these generate.
+fn rows_and_places(
+    alloc: Global,
+    a: &Algebra,
+    name: ChainName,
+    patterns: &[Pattern],
+    rows: &[Listed<u32>],
+) -> Result<(Rows, Vectors), CheckError>
+    requires patterns { patterns.now ≡ (kind_of name).patterns }
+    requires few { length rows.now < 2 ^ 32 }
+    ensures told { Tells (reached.rows_flaw a.now name rows.now) result }
+    ensures rows { IfOk result (λ made. made.0.items ≡ rows.now) }
+    ensures width { IfOk result (λ made. made.0.width ≡ length (all_fillings a.now.size (kind_of name).patterns)) }
+    ensures narrow { IfOk result (λ made. made.0.width ≤ WIDTH) }
+    ensures places { IfOk result (λ made. made.1.items ≡ reached.places_of a.now name) }
+{
+    let size = a.size();
+    let width = width_of(size, patterns);
+    if width > u128::from(WIDTH) {
+        return Err(CheckError::Flaw(Flaw::Width));
+    }
+    let width = width as u32;
+    vectors(size, width, ListName::Rows, rows)?;
+    let Ok(frame) = Frame::power(a, width) else {
+        unreachable!()
+    };
+    let places = places(alloc, size, patterns, width)?;
+    let list = closed_rows(alloc, a, &frame, &places, rows)?;
+    Ok((list, places))
+}
+
+/// The first position that is out of range, not above the one before it, or on a side that the kind does not
+/// have.
+fn sides(name: ChainName, rows: &Rows, even: &[u32], odd: &[u32]) -> Result<(), CheckError>
+    ensures told { Tells (reached.sides_flaw name (length rows.now.items) even.now odd.now) result }
+    ensures even { IsOk result → AllByRecursion (λ p. p < length rows.now.items) even.now }
+    ensures odd { IsOk result → AllByRecursion (λ p. p < length rows.now.items) odd.now }
+{
+    let n = rows.len();
+    positions(n, even)?;
+    positions(n, odd)?;
+    parity(name, odd)?;
+    Ok(())
+}
+
+/// What each term of a chain of Jónsson has by itself.
+fn own_values(alloc: Global, size: u32) -> Result<Vec<Elem>, AllocError>
+    requires some { 0 < size }
+    requires small { size ≤ SIZE }
+    ensures { IfOk result (λ values. values.items ≡ projection size 2 0) }
+{
+    let mut values = Vec::new(alloc);
+    append_values(&mut values, size, 2, 0)?;
+    Ok(values)
+}
+
+/// The first flaw of what is reached: the start is missing, then a row that one that is reached leads to, or
+/// the end is reached.
+fn reached(
+    alloc: Global,
+    chart: &Chart,
+    start: &[Elem],
+    end: &[Elem],
+    even: &[u32],
+    odd: &[u32],
+) -> Result<(), CheckError>
+    requires chart { IsChartOf chart.now }
+    requires even { AllByRecursion (λ p. p < length chart.now.rows.now.items) even.now }
+    requires odd { AllByRecursion (λ p. p < length chart.now.rows.now.items) odd.now }
+    ensures { Tells (first_refusal (reached.reached_lines chart.now.size chart.now.name start.now end.now chart.now.rows.now.items even.now odd.now)) result }
+{
+    let n = chart.rows.len();
+    let even_marks = marks(alloc, n, even)?;
+    let odd_marks = marks(alloc, n, odd)?;
+    let even = Positions {
+        list: even,
+        marks: even_marks.as_slice(),
+    };
+    let odd = Positions {
+        list: odd,
+        marks: odd_marks.as_slice(),
+    };
+    started(chart.rows, start, &even)?;
+    followed(chart, &even, &odd)?;
+    ended(chart.rows, end, &even, &odd)?;
+    Ok(())
+}
+
+/// The first flaw of the positions of what is reached.
+fn positions_flaws(
+    alloc: Global,
+    a: &Algebra,
+    name: ChainName,
+    patterns: &[Pattern],
+    rows: &Rows,
+    places: &Vectors,
+    even: &[u32],
+    odd: &[u32],
+) -> Result<(), CheckError>
+    requires patterns { patterns.now ≡ (kind_of name).patterns }
+    requires width { rows.now.width ≡ length (all_fillings a.now.size (kind_of name).patterns) }
+    requires narrow { rows.now.width ≤ WIDTH }
+    requires places { places.now.items ≡ reached.places_of a.now name }
+    ensures { Tells (first_refusal (reached.sides_flaw name (length rows.now.items) even.now odd.now ∷ reached.reached_flaw a.now name rows.now.items even.now (reached.odd_positions name even.now odd.now) ∷ [])) result }
+{
+    sides(name, rows, even, odd)?;
+    let own = own_values(alloc, a.size())?;
+    let chart = Chart {
+        name,
+        size: a.size(),
+        patterns,
+        own: own.as_slice(),
+        rows,
+    };
+    let odd = odd_positions(name, even, odd);
+    reached(alloc, &chart, places.get(0), places.get(2), even, odd)
+}
+
+/// The first flaw of a certificate that there is no chain.
+fn no_chain_flaws(
+    alloc: Global,
+    a: &Algebra,
+    name: ChainName,
+    rows: &[Listed<u32>],
+    even: &[u32],
+    odd: &[u32],
+) -> Result<(), CheckError>
+    requires { length rows.now < 2 ^ 32 }
+    ensures { Tells (reached.no_chain_flaw a.now name rows.now even.now odd.now) result }
+{
+    let patterns = patterns(alloc, name)?;
+    let (list, places) = rows_and_places(alloc, a, name, patterns.as_slice(), rows)?;
+    positions_flaws(
+        alloc,
+        a,
+        name,
+        patterns.as_slice(),
+        &list,
+        &places,
+        even,
+        odd,
+    )
+}
+
+/// Checks a certificate that there is no chain.
+pub(crate) fn no_chain(
+    alloc: Global,
+    a: &Algebra,
+    name: ChainName,
+    rows: &[Listed<u32>],
+    even: &[u32],
+    odd: &[u32],
+) -> Result<(), CheckError>
+    requires { length rows.now < 2 ^ 32 }
+    ensures told { Tells (reached.no_chain_flaw a.now name rows.now even.now odd.now) result }
+    ensures holds { IsOk result → HasNoChain a.now name }
+{
+    laws::patterns();
+    // What this call ensures is that the algebra has an element.
+    let _size = a.size();
+    no_chain_flaws(alloc, a, name, rows, even, odd)
+}

@@ -1,0 +1,5 @@
+pub mod PointLaws
+pub mod PolynomialLaws
+pub mod CloneLaws
+pub mod PolyLaws
+pub mod FrameLaws

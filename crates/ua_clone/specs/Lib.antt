@@ -1,0 +1,4 @@
+pub mod Points
+pub mod Polynomials
+pub mod Frames
+pub mod Permitted

@@ -1,0 +1,33 @@
+-- What may be answered when it is asked whether some polynomial agrees with points, with the refusals.
+use Rattle.std.specs.Prelude.{◌≡◌, ℕ, ◌+◌, ◌-◌, List, length, slice_get, Some, Result, Ok, Err}
+use Rattle.ua_table.specs.Algebras.{FiniteAlgebra, arities_of}
+use Rattle.ua_table.specs.Terms.{Tree}
+use Rattle.ua_term.specs.Steps.{StepList, unfolded}
+use Rattle.ua_close.specs.declared.close.CloseError.{CloseError}
+use Rattle.ua_close.specs.declared.memberships.Answer.{Answer}
+use Rattle.ua_close.specs.declared.memberships.Answer.TheVariants.{Yes, No, Exceeds}
+use Rattle.ua_close.specs.Permitted.{MayMember}
+use Rattle.ua_clone.specs.declared.kinds.CloneKind.{CloneKind}
+use Rattle.ua_clone.specs.Points.{Point}
+use Rattle.ua_clone.specs.Polynomials.{named_elements, IsPolynomial, AgreesWith, HasPolynomial}
+use Rattle.ua_clone.specs.Frames.{point_power, point_generators, wanted_values}
+
+-- steps over the operations of the algebra, the variables and the elements, of which the last writes a polynomial of the kind that agrees with the points
+pub record WriteAgreeing (a : FiniteAlgebra) (k : ℕ) (kind : CloneKind) (ps : List Point) (s : StepList) : Type 0 where
+  pub operations : s.arities ≡ arities_of a
+  pub generators : s.gens ≡ k + named_elements kind a.size
+  pub polynomial : Tree
+  pub last : slice_get (unfolded s.arities s.items) (length s.items - 1) ≡ Some polynomial
+  pub is_polynomial : IsPolynomial a k kind polynomial
+  pub agrees : AgreesWith a ps polynomial
+
+-- with yes the steps write a polynomial that agrees with the points, and with no none does
+abbrev pub TellsPolynomial : FiniteAlgebra → ℕ → CloneKind → List Point → Result Answer CloseError → Type 0
+TellsPolynomial a k kind ps (Ok (Yes steps)) = WriteAgreeing a k kind ps steps
+TellsPolynomial a k kind ps (Ok (No rows)) = ¬ HasPolynomial a k kind ps
+TellsPolynomial a k kind ps (Ok (Exceeds rows)) = Unit {0}
+TellsPolynomial a k kind ps (Err error) = Unit {0}
+
+-- what may be answered when it is asked whether the vectors of variables and elements generate that of the values, which is the answer for polynomials
+abbrev pub MayClone : FiniteAlgebra → ℕ → CloneKind → List Point → ℕ → ℕ → Result Answer CloseError → Type 0
+MayClone a k kind ps b w result = MayMember (point_power a ps) (point_generators a k kind ps) (wanted_values ps) b w result × TellsPolynomial a k kind ps result
