@@ -75,7 +75,10 @@ def measured(command, text):
         run.stdin.write(text)
         run.stdin.close()
         out = run.stdout.read()
-        _, run.returncode, usage = os.wait4(run.pid, 0)
+        _, status, usage = os.wait4(run.pid, 0)
+        run.returncode = os.waitstatus_to_exitcode(status)
+    if run.returncode != 0:
+        sys.exit(f"{command[0]}: status {run.returncode}")
     return out, usage.ru_utime, usage.ru_maxrss / 1024
 
 

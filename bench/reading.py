@@ -5,11 +5,9 @@ Three kinds of scripts are made: large tables, many small blocks, and one comman
 For each, the processor time and the peak memory of the program are printed.
 """
 
-import os
-import resource
-import subprocess
 import sys
-import tempfile
+
+from congruences import measured
 
 SIZES = [1 << 22, 1 << 23, 1 << 24]
 
@@ -57,20 +55,8 @@ def main():
     print("script      bytes   processor s   peak MiB")
     for make in (tables, blocks, vectors):
         for size in SIZES:
-            with tempfile.NamedTemporaryFile("w", suffix=".ua", delete=False) as script:
-                script.write(make(size))
-            pid = os.fork()
-            if pid == 0:
-                with open(script.name) as source:
-                    status = subprocess.call([sys.argv[1]], stdin=source, stdout=subprocess.DEVNULL)
-                used = resource.getrusage(resource.RUSAGE_CHILDREN)
-                seconds = used.ru_utime + used.ru_stime
-                print(f"{make.__name__:8} {size:8}   {seconds:11.2f}   {used.ru_maxrss / 1024:8.0f}", flush=True)
-                os._exit(status)
-            _, status = os.waitpid(pid, 0)
-            os.unlink(script.name)
-            if status != 0:
-                sys.exit(f"{make.__name__} of {size} bytes: status {os.waitstatus_to_exitcode(status)}")
+            _, seconds, memory = measured([sys.argv[1]], make(size).encode())
+            print(f"{make.__name__:8} {size:8}   {seconds:11.2f}   {memory:8.0f}", flush=True)
 
 
 if __name__ == "__main__":

@@ -15,6 +15,8 @@ bench/congruences.py "$program"
 echo "== commands"
 bench/commands.py "$program"
 bench/normal_subgroups.py "$program" 14000
+echo "== certificates"
+bench/certificates.py "$program"
 echo "== closures"
 bench/closures.py "$program"
 if command -v rt > /dev/null && command -v g++ > /dev/null; then

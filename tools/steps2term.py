@@ -1,8 +1,9 @@
 #!/usr/bin/env python3
-"""Turns the steps of a reply into a term: steps2term.py [--step I] [--limit N] < REPLY
+"""Turns the steps of a reply into a term: steps2term.py [--step I] [--limit N] [--variables K] < REPLY
 
 The input is a reply `yes N` with its steps, or the steps alone. Where a line `yes N` stands in it, lines before it and
-behind its steps are passed over. Generator I is written as the variable xI. Where a line `chain M` stands in the input and
+behind its steps are passed over. Generator I is written as the variable xI; in a polynomial in K variables, of a reply
+to `clone`, generator K + C is written as the element C. Where a line `chain M` stands in the input and
 no line `yes N` before it, each term of the chain comes on a line of its own.
 """
 
@@ -70,8 +71,15 @@ def number_at(number, word, column, below):
     return value
 
 
-def step_of(number, line, index, arities):
-    """A step as (name, arguments); that of a generator has its variable as the name."""
+def generator_of(index, variables):
+    """The variable of this generator, or the element, behind so many variables."""
+    if variables is None or index < variables:
+        return f"x{index}"
+    return str(index - variables)
+
+
+def step_of(number, line, index, arities, variables):
+    """A step as (name, arguments); that of a generator has its variable or its element as the name."""
     words = columned(line)
     if index == 0 and words and words[0][0] in WITHOUT:
         raise Fault(f"{number}:1", f"a reply `{words[0][0]}` has no steps")
@@ -83,7 +91,7 @@ def step_of(number, line, index, arities):
     if name == "gen":
         if len(words) != 3:
             raise Fault(f"{number}:{column}", "a generator has one number")
-        return f"x{number_at(number, *words[2], None)}", []
+        return generator_of(number_at(number, *words[2], None), variables), []
     if not is_operation_name(name):
         raise Fault(f"{number}:{column}", f"{name} is no name of an operation")
     args = [number_at(number, *word, index) for word in words[2:]]
@@ -92,10 +100,10 @@ def step_of(number, line, index, arities):
     return name, args
 
 
-def steps_of(lines, arities):
+def steps_of(lines, arities, variables):
     steps = []
     for number, line in lines:
-        steps.append(step_of(number, line, len(steps), arities))
+        steps.append(step_of(number, line, len(steps), arities, variables))
     if not steps:
         raise Fault("1:1", "there is no step")
     return steps
@@ -143,14 +151,17 @@ def main():
     parser = argparse.ArgumentParser(description=__doc__, formatter_class=argparse.RawDescriptionHelpFormatter)
     parser.add_argument("--step", type=int, help="the step whose term is printed, in place of the last")
     parser.add_argument("--limit", type=int, default=100_000, help="characters at most (else 100000)")
+    parser.add_argument("--variables", type=int, help="of a polynomial: generators from here on are elements")
     options = parser.parse_args()
 
     def convert(text):
         lists, is_chain = lists_of(text)
         if is_chain and options.step is not None:
             raise Fault("--step", "a chain has the steps of several terms")
+        if options.variables is not None and options.variables < 0:
+            raise Fault("--variables", "a polynomial has no fewer than 0 variables")
         arities = {}
-        return "".join(written(steps_of(lines, arities), options) + "\n" for lines in lists)
+        return "".join(written(steps_of(lines, arities, options.variables), options) + "\n" for lines in lists)
 
     run("steps2term", convert)
 

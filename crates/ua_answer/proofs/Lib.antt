@@ -4,3 +4,5 @@ pub mod OperandLaws
 mod Making
 mod Reducts
 mod WrittenConditions
+mod WrittenTables
+mod Certifying

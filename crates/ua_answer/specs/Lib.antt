@@ -12,11 +12,15 @@ pub mod ConCommand
 pub mod TypesCommand
 pub mod CondCommand
 pub mod ConditionCommand
+pub mod CloneCommand
+pub mod ArgumentSets
 pub mod ChainCommand
 pub mod HoldsCommand
 pub mod HomCommand
 pub mod CentralCommand
 pub mod CommCommand
 pub mod SeriesCommand
+pub mod CertCommand
+pub mod CheckCommand
 pub mod MakeCommand
 pub mod Replies

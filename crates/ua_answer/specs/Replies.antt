@@ -1,5 +1,5 @@
 -- What a command may be answered: a case for each form that is built, in tables as those of the grammar.
-use Rattle.std.specs.Prelude.{◌≡◌, ℕ, ◌<◌, ◌≤◌, false, List, [], ◌∷◌, ◌++◌, length, Option, None, Some, IfSome}
+use Rattle.std.specs.Prelude.{◌≡◌, ℕ, ◌<◌, ◌≤◌, true, false, List, [], ◌∷◌, ◌++◌, length, Option, None, Some, IfSome}
 use Rattle.ua_table.specs.declared.limits.TheConstants.{SCRIPT}
 use Rattle.ua_script.specs.declared.script.Mode.{Mode}
 use Rattle.ua_script.specs.declared.script.Mode.TheVariants.{Plain}
@@ -24,6 +24,7 @@ use Rattle.ua_answer.specs.ConCommand.{ConReply}
 use Rattle.ua_answer.specs.TypesCommand.{TypesReply}
 use Rattle.ua_answer.specs.CondCommand.{CondReply, NuReply}
 use Rattle.ua_answer.specs.ConditionCommand.{ConditionReply}
+use Rattle.ua_answer.specs.CloneCommand.{IsShortTable, CloneReply}
 use Rattle.ua_answer.specs.declared.chains.ChainWord.TheVariants as chains
 use Rattle.ua_answer.specs.ChainCommand.{ChainReply}
 use Rattle.ua_answer.specs.HoldsCommand.{HoldsReply}
@@ -31,6 +32,8 @@ use Rattle.ua_answer.specs.HomCommand.{HomReply}
 use Rattle.ua_answer.specs.CentralCommand.{CentralReply}
 use Rattle.ua_answer.specs.CommCommand.{CommReply}
 use Rattle.ua_answer.specs.SeriesCommand.{SeriesReply}
+use Rattle.ua_answer.specs.CertCommand.{CertReply}
+use Rattle.ua_answer.specs.CheckCommand.{CheckReply}
 use Rattle.ua_answer.specs.MakeCommand.{MakeReply}
 
 -- the forms that can be certified and are built, with no more vectors than a script has bytes
@@ -46,6 +49,7 @@ IsProvableBuilt _ _ = ⊥
 -- the commands that leave the session as it was and are built, with no more elements than a script has bytes, and some identity where there are to be some
 abbrev pub IsPlainBuilt : Command → Type 0
 IsPlainBuilt (commands.Ask what m false) = IsProvableBuilt what m
+IsPlainBuilt (commands.Ask what m true) = IsProvableBuilt what Plain
 IsPlainBuilt (commands.Free w k m) = Unit {0}
 IsPlainBuilt (commands.Sub w set) = length set.values ≤ SCRIPT
 IsPlainBuilt (commands.Ones w) = Unit {0}
@@ -55,11 +59,13 @@ IsPlainBuilt (commands.Con w) = Unit {0}
 IsPlainBuilt (commands.Types w) = Unit {0}
 IsPlainBuilt (commands.Day w) = Unit {0}
 IsPlainBuilt (commands.Condition w k is) = 0 < length is
+IsPlainBuilt (commands.Clone w k kind points) = IsShortTable points
 IsPlainBuilt (commands.Holds w left right) = Unit {0}
 IsPlainBuilt (commands.Hom v w gens images) = length gens.values ≤ SCRIPT
 IsPlainBuilt (commands.Central w alpha beta delta) = Unit {0}
 IsPlainBuilt (commands.Comm w alpha beta) = Unit {0}
 IsPlainBuilt (commands.Series w kind) = Unit {0}
+IsPlainBuilt (commands.Check w json) = Unit {0}
 IsPlainBuilt _ = ⊥
 
 -- the constructions, with no more elements than a script has bytes
@@ -84,6 +90,7 @@ ProvableReply s b _ _ bytes = ⊥
 -- the bytes are a reply to a command that leaves the session as it was
 abbrev pub PlainReply : List Block → Bounds → Command → List ℕ → Type 0
 PlainReply s b (commands.Ask what m false) bytes = ProvableReply s b what m bytes
+PlainReply s b (commands.Ask what m true) bytes = CertReply s b what bytes
 PlainReply s b (commands.Free w k m) bytes = FreeReply s b w k m bytes
 PlainReply s b (commands.Sub w set) bytes = SubReply s w set bytes
 PlainReply s b (commands.Ones w) bytes = OnesReply s w bytes
@@ -93,11 +100,13 @@ PlainReply s b (commands.Con w) bytes = ConReply s b w bytes
 PlainReply s b (commands.Types w) bytes = TypesReply s b w bytes
 PlainReply s b (commands.Day w) bytes = ChainReply s b w chains.Day bytes
 PlainReply s b (commands.Condition w k is) bytes = ConditionReply s b w k is bytes
+PlainReply s b (commands.Clone w k kind points) bytes = CloneReply s b w k kind points bytes
 PlainReply s b (commands.Holds w left right) bytes = HoldsReply s w left right bytes
 PlainReply s b (commands.Hom v w gens images) bytes = HomReply s b v w gens images bytes
 PlainReply s b (commands.Central w alpha beta delta) bytes = CentralReply s b w alpha beta delta bytes
 PlainReply s b (commands.Comm w alpha beta) bytes = CommReply s b w alpha beta bytes
 PlainReply s b (commands.Series w kind) bytes = SeriesReply s b w kind bytes
+PlainReply s b (commands.Check w json) bytes = CheckReply s w json bytes
 PlainReply s b _ bytes = ⊥
 
 -- the bytes are a reply to the command in the session, which leaves that session t

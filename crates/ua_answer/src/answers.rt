@@ -6,8 +6,11 @@ ghost use Rattle.ua_answer.specs.Replies.{IsProvableBuilt, IsPlainBuilt, IsBuilt
 
 use crate::answered::{Answered, said};
 use crate::central::answer_central;
+use crate::certificates::answer_cert;
 use crate::cg::answer_cg;
 use crate::chains::{ChainWord, answer_chain};
+use crate::check::answer_check;
+use crate::clone::answer_clone;
 use crate::close::answer_close;
 use crate::comm::answer_comm;
 use crate::con::answer_con;
@@ -71,6 +74,12 @@ fn answer_plain<R: Threads + Sync, G: Gate>(
             mode,
             cert: false,
         } => answer_provable(context, what, *mode),
+        Command::Ask {
+            what,
+            mode: _,
+            cert: true,
+        } => answer_cert(context, what),
+        Command::Check { algebra, json } => answer_check(context, algebra, json.as_slice()),
         Command::Free { algebra, k, mode } => answer_free(context, algebra, *k, *mode),
         Command::Sub { algebra, set } => answer_sub(context, algebra, set),
         Command::Ones { algebra } => answer_ones(context, algebra),
@@ -88,6 +97,12 @@ fn answer_plain<R: Threads + Sync, G: Gate>(
             arity,
             identities,
         } => answer_condition(context, algebra, *arity, identities.as_slice()),
+        Command::Clone {
+            algebra,
+            arity,
+            kind,
+            points,
+        } => answer_clone(context, algebra, *arity, *kind, points),
         Command::Central {
             algebra,
             alpha,

@@ -28,7 +28,7 @@ pub enum ChainWord {
 }
 
 /// A least chain of this kind.
-fn chain<R: Threads + Sync, G: Gate>(
+pub fn chain<R: Threads + Sync, G: Gate>(
     context: &Context<R, G>,
     known: &Known,
     asked: ChainWord,

@@ -30,7 +30,7 @@ fn condition(alloc: Global, name: CondWord) -> Result<Condition, AllocError>
 }
 
 /// Whether some term meets the condition of this word.
-fn named<R: Threads + Sync, G: Gate>(
+pub fn named<R: Threads + Sync, G: Gate>(
     context: &Context<R, G>,
     known: &Known,
     name: CondWord,
@@ -63,7 +63,7 @@ pub fn answer_cond<R: Threads + Sync, G: Gate>(
 }
 
 /// Whether there are 3 to 16 variables.
-fn variables_of(k: Number) -> FirstErrors
+pub fn variables_of(k: Number) -> FirstErrors
     ensures { AreFirst (nu_checks k) result }
 {
     let mut errors = FirstErrors::none();
@@ -74,7 +74,7 @@ fn variables_of(k: Number) -> FirstErrors
 }
 
 /// Whether there is a near-unanimity term in so many variables.
-fn near_unanimous<R: Threads + Sync, G: Gate>(
+pub fn near_unanimous<R: Threads + Sync, G: Gate>(
     context: &Context<R, G>,
     known: &Known,
     k: Number,

@@ -19,7 +19,7 @@ use ua_table::Gate;
 use ua_table::limits::VARIABLES;
 
 /// Whether there are no more variables than their limit.
-fn variables_in(count: Number) -> FirstErrors
+pub fn variables_in(count: Number) -> FirstErrors
     ensures { AreFirst (free_checks count) result }
 {
     let mut errors = FirstErrors::none();

@@ -3,9 +3,13 @@
 
 mod answered;
 mod answers;
+mod arguments;
 mod central;
+mod certificates;
 mod cg;
 mod chains;
+mod check;
+mod clone;
 mod close;
 mod closing;
 mod comm;

@@ -1,5 +1,5 @@
 pub mod CheckLaws
-mod OperandLaws
+pub mod OperandLaws
 mod PartLaws
 mod Rows
 mod SessionLaws

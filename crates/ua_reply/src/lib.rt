@@ -14,8 +14,8 @@ pub use checks::FirstErrors;
 pub use closures::{cause_reply, closure_reply, member_reply, size_reply};
 pub use known::Known;
 pub use operands::{
-    elements, elements_in, length_in, pairs, positive, power, term_in, vector, vector_in, vectors,
-    vectors_in,
+    element_of, elements, elements_in, length_in, pairs, positive, power, term_in, vector,
+    vector_in, vectors, vectors_in,
 };
 pub use parts::{part, part_in};
 pub use refusals::{Refusal, congruence_reply, refusal_reply};

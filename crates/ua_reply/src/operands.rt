@@ -32,7 +32,7 @@ pub fn positive(width: Number) -> FirstErrors
 }
 
 /// The element that an entry writes: its number, or the place of its name.
-fn element_of(known: &Known, entry: &Entry) -> Option<usize>
+pub fn element_of(known: &Known, entry: &Entry) -> Option<usize>
     ensures { result ≡ element_of known.now entry.now }
 {
     match entry {

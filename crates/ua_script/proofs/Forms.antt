@@ -1,17 +1,13 @@
 -- The parts of commands in the forms that are built. A further form is a further case here.
 use Rattle.std.proofs.Common.{◌≡◌, ℕ, ◌<◌, true, false, Some, Option, List, [], ◌∷◌, ◌++◌, length, map, codes, refl, sym, ap, ◌∙◌, subst, append_assoc, arith}
-use Rattle.std.specs.Prelude.{Contains}
 use Rattle.std.specs.List.{AllByRecursion, flat_map}
-use Rattle.std.proofs.lemmas.Bool.{false≢true}
 use Rattle.std.proofs.lemmas.List.{append-nil}
 use Rattle.ua_table.specs.declared.limits.TheConstants.{NESTING}
 use Rattle.ua_table.specs.Names.{is_name}
 use Rattle.ua_text.specs.declared.symbols.Role.TheVariants as roles
 use Rattle.ua_text.specs.declared.tokens.Place.{Place}
-use Rattle.ua_text.specs.Words.{among}
 use Rattle.ua_text.specs.Pieces.{Placed}
 use Rattle.ua_text.specs.Signs.{Wanted, sign, AreSpelled, Front}
-use Rattle.ua_text.proofs.WordLemmas.{contains_among}
 use Rattle.ua_text.proofs.SpelledLemmas.{spelled_left, spelled_right}
 use Rattle.ua_term.specs.Phrases.{Phrase, IsNested}
 use Rattle.ua_term.specs.Terms.{term}
@@ -39,7 +35,7 @@ use Rattle.ua_script.specs.declared.script.Item.TheVariants as items
 use Rattle.ua_script.specs.Grammar.{word, further, number, entry, vector, part, part_blocks, identity, points, clone_word, cond_word, series_word, IsPart, names, mode, construction, IsConstruction, forms_built}
 use Rattle.ua_script.specs.declared.commands.FirstWord.{FirstWord}
 use Rattle.ua_script.specs.declared.commands.FirstWord.TheVariants as firsts
-use Rattle.ua_script.specs.Reading.{IsShort, IsShortEntry, IsShortVector, IsShortBlock, IsNamed, IsShortConstruction, ArePointsShort, IsReadableItem, first_text, first_words, found_first}
+use Rattle.ua_script.specs.Reading.{IsShort, IsShortEntry, IsShortVector, IsShortBlock, IsNamed, IsShortConstruction, ArePointsShort, IsReadableItem, is_certified, first_text, first_words, found_first}
 use Rattle.ua_script.proofs.ReadLemmas.{close_of}
 use Rattle.ua_script.proofs.Beginnings.{begun}
 
@@ -257,6 +253,14 @@ pub record IsClone (c : Command) (rest : List Wanted) : Type 0 where
   pub short_values : ArePointsShort values
   pub behind : rest ≡ word algebra ∷ number roles.Amount arity ∷ sign roles.Exact (clone_word kind) ∷ points values
 
+-- the parts of a `check`, and the tokens behind its word
+pub record IsCheck (c : Command) (rest : List Wanted) : Type 0 where
+  pub algebra : Word
+  pub json : List ℕ
+  pub is : c ≡ commands.Check algebra json
+  pub named : is_name algebra.name ≡ true
+  pub behind : rest ≡ word algebra ∷ sign roles.Json json ∷ []
+
 -- the parts of a command that begins with a word
 abbrev pub IsForm : FirstWord → Command → List Wanted → Type 0
 IsForm firsts.Close c rest = IsClose c rest
@@ -281,6 +285,7 @@ IsForm firsts.Day c rest = IsDay c rest
 IsForm firsts.Condition c rest = IsCondition c rest
 IsForm firsts.Clone c rest = IsClone c rest
 IsForm firsts.Make c rest = IsMake c rest
+IsForm firsts.Check c rest = IsCheck c rest
 
 short_entries : (es : List Entry) → AreSpelled forms_built (map entry es) → AllByRecursion IsShortEntry es
 short_entries [] h = tt
@@ -335,9 +340,6 @@ short_points : (ps : PointsText) → AreSpelled forms_built (points ps) → AreP
 short_points (Total v) h = short_vector v h.1
 short_points (Partial v vs) h = (short_vector v (spelled_left forms_built (vector v) (flat_map vector vs) h.1), short_vectors vs (spelled_right forms_built (vector v) (flat_map vector vs) h.1))
 
-not_built : {P : Type 0} (t : List ℕ) → among t forms_built ≡ false → Contains forms_built t → P
-not_built t e h = absurd (false≢true (sym e ∙ contains_among forms_built t h))
-
 -- the word and the parts of a command
 pub record Formed (c : Command) : Type 0 where
   pub first : FirstWord
@@ -345,58 +347,58 @@ pub record Formed (c : Command) : Type 0 where
   pub found : found_first (begun c).word first_words ≡ Some first
   pub parts : IsForm first c (begun c).rest
 
-pub form_of : {v : ℕ} (c : Command) → IsReadableItem v (items.Command c) → Formed c
-form_of (commands.Ask (provables.Close a w vs) m false) r =
+pub form_of : {v : ℕ} (c : Command) → IsReadableItem v (items.Command c) → is_certified c ≡ false → Formed c
+form_of (commands.Ask (provables.Close a w vs) m false) r p =
     let s = spelled_left forms_built (sign roles.Begins (codes "close") ∷ word a ∷ number roles.Amount w ∷ flat_map vector vs) (mode m) r.spelled in
     record { first = firsts.Close; named = refl; found = refl; parts = record { algebra = a; width = w; gens = vs; asked = m; is = refl; named = s.1.0; short = s.1.1.0; each = short_vectors vs s.1.1.1; behind = refl } }
-form_of (commands.Ask (provables.Member a w vs t) modes.Plain false) r =
+form_of (commands.Ask (provables.Member a w vs t) modes.Plain false) r p =
     let s = spelled_left forms_built (sign roles.Begins (codes "member") ∷ word a ∷ number roles.Amount w ∷ (flat_map vector vs ++ (sign roles.Exact (codes "=") ∷ vector t))) [] r.spelled in
     let q = spelled_right forms_built (flat_map vector vs) (sign roles.Exact (codes "=") ∷ vector t) s.1.1.1 in
     record { first = firsts.Member; named = refl; found = refl; parts = record { algebra = a; width = w; gens = vs; target = t; is = refl; named = s.1.0; short = s.1.1.0; each = short_vectors vs (spelled_left forms_built (flat_map vector vs) (sign roles.Exact (codes "=") ∷ vector t) s.1.1.1); last = short_vector t q.1; behind = append-nil (word a ∷ number roles.Amount w ∷ (flat_map vector vs ++ (sign roles.Exact (codes "=") ∷ vector t))) } }
-form_of (commands.Ask (provables.Member a w vs t) modes.Least false) r = absurd r.formed.0
-form_of (commands.Ask (provables.Member a w vs t) modes.Count false) r = absurd r.formed.0
-form_of (commands.Eval a t args) r =
+form_of (commands.Ask (provables.Member a w vs t) modes.Least false) r p = absurd r.formed.0
+form_of (commands.Ask (provables.Member a w vs t) modes.Count false) r p = absurd r.formed.0
+form_of (commands.Eval a t args) r p =
     let s = r.spelled.1.1 in
     record { first = firsts.Eval; named = refl; found = refl; parts = record { algebra = a; written = t; args = args; is = refl; named = r.spelled.1.0; nested = r.formed.0; spelled = spelled_alone forms_built t (spelled_left forms_built (term t) (vector args) s); short = short_vector args (spelled_right forms_built (term t) (vector args) s); behind = refl } }
-form_of (commands.Cg a pairs) r = record { first = firsts.Cg; named = refl; found = refl; parts = record { algebra = a; pairs = pairs; is = refl; named = r.spelled.1.0; each = short_vectors pairs r.spelled.1.1; behind = refl } }
-form_of (commands.Con a) r = record { first = firsts.Con; named = refl; found = refl; parts = record { algebra = a; is = refl; named = r.spelled.1.0; behind = refl } }
-form_of (commands.Free a k m) r = record { first = firsts.Free; named = refl; found = refl; parts = record { algebra = a; count = k; asked = m; is = refl; named = r.spelled.1.0; short = r.spelled.1.1.0; behind = refl } }
-form_of (commands.Sub a set) r = record { first = firsts.Sub; named = refl; found = refl; parts = record { algebra = a; set = set; is = refl; named = r.spelled.1.0; short = short_vector set r.spelled.1.1; behind = refl } }
-form_of (commands.Ones a) r = record { first = firsts.Ones; named = refl; found = refl; parts = record { algebra = a; is = refl; named = r.spelled.1.0; behind = refl } }
-form_of (commands.Holds a left right) r =
+form_of (commands.Cg a pairs) r p = record { first = firsts.Cg; named = refl; found = refl; parts = record { algebra = a; pairs = pairs; is = refl; named = r.spelled.1.0; each = short_vectors pairs r.spelled.1.1; behind = refl } }
+form_of (commands.Con a) r p = record { first = firsts.Con; named = refl; found = refl; parts = record { algebra = a; is = refl; named = r.spelled.1.0; behind = refl } }
+form_of (commands.Free a k m) r p = record { first = firsts.Free; named = refl; found = refl; parts = record { algebra = a; count = k; asked = m; is = refl; named = r.spelled.1.0; short = r.spelled.1.1.0; behind = refl } }
+form_of (commands.Sub a set) r p = record { first = firsts.Sub; named = refl; found = refl; parts = record { algebra = a; set = set; is = refl; named = r.spelled.1.0; short = short_vector set r.spelled.1.1; behind = refl } }
+form_of (commands.Ones a) r p = record { first = firsts.Ones; named = refl; found = refl; parts = record { algebra = a; is = refl; named = r.spelled.1.0; behind = refl } }
+form_of (commands.Holds a left right) r p =
     let s = r.spelled.1.1 in
     let q = spelled_right forms_built (term left) (sign roles.Exact (codes "=") ∷ term right) s in
     record { first = firsts.Holds; named = refl; found = refl; parts = record { algebra = a; left = left; right = right; is = refl; named = r.spelled.1.0; nested_left = r.formed.0; spelled_left = spelled_alone forms_built left (spelled_left forms_built (term left) (sign roles.Exact (codes "=") ∷ term right) s); nested_right = r.formed.1; spelled_right = spelled_alone forms_built right q.1; behind = refl } }
-form_of (commands.Hom a b gens images) r =
+form_of (commands.Hom a b gens images) r p =
     let s = r.spelled.1.1.1 in
     record { first = firsts.Hom; named = refl; found = refl; parts = record { first = a; second = b; gens = gens; images = images; is = refl; named = r.spelled.1.0; named_second = r.spelled.1.1.0; short = short_vector gens (spelled_left forms_built (vector gens) (vector images) s); short_images = short_vector images (spelled_right forms_built (vector gens) (vector images) s); behind = refl } }
-form_of (commands.Central a alpha beta delta) r =
+form_of (commands.Central a alpha beta delta) r p =
     let s = r.spelled.1.1 in
     let t = spelled_left forms_built (part alpha ++ part beta) (part delta) s in
     record { first = firsts.Central; named = refl; found = refl; parts = record { algebra = a; alpha = alpha; beta = beta; delta = delta; is = refl; named = r.spelled.1.0; short_alpha = short_part alpha r.formed.0 (spelled_left forms_built (part alpha) (part beta) t); short_beta = short_part beta r.formed.1 (spelled_right forms_built (part alpha) (part beta) t); short_delta = short_part delta r.formed.2 (spelled_right forms_built (part alpha ++ part beta) (part delta) s); behind = refl } }
-form_of (commands.Comm a alpha beta) r =
+form_of (commands.Comm a alpha beta) r p =
     let s = r.spelled.1.1 in
     record { first = firsts.Comm; named = refl; found = refl; parts = record { algebra = a; alpha = alpha; beta = beta; is = refl; named = r.spelled.1.0; short_alpha = short_part alpha r.formed.0 (spelled_left forms_built (part alpha) (part beta) s); short_beta = short_part beta r.formed.1 (spelled_right forms_built (part alpha) (part beta) s); behind = refl } }
-form_of (commands.Series a kind) r = record { first = firsts.Series; named = refl; found = refl; parts = record { algebra = a; kind = kind; is = refl; named = r.spelled.1.0; behind = refl } }
-form_of {v} (commands.Make place name what) r = record { first = firsts.Make; named = refl; found = refl; parts = record { place = place; name = name; what = what; is = refl; named = r.spelled.1.0; short = short_construction v what r.formed r.spelled.1.1; behind = refl } }
-form_of (commands.Ask (provables.Cond a n) modes.Plain false) r = record { first = firsts.Cond; named = refl; found = refl; parts = record { algebra = a; condition = n; is = refl; named = r.spelled.1.0; behind = refl } }
-form_of (commands.Ask (provables.Nu a k) modes.Plain false) r = record { first = firsts.Nu; named = refl; found = refl; parts = record { algebra = a; arity = k; is = refl; named = r.spelled.1.0; short = r.spelled.1.1.0; behind = refl } }
-form_of (commands.Ask (provables.Jonsson a) modes.Plain false) r = record { first = firsts.Jonsson; named = refl; found = refl; parts = record { algebra = a; is = refl; named = r.spelled.1.0; behind = refl } }
-form_of (commands.Ask (provables.Hm a) modes.Plain false) r = record { first = firsts.Hm; named = refl; found = refl; parts = record { algebra = a; is = refl; named = r.spelled.1.0; behind = refl } }
-form_of (commands.Ask (provables.Cond a n) modes.Least false) r = absurd r.formed.0
-form_of (commands.Ask (provables.Cond a n) modes.Count false) r = absurd r.formed.0
-form_of (commands.Ask (provables.Nu a k) modes.Least false) r = absurd r.formed.0
-form_of (commands.Ask (provables.Nu a k) modes.Count false) r = absurd r.formed.0
-form_of (commands.Ask (provables.Jonsson a) modes.Least false) r = absurd r.formed.0
-form_of (commands.Ask (provables.Jonsson a) modes.Count false) r = absurd r.formed.0
-form_of (commands.Ask (provables.Hm a) modes.Least false) r = absurd r.formed.0
-form_of (commands.Ask (provables.Hm a) modes.Count false) r = absurd r.formed.0
-form_of (commands.Types a) r = record { first = firsts.Types; named = refl; found = refl; parts = record { algebra = a; is = refl; named = r.spelled.1.0; behind = refl } }
-form_of (commands.Day a) r = record { first = firsts.Day; named = refl; found = refl; parts = record { algebra = a; is = refl; named = r.spelled.1.0; behind = refl } }
-form_of (commands.Condition a k is) r = record { first = firsts.Condition; named = refl; found = refl; parts = record { algebra = a; arity = k; identities = is; is = refl; named = r.spelled.1.0; short = r.spelled.1.1.0; behind = refl } }
-form_of (commands.Clone a k kind ps) r = not_built (codes "clone") refl r.spelled.0
-form_of (commands.Ask what m true) r = not_built (codes "cert") refl r.spelled.0
-form_of (commands.Check a json) r = not_built (codes "check") refl r.spelled.0
+form_of (commands.Series a kind) r p = record { first = firsts.Series; named = refl; found = refl; parts = record { algebra = a; kind = kind; is = refl; named = r.spelled.1.0; behind = refl } }
+form_of {v} (commands.Make place name what) r p = record { first = firsts.Make; named = refl; found = refl; parts = record { place = place; name = name; what = what; is = refl; named = r.spelled.1.0; short = short_construction v what r.formed r.spelled.1.1; behind = refl } }
+form_of (commands.Ask (provables.Cond a n) modes.Plain false) r p = record { first = firsts.Cond; named = refl; found = refl; parts = record { algebra = a; condition = n; is = refl; named = r.spelled.1.0; behind = refl } }
+form_of (commands.Ask (provables.Nu a k) modes.Plain false) r p = record { first = firsts.Nu; named = refl; found = refl; parts = record { algebra = a; arity = k; is = refl; named = r.spelled.1.0; short = r.spelled.1.1.0; behind = refl } }
+form_of (commands.Ask (provables.Jonsson a) modes.Plain false) r p = record { first = firsts.Jonsson; named = refl; found = refl; parts = record { algebra = a; is = refl; named = r.spelled.1.0; behind = refl } }
+form_of (commands.Ask (provables.Hm a) modes.Plain false) r p = record { first = firsts.Hm; named = refl; found = refl; parts = record { algebra = a; is = refl; named = r.spelled.1.0; behind = refl } }
+form_of (commands.Ask (provables.Cond a n) modes.Least false) r p = absurd r.formed.0
+form_of (commands.Ask (provables.Cond a n) modes.Count false) r p = absurd r.formed.0
+form_of (commands.Ask (provables.Nu a k) modes.Least false) r p = absurd r.formed.0
+form_of (commands.Ask (provables.Nu a k) modes.Count false) r p = absurd r.formed.0
+form_of (commands.Ask (provables.Jonsson a) modes.Least false) r p = absurd r.formed.0
+form_of (commands.Ask (provables.Jonsson a) modes.Count false) r p = absurd r.formed.0
+form_of (commands.Ask (provables.Hm a) modes.Least false) r p = absurd r.formed.0
+form_of (commands.Ask (provables.Hm a) modes.Count false) r p = absurd r.formed.0
+form_of (commands.Types a) r p = record { first = firsts.Types; named = refl; found = refl; parts = record { algebra = a; is = refl; named = r.spelled.1.0; behind = refl } }
+form_of (commands.Day a) r p = record { first = firsts.Day; named = refl; found = refl; parts = record { algebra = a; is = refl; named = r.spelled.1.0; behind = refl } }
+form_of (commands.Condition a k is) r p = record { first = firsts.Condition; named = refl; found = refl; parts = record { algebra = a; arity = k; identities = is; is = refl; named = r.spelled.1.0; short = r.spelled.1.1.0; behind = refl } }
+form_of (commands.Clone a k kind ps) r p = record { first = firsts.Clone; named = refl; found = refl; parts = record { algebra = a; arity = k; kind = kind; values = ps; is = refl; named = r.spelled.1.0; short = r.spelled.1.1.0; short_values = short_points ps r.spelled.1.1.1.1; behind = refl } }
+form_of (commands.Ask what m true) r p = cc
+form_of (commands.Check a json) r p = record { first = firsts.Check; named = refl; found = refl; parts = record { algebra = a; json = json; is = refl; named = r.spelled.1.0; behind = refl } }
 
 pub close_front : (c : Command) (rest ws : List Wanted) (ts : List Placed) (q : IsClose c rest) → Front ts (rest ++ ws) [] → Front ts (word q.algebra ∷ number roles.Amount q.width ∷ (flat_map vector q.gens ++ (mode q.asked ++ ws))) []
 close_front c rest ws ts q f = subst (λ z. Front ts (word q.algebra ∷ number roles.Amount q.width ∷ z) []) (append_assoc (flat_map vector q.gens) (mode q.asked) ws) (subst (λ z. Front ts (z ++ ws) []) q.behind f)
@@ -425,8 +427,8 @@ pub plain_front : (rest text ws : List Wanted) (ts : List Placed) → rest ≡ t
 plain_front rest text ws ts e f = subst (λ z. Front ts (z ++ ws) []) e f
 
 -- the parts of the command whose word was found
-pub form_found : {v : ℕ} (c : Command) (r : IsReadableItem v (items.Command c)) (text : List ℕ) (found : Option FirstWord) (first : FirstWord) → text ≡ (begun c).word → found ≡ found_first text first_words → found ≡ Some first → IsForm first c (begun c).rest
-form_found c r text found first t e s =
-    let m = form_of c r in
+pub form_found : {v : ℕ} (c : Command) (r : IsReadableItem v (items.Command c)) (p : is_certified c ≡ false) (text : List ℕ) (found : Option FirstWord) (first : FirstWord) → text ≡ (begun c).word → found ≡ found_first text first_words → found ≡ Some first → IsForm first c (begun c).rest
+form_found c r p text found first t e s =
+    let m = form_of c r p in
     let is : m.first ≡ first = let h = sym m.found ∙ sym (ap (λ z. found_first z first_words) t) ∙ sym e ∙ s in cc in
     subst (λ z. IsForm z c (begun c).rest) is m.parts

@@ -19,7 +19,7 @@ ghost use Rattle.ua_script.specs.declared.script.Item.{Item};
 ghost use Rattle.ua_term.specs.Phrases.{Phrase, IsNested};
 ghost use Rattle.ua_term.specs.Terms.{term};
 ghost use Rattle.ua_script.specs.Grammar.{word, number, vector, mode, command};
-ghost use Rattle.ua_script.specs.Reading.{IsShort, IsShortVector, begins_item, IsReadableItem, first_words, found_first};
+ghost use Rattle.ua_script.specs.Reading.{IsShort, IsShortVector, begins_item, IsReadableItem, is_certified, certified, first_words, found_first};
 
 use crate::clones::clone_membership;
 use crate::conditions::{cond, condition, day, hm, jonsson, nu};
@@ -28,9 +28,10 @@ use crate::constructions::make;
 use crate::readers::{amount, mode, place_of, vector, vectors, word};
 use crate::script::{Command, Mode, Provable};
 use std::alloc::Global;
+use ua_table::Listed;
 use ua_table::limits::NESTING;
 use ua_term::term;
-use ua_text::{Miss, Tokens, exact, next};
+use ua_text::{Miss, Tokens, exact, is_next, next};
 
 /// A `close` behind its first word.
 fn close(alloc: Global, tokens: &mut Tokens<'_>) -> Result<Command, Miss>
@@ -162,6 +163,35 @@ fn hom(alloc: Global, tokens: &mut Tokens<'_>) -> Result<Command, Miss>
     })
 }
 
+/// A `check` behind its first word.
+fn check(alloc: Global, tokens: &mut Tokens<'_>) -> Result<Command, Miss>
+    ensures only { (a : Word) (json : List ℕ) (ws : List Wanted) → is_name a.name ≡ true → Front (tokens_left tokens.old) (word a ∷ sign Role.Json json ∷ ws) [] → Gives result (λ x. (x ≡ Command.Check a json) × Front (tokens_left tokens.new) ws []) }
+    ensures progress { IfOk result (λ x. length (tokens_left tokens.new) < length (tokens_left tokens.old)) }
+    ensures source { source_of tokens.new ≡ source_of tokens.old }
+{
+    let algebra = word(alloc, tokens)?;
+    let token = next(tokens)?;
+    let json = Vec::from_slice(alloc, token.text)?;
+    Ok(Command::Check {
+        algebra,
+        json: Listed::new(json),
+    })
+}
+
+/// The same question, with a certificate.
+fn certified(asked: Command) -> Command
+    ensures { result ≡ certified asked }
+{
+    match asked {
+        Command::Ask { what, mode, .. } => Command::Ask {
+            what,
+            mode,
+            cert: true,
+        },
+        other => other,
+    }
+}
+
 /// The commands that are built.
 #[derive(Clone, Copy)]
 enum FirstWord {
@@ -187,6 +217,7 @@ enum FirstWord {
     Condition,
     Clone,
     Make,
+    Check,
 }
 
 impl FirstWord {
@@ -220,6 +251,7 @@ impl FirstWord {
             FirstWord::Condition => b"condition",
             FirstWord::Clone => b"clone",
             FirstWord::Make => b"make",
+            FirstWord::Check => b"check",
         }
     }
 }
@@ -247,6 +279,7 @@ const FIRST_WORDS: &[FirstWord] = &[
     FirstWord::Condition,
     FirstWord::Clone,
     FirstWord::Make,
+    FirstWord::Check,
 ];
 
 /// The command that begins with this word.
@@ -261,9 +294,9 @@ fn first_word(text: &[u8]) -> Option<FirstWord>
     None
 }
 
-/// A command.
-pub fn command(alloc: Global, tokens: &mut Tokens<'_>) -> Result<Command, Miss>
-    ensures only { (v : ℕ) (c : Command) (ws : List Wanted) → IsReadableItem v (Item.Command c) → begins_item ws → Front (tokens_left tokens.old) (command c ++ ws) [] → Gives result (λ x. (x ≡ c) × Front (tokens_left tokens.new) ws []) }
+/// A command without a certificate.
+fn plain(alloc: Global, tokens: &mut Tokens<'_>) -> Result<Command, Miss>
+    ensures only { (v : ℕ) (c : Command) (ws : List Wanted) → IsReadableItem v (Item.Command c) → is_certified c ≡ false → begins_item ws → Front (tokens_left tokens.old) (command c ++ ws) [] → Gives result (λ x. (x ≡ c) × Front (tokens_left tokens.new) ws []) }
     ensures progress { IfOk result (λ x. length (tokens_left tokens.new) < length (tokens_left tokens.old)) }
     ensures source { source_of tokens.new ≡ source_of tokens.old }
 {
@@ -291,6 +324,20 @@ pub fn command(alloc: Global, tokens: &mut Tokens<'_>) -> Result<Command, Miss>
         Some(FirstWord::Condition) => condition(alloc, tokens),
         Some(FirstWord::Clone) => clone_membership(alloc, tokens),
         Some(FirstWord::Make) => make(alloc, place_of(&first), tokens),
+        Some(FirstWord::Check) => check(alloc, tokens),
         None => Err(Miss::Other),
     }
+}
+
+/// A command.
+pub fn command(alloc: Global, tokens: &mut Tokens<'_>) -> Result<Command, Miss>
+    ensures only { (v : ℕ) (c : Command) (ws : List Wanted) → IsReadableItem v (Item.Command c) → begins_item ws → Front (tokens_left tokens.old) (command c ++ ws) [] → Gives result (λ x. (x ≡ c) × Front (tokens_left tokens.new) ws []) }
+    ensures progress { IfOk result (λ x. length (tokens_left tokens.new) < length (tokens_left tokens.old)) }
+    ensures source { source_of tokens.new ≡ source_of tokens.old }
+{
+    if is_next(tokens, b"cert") {
+        exact(tokens, b"cert")?;
+        return Ok(certified(plain(alloc, tokens)?));
+    }
+    plain(alloc, tokens)
 }

@@ -19,6 +19,19 @@ pub fn put_word(printer: &mut Printer, w: &Word) -> Result<(), AllocError>
     printer.put(Role::Named, w.name.text())
 }
 
+/// Prints a word, which is there for this, and a name.
+pub fn put_named(
+    printer: &mut Printer,
+    first: Role,
+    text: &[u8],
+    algebra: &Word,
+) -> Result<(), AllocError>
+    ensures { OnOk result (Shows printer.old printer.new (sign first text.now ∷ word algebra.now ∷ [])) }
+{
+    printer.put(first, text)?;
+    put_word(printer, algebra)
+}
+
 /// Prints a number.
 pub fn put_number(printer: &mut Printer, role: Role, n: &Number) -> Result<(), AllocError>
     ensures { OnOk result (Shows printer.old printer.new (number role n.now ∷ [])) }

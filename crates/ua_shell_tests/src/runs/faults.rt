@@ -50,7 +50,7 @@ fn faults_of_blocks(rt: HostRuntime) -> Result<(), Fail> {
             19,
             FaultKind::Value,
         ),
-        ("algebra M size 2 end check M {}", 1, 22, FaultKind::Unbuilt),
+        ("algebra M size 2 end check M 1", 1, 30, FaultKind::Word),
         ("algebra M size 2 end algebra M", 1, 30, FaultKind::Name),
         ("algebra", 1, 8, FaultKind::End),
     ] {

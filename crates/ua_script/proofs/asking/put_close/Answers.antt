@@ -1,0 +1,14 @@
+use Rattle.std.proofs.Common.{◌∷◌, [], codes}
+use Rattle.std.specs.List.{flat_map}
+use Rattle.ua_text.specs.declared.symbols.Role.TheVariants as roles
+use Rattle.ua_text.specs.Signs.{sign}
+use Rattle.ua_text.proofs.Prints.{shows_both, on_ok}
+use Rattle.ua_script.specs.Grammar.{word, number, vector}
+use Rattle.ua_script.proofs.asking.put_close.Goals as goal
+
+pub returns : goal.returns
+returns c =
+    let p = c.args.printer.now in
+    let named = shows_both p c.put.new.self c.put_word.new.printer (sign c.args.first (codes "close") ∷ []) (word c.args.algebra.now ∷ []) c.in_ok-put.ensures c.in_ok-put_word.ensures in
+    let wide = shows_both p c.put_word.new.printer c.put_number.new.printer (sign c.args.first (codes "close") ∷ word c.args.algebra.now ∷ []) (number roles.Amount c.args.width.now ∷ []) named c.in_ok-put_number.ensures in
+    on_ok c.put_vectors.result c.put_vectors.ensures (λ m. shows_both p c.put_number.new.printer c.put_vectors.new.printer (sign c.args.first (codes "close") ∷ word c.args.algebra.now ∷ number roles.Amount c.args.width.now ∷ []) (flat_map vector c.args.gens.now) wide m)
