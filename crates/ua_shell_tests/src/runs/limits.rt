@@ -50,7 +50,10 @@ fn the_least_budget(rt: HostRuntime) -> Result<(), Fail> {
             ("free One 8", "closed 1\n[0] 0 gen 0\n"),
             ("nu One 3", "yes 1\n0 gen 0\n"),
             ("nu One 16", "yes 1\n0 gen 0\n"),
-            ("con One", "congruences 1\n0 |0|\ncovers 0\njoin irreducibles\n"),
+            (
+                "con One",
+                "congruences 1\n0 |0|\ncovers 0\njoin irreducibles\n",
+            ),
         ],
     )
 }
