@@ -28,20 +28,23 @@ def scripts():
     yield "one byte more", [], padded(front, back, SCRIPT + 1), 7, b""
     yield "one byte more at the end", [], padded(front, back, SCRIPT) + b"\n", 7, b""
     values = b" 0" * (53**4 - 1) + b" 52"
-    script = b"algebra T size 53 op f 4 =" + values + b" end eval T f(x0, x0, x0, x0) [52] eval T f(x0, x0, x0, x1) [52 51]"
+    block = b"algebra T size 53 op f 4 =" + values + b" end "
+    script = block + b"eval T f(x0, x0, x0, x0) [52] eval T f(x0, x0, x0, x1) [52 51]"
     yield "table of nearly 16 MiB", [], script, 0, b"value 52\nvalue 0\n"
 
 
 def tables():
-    """Products with as many values as an algebra may have, and with one more: the second argument of four is the value."""
+    """Products with as many values as an algebra may have, and with one more: the value is the second of four."""
     def second(size):
         return b"".join(b" %d" % b * size**2 for _ in range(size) for b in range(size))
 
     def factor(more):
-        return b"algebra A size 8\nop f 4 =" + second(8) + more + b"\nend\nmake P product A A\neval P f(x1, x0, x1, x1) [63 0]"
+        block = b"algebra A size 8\nop f 4 =" + second(8) + more + b"\nend\n"
+        return block + b"make P product A A\neval P f(x1, x0, x1, x1) [63 0]"
 
     assert 64**4 == VALUES
-    yield "16,777,216 values", [], factor(b""), 0, b"algebra P size 64\nop f 4 =" + second(64) + b"\nend\nvalue 63\n"
+    product = b"algebra P size 64\nop f 4 =" + second(64) + b"\nend\n"
+    yield "16,777,216 values", [], factor(b""), 0, product + b"value 63\n"
     yield "one value more", [], factor(b"\nop c 0 = 0"), 0, b"error size 5:1\nerror unknown 6:6\n"
 
 
@@ -70,7 +73,8 @@ def main():
     count = 0
     for name, words, script, status, out in itertools.chain(scripts(), tables(), vectors(), closures()):
         start = time.monotonic()
-        run = subprocess.run([sys.argv[1], *words], input=script, stdout=subprocess.PIPE, check=False)
+        run = subprocess.run([sys.argv[1], *words], input=script, stdout=subprocess.PIPE, stderr=subprocess.DEVNULL,
+                             check=False)
         if (run.returncode, run.stdout) != (status, out):
             sys.exit(f"{name}: status {run.returncode}, {len(run.stdout)} bytes: {run.stdout[:200]!r}")
         count += 1

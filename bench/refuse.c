@@ -1,5 +1,6 @@
-// Refuses memory to the program that it is loaded into, as bench/refused_memory.py asks in the variable REFUSE: the numbers
-// of the first and of the last allocation that is refused, counted from 1, and a descriptor that gets a byte at the first.
+// Refuses memory to the program that it is loaded into, as bench/refused_memory.py asks in the variable REFUSE: the
+// numbers of the first and of the last allocation that is refused, counted from 1, and a descriptor that gets a byte at
+// the first.
 #define _GNU_SOURCE
 #include <errno.h>
 #include <stdatomic.h>

@@ -1,10 +1,11 @@
 #!/usr/bin/env python3
 """Refuses memory to the built program, once at each of its allocations: bench/refused_memory.py PROGRAM
 
-For each script the Nth allocation alone is refused, and then each from the Nth on, for N = 1, 2, .. until a run ends before
-its Nth. A run is to end with status 0 and the whole output, or with status 6, the line of that status, and a beginning of the
-output. All scripts are run with one worker, and those whose output does not depend on the workers with four as well. The
-first run that ends otherwise is told, and the status is then 1. Needs Linux, glibc and a C compiler, as `cc` or in CC.
+For each script the Nth allocation alone is refused, and then each from the Nth on, for N = 1, 2, .. until a run ends
+before its Nth. A run is to end with status 0 and the whole output, or with status 6, the line of that status, and a
+beginning of the output. All scripts are run with one worker, and those whose output does not depend on the workers with
+four as well. The first run that ends otherwise is told, and the status is then 1. Needs Linux, glibc and a C compiler,
+as `cc` or in CC.
 """
 
 import os
@@ -20,7 +21,8 @@ SECONDS = 60
 
 MEET = "algebra M size 2 op meet 2 = 0 0 0 1 end\n"
 LATTICE = "algebra L size 2 op meet 2 = 0 0 0 1 op join 2 = 0 1 1 1 end\n"
-GROUPS = "algebra Z2 size 2 op plus 2 = 0 1 1 0 end\nalgebra Z4 size 4 op plus 2 = 0 1 2 3 1 2 3 0 2 3 0 1 3 0 1 2 end\n"
+Z2 = "algebra Z2 size 2 op plus 2 = 0 1 1 0 end\n"
+GROUPS = Z2 + "algebra Z4 size 4 op plus 2 = 0 1 2 3 1 2 3 0 2 3 0 1 3 0 1 2 end\n"
 NAMED = "version 2 algebra N size 2 names (bot top) op meet 2 = bot bot bot top end\n"
 
 # Scripts whose output is the same for every number of workers, and the words behind `--workers`.
@@ -41,14 +43,15 @@ FIXED = [
     (NAMED + "make P product N N make Q quotient P |0 1|2 3| sub P [3]", []),
     (LATTICE + "make S sub L [0] make R reduct L (join)", []),
     (MEET + 'check M {"gens":[[0,1]],"kind":"member","steps":[["gen",0]],"target":[0,1],"width":2}', []),
-    (MEET + 'check M {"gens":[[0,1]],"kind":"member","steps":[["gen",0]],"target":[1,1],"width":2} check M {"kind":1}', []),
+    (MEET + 'check M {"gens":[[0,1]],"kind":"member","steps":[["gen",0]],"target":[1,1],"width":2}', []),
+    (MEET + 'check M {"kind":1} check M {"kind":"member"}', []),
     (GROUPS + "close X 1 close Z2 1 [2] close Z2 2 [0] cg Z4 [0 1 2] make X quotient Z4 |0 1|2 3|", []),
     (GROUPS + LATTICE + "make X product Z2 L make Y sub L [] close L 67108864", []),
     (GROUPS + "close Z2 3 [1 0 0] [0 1 0] [0 0 1] count con Z4", ["--budget", "2"]),
 ]
 
 # Scripts whose output may be another at each run with more than one worker.
-FREE = [
+VARYING = [
     (MEET + "close M 2 [0 1] [1 0]", []),
     (MEET + "cert close M 2 [0 1] [1 0]", []),
     (MEET + "member M 2 [0 1] [1 0] = [0 0] member M 2 [0 1] [1 0] = [1 1]", []),
@@ -78,7 +81,7 @@ def commands():
     readme = (HERE.parent / "README.md").read_text(encoding="utf-8")
     table = re.search(r"^## Commands\n\n((?:\|.*\n)+)", readme, re.MULTILINE)[1]
     named = {word for row in table.splitlines() for word in re.findall(r"`([a-z]+)", row.split("|")[1])}
-    tried = set(" ".join(script for script, _ in FIXED + FREE).split())
+    tried = set(" ".join(script for script, _ in FIXED + VARYING).split())
     return named, tried
 
 
@@ -113,7 +116,7 @@ def is_as_wanted(ended, whole):
 
 
 def sweep(command, script, preload, last_of):
-    """Refuses each allocation in turn. The counts of the runs that ended for want of memory, and with the whole output."""
+    """Refuses each allocation in turn. How many runs ended for want of memory, and with the whole output."""
     whole = run(command, script, preload, (0, 0))
     if whole[0] != 0 or whole[2] or whole[3]:
         sys.exit(f"{command}: {script!r}: {whole}")
@@ -121,7 +124,8 @@ def sweep(command, script, preload, last_of):
     for first in range(1, LAST):
         ended = run(command, script, preload, (first, last_of(first)))
         if not is_as_wanted(ended, whole[1]):
-            sys.exit(f"{command}: {script!r}: refused {first} to {last_of(first)}: {ended}, not {whole}")
+            refused = f"refused {first} to {last_of(first)}"
+            sys.exit(f"{command}: {script!r}: {refused}: {ended}, not {whole}")
         if not ended[3]:
             return short, full
         short, full = short + (ended[0] == 6), full + (ended[0] == 0)
@@ -134,7 +138,7 @@ def main():
     named, tried = commands()
     if not named <= tried:
         sys.exit(f"no script for {named - tried}")
-    cases = [("1", case) for case in FIXED + FREE] + [("4", case) for case in FIXED]
+    cases = [("1", case) for case in FIXED + VARYING] + [("4", case) for case in FIXED]
     ways = [("one refused", lambda first: first), ("all from one on", lambda _: LAST)]
     with tempfile.TemporaryDirectory() as folder:
         preload = library(folder)
