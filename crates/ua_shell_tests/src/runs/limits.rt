@@ -92,7 +92,8 @@ fn many_operations(alloc: Global) -> Result<String, AllocError> {
 fn many_parentheses(alloc: Global) -> Result<String, AllocError> {
     let mut text = String::from_str(alloc, "algebra A size 65 op next 1 =")?;
     for number in 0..65_u32 {
-        let value = format!(in alloc; " {}", (number + 1) % 65)?;
+        let next = (number + 1) % 65;
+        let value = format!(in alloc; " {next}")?;
         text.push_str(&value)?;
     }
     text.push_str(" end eval A ")?;
