@@ -2,7 +2,7 @@
 """Compares what the built program answers at those limits that are too large for a test: bench/last_values.py PROGRAM
 
 Each case is a script, the words behind the program, and the status and the output that are wanted; its elapsed time is
-printed. The first case that is answered otherwise is told, and the status is then 1. Takes up to 2 GiB.
+printed. The first case that is answered otherwise is told, and the status is then 1. Takes up to 4 GiB.
 """
 
 import itertools
