@@ -1,0 +1,118 @@
+//! Numbers and lengths at their limits, which are taken.
+
+use super::{ANY, BOTH, Trial, rows, writes};
+use std::alloc::{AllocError, Global};
+use std::test::Fail;
+
+/// One element; as many elements as an algebra of version 1 may have; a semilattice with names of 32 bytes.
+const LARGEST: Trial = Trial {
+    fronts: BOTH,
+    blocks: "algebra One size 1 end algebra Many size 255 end
+algebra a23456789_123456789_123456789_12 size 2 op m23456789_123456789_123456789_12 2 = 0 0 0 1 end
+",
+    words: &[],
+    workers: ANY,
+};
+
+#[test]
+fn names_and_sizes(rt: HostRuntime) -> Result<(), Fail> {
+    rows(
+        &rt,
+        rt.alloc(),
+        LARGEST,
+        &[
+            (
+                "close a23456789_123456789_123456789_12 2 [0 1] [1 0] least",
+                "closed 3\n[0 0] 2 m23456789_123456789_123456789_12 1 2\n[0 1] 0 gen 0\n[1 0] 1 gen 1\n",
+            ),
+            ("sub Many [254 0]", "{0 254}\n"),
+            ("sub Many [255]", "error range 3:11\n"),
+        ],
+    )
+}
+
+#[test]
+fn the_least_budget(rt: HostRuntime) -> Result<(), Fail> {
+    let trial = Trial {
+        words: &["--budget=1"],
+        ..LARGEST
+    };
+    rows(
+        &rt,
+        rt.alloc(),
+        trial,
+        &[
+            ("close One 1", "closed 0\n"),
+            ("close One 1 [0] [0]", "closed 1\n[0] 0 gen 0\n"),
+            ("close One 999999999", "error wide 1 999999999\n"),
+            ("member One 1 [0] = [0]", "yes 1\n0 gen 0\n"),
+            ("free One 0", "closed 0\n"),
+            ("free One 8", "closed 1\n[0] 0 gen 0\n"),
+            ("nu One 3", "yes 1\n0 gen 0\n"),
+            ("nu One 16", "yes 1\n0 gen 0\n"),
+            (
+                "con One",
+                "congruences 1\n0 |0|\ncovers 0\njoin irreducibles\n",
+            ),
+        ],
+    )
+}
+
+#[test]
+fn the_greatest_budget(rt: HostRuntime) -> Result<(), Fail> {
+    let trial = Trial {
+        words: &["--budget=1000000"],
+        ..LARGEST
+    };
+    rows(
+        &rt,
+        rt.alloc(),
+        trial,
+        &[
+            ("close One 67", "closed 0\n"),
+            ("close One 68", "error wide 1 68000000\n"),
+            ("close One 1 [0]", "closed 1\n[0] 0 gen 0\n"),
+            ("free One 8", "closed 1\n[0] 0 gen 0\n"),
+        ],
+    )
+}
+
+/// A script with 64 operations, of which the last is asked for.
+fn many_operations(alloc: Global) -> Result<String, AllocError> {
+    let mut text = String::from_str(alloc, "algebra A size 64")?;
+    for number in 0..64 {
+        let operation = format!(in alloc; " op c{number} 0 = {number}")?;
+        text.push_str(&operation)?;
+    }
+    text.push_str(" end eval A c63 []")?;
+    Ok(text)
+}
+
+/// A script with a term of which 64 parentheses are open at once.
+fn many_parentheses(alloc: Global) -> Result<String, AllocError> {
+    let mut text = String::from_str(alloc, "algebra A size 65 op next 1 =")?;
+    for number in 0..65_u32 {
+        let next = (number + 1) % 65;
+        let value = format!(in alloc; " {next}")?;
+        text.push_str(&value)?;
+    }
+    text.push_str(" end eval A ")?;
+    for _ in 0..64 {
+        text.push_str("next(")?;
+    }
+    text.push_str("x0")?;
+    for _ in 0..64 {
+        text.push_str(")")?;
+    }
+    text.push_str(" [1]")?;
+    Ok(text)
+}
+
+#[test]
+fn sixty_four(rt: HostRuntime) -> Result<(), Fail> {
+    let alloc = rt.alloc();
+    let script = many_operations(alloc)?;
+    writes(&rt, alloc, &[], script.as_bytes(), b"value 63\n")?;
+    let script = many_parentheses(alloc)?;
+    writes(&rt, alloc, &[], script.as_bytes(), b"value 0\n")
+}
