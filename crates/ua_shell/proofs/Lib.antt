@@ -1,4 +1,5 @@
 mod Serving
+mod Pending
 mod Built
 mod Generating
 mod Endings

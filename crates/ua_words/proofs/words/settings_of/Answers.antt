@@ -1,5 +1,5 @@
-use Rattle.std.proofs.Common.{map, string_bytes}
-use Rattle.ua_words.proofs.OptionValues.{given_asked, no_budget, no_seed, no_workers, nothing_kept}
+use Rattle.std.proofs.Common.{map, string_bytes, arith}
+use Rattle.ua_words.proofs.OptionValues.{given_asked, no_budget, no_jobs, no_seed, no_workers, nothing_kept, too_many}
 use Rattle.ua_words.proofs.words.settings_of.Goals as goal
 
 pub returns-in_default-clause-refused : goal.returns-in_default-clause-refused
@@ -13,11 +13,15 @@ pub returns-in_default-number-2-clause-refused : goal.returns-in_default-number-
 returns-in_default-number-2-clause-refused c =
     no_budget (map string_bytes c.args.words.now) c.in_ok-values.field-0 c.in-Some.values c.in_ok-values.ensures.kept c.in-Some.is c.in_default-number-2.ensures.none
 
+pub returns-in_default-number-3-clause-refused : goal.returns-in_default-number-3-clause-refused
+returns-in_default-number-3-clause-refused c =
+    no_jobs (map string_bytes c.args.words.now) c.in_ok-values.field-0 c.in-Some.values c.in_ok-values.ensures.kept c.in-Some.is c.in_default-number-3.ensures.none
+
 pub returns-in_default-seed-clause-refused : goal.returns-in_default-seed-clause-refused
 returns-in_default-seed-clause-refused c =
     no_seed (map string_bytes c.args.words.now) c.in_ok-values.field-0 c.in-Some.values c.in_ok-values.ensures.kept c.in-Some.is c.in_default-seed.ensures.none
 
 pub returns-clause-asks : goal.returns-clause-asks
 returns-clause-asks c =
-    given_asked (map string_bytes c.args.words.now) c.in_ok-values.field-0 c.in-Some.values c.in-Some-number.workers c.in-Some-number-2.budget c.in-Some-seed.generate c.in_ok-values.ensures.given c.in-Some.is
-    c.in-Some-number.ensures.is c.in-Some-number-2.ensures.is c.in-Some-seed.ensures.is
+    given_asked (map string_bytes c.args.words.now) c.in_ok-values.field-0 c.in-Some.values c.in-Some-number.workers c.in-Some-number-2.budget c.in-Some-number-3.jobs c.in-Some-seed.generate
+    c.in_ok-values.ensures.given c.in-Some.is c.in-Some-number.ensures.is c.in-Some-number-2.ensures.is c.in-Some-number-3.ensures.is (omega arith) c.in-Some-seed.ensures.is

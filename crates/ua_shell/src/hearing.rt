@@ -1,0 +1,88 @@
+//! Commands that are heard in order, and answered side by side.
+
+ghost use Rattle.std.specs.Prelude.{◌≡◌, ◌++◌, ℕ, List, [], ◌∷◌, length, take, IfOk, OnOk};
+ghost use Rattle.ua_reply.specs.Sessions.{bounds_of};
+ghost use Rattle.ua_answer.specs.Replies.{IsBuilt, IsNamedRight, Reply, left_by};
+ghost use Rattle.ua_shell.specs.Hearing.{IsReady, Tells};
+
+use std::alloc::{AllocError, Global};
+use std::thread::Threads;
+use ua_answer::{Answered, Context, Made, answer};
+use ua_reply::{Scope, Session};
+use ua_script::Command;
+use ua_table::{Gate, Run};
+
+/// What was heard of a command.
+#[derive(Drop)]
+pub(crate) enum Heard<'a> {
+    /// What it was answered.
+    Said(Vec<u8>),
+    /// The command, which is yet to be answered, and how many blocks of the session it sees.
+    Asked { known: usize, command: &'a Command },
+}
+
+/// The answer to a command that sees the whole session.
+pub(crate) fn answer_now<'a, R: Threads + Sync, G: Gate>(
+    rt: &R,
+    alloc: Global,
+    command: &'a Command,
+    run: &Run<G>,
+    session: &Session<'_>,
+) -> Result<Answered<'a>, AllocError>
+    requires { IsBuilt command.now }
+    ensures reply { IfOk result (λ v. Reply session.now (bounds_of run.now.budget run.now.workers) command.now v.reply.items (left_by session.now v.made)) }
+    ensures named { IfOk result (λ v. IsNamedRight v.made) }
+{
+    let scope = Scope::new(session, session.len());
+    let context = Context {
+        rt,
+        alloc,
+        session: &scope,
+        run,
+    };
+    answer(&context, command)
+}
+
+/// What a command made joins the session.
+pub(crate) fn introduce<'a>(
+    session: &mut Session<'a>,
+    made: Option<Made<'a>>,
+) -> Result<(), AllocError>
+    requires { IsNamedRight made }
+    ensures { OnOk result (session.new ≡ left_by session.old made.entry) }
+{
+    match made {
+        Some(Made { name, algebra }) => session.introduce_made(name, algebra),
+        None => Ok(()),
+    }
+}
+
+/// Hears a command. A `make` is answered at once, and what it makes joins the session.
+pub(crate) fn hear<'a, R: Threads + Sync, G: Gate>(
+    rt: &R,
+    alloc: Global,
+    command: &'a Command,
+    run: &Run<G>,
+    session: &mut Session<'a>,
+) -> Result<Heard<'a>, AllocError>
+    requires { IsBuilt command.now }
+    ensures kept { OnOk result (take (length session.old) session.new ≡ session.old) }
+    ensures ready { IfOk result (IsReady session.new) }
+    ensures told { IfOk result (λ heard. (bytes : List ℕ) → Tells session.new (bounds_of run.now.budget run.now.workers) heard bytes → Reply session.old (bounds_of run.now.budget run.now.workers) command.now bytes session.new) }
+{
+    match command {
+        Command::Make {
+            place: _,
+            name: _,
+            what: _,
+        } => {
+            let Answered { reply, made } = answer_now(rt, alloc, command, run, session)?;
+            introduce(session, made)?;
+            Ok(Heard::Said(reply))
+        }
+        _ => Ok(Heard::Asked {
+            known: session.len(),
+            command,
+        }),
+    }
+}
