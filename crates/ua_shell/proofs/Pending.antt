@@ -1,7 +1,7 @@
 -- What is served so far where commands are heard before they are answered.
-use Rattle.std.proofs.Common.{◌≡◌, ℕ, suc, ◌+◌, ◌-◌, ◌<◌, ◌≤◌, length, arith, List, [], ◌∷◌, ◌++◌, Option, take, drop, refl, sym, ◌∙◌, ap, subst, inl, inr, append_assoc, append-nil}
+use Rattle.std.proofs.Common.{◌≡◌, ℕ, ◌+◌, ◌-◌, ◌≤◌, length, arith, List, [], ◌∷◌, ◌++◌, Option, take, drop, refl, sym, ◌∙◌, ap, subst, inl, inr, append_assoc, append-nil}
 use Rattle.std.proofs.lemmas.Bool.{cases_lt}
-use Rattle.std.proofs.lemmas.List.{take-append-le, take-take, length-take, take_all, drop_all}
+use Rattle.std.proofs.lemmas.List.{take-append-le, take-take, length-take, take_all}
 use Rattle.std.proofs.Math.Seq.{take-append-add}
 use Rattle.std.specs.List.{AllByRecursion}
 use Rattle.std.specs.Io.KnownBytes.{Appends}
@@ -16,9 +16,11 @@ use Rattle.ua_answer.specs.Replies.{Reply, PlainReply}
 use Rattle.ua_shell.specs.declared.hearing.Heard.{Heard}
 use Rattle.ua_shell.specs.declared.hearing.Heard.TheVariants.{Said, Asked}
 use Rattle.ua_shell.specs.Outputs.{OutputFrom, BegunFrom}
-use Rattle.ua_shell.specs.Served.{IsWritten}
-use Rattle.ua_shell.specs.Hearing.{IsReady, Tells, AreTold, bytes_of}
-use Rattle.ua_shell.proofs.Serving.{Serving, serving_start, serving_block, serving_command, serving_stop, serving_cut, serving_end, Appends_then, appends_nothing}
+use Rattle.ua_shell.specs.declared.serve.Served.{Served}
+use Rattle.ua_shell.specs.declared.serve.Served.TheVariants as served
+use Rattle.ua_shell.specs.Served.{IsWritten, Serves}
+use Rattle.ua_shell.specs.Hearing.{IsReady, Tells, IsHeard, Hears, AreTold, TellsAll, bytes_of}
+use Rattle.ua_shell.proofs.Serving.{Serving, serving_start, serving_block, serving_command, serving_stop, serving_cut, serving_end, Appends_then, appends_nothing, Rose_since}
 
 -- ---- a session that grows
 
@@ -117,7 +119,7 @@ heard_start b whole old s heard e f =
     subst (λ (t : List Block). HasHeard b whole old old t heard whole) (sym e)
     (subst (λ (hs : List Heard). HasHeard b whole old old [] hs whole) (sym f) (quiet b whole old old [] whole [] (appends_nothing old) (serving_start b whole)))
 
-pub heard_block : (b : Bounds) (whole : List Item) (old new : Option (List ℕ)) (s t : List Block) (heard : List Heard) (k : Block) (i : ℕ) → drop i whole ≡ items.Block k ∷ drop (i + 1) whole → t ≡ s ++ k ∷ []
+heard_block : (b : Bounds) (whole : List Item) (old new : Option (List ℕ)) (s t : List Block) (heard : List Heard) (k : Block) (i : ℕ) → drop i whole ≡ items.Block k ∷ drop (i + 1) whole → t ≡ s ++ k ∷ []
     → HasHeard b whole old new s heard (drop i whole) → HasHeard b whole old new t heard (drop (i + 1) whole)
 heard_block b whole old new s t heard k i e f h =
     let kept : Kept s t = ap (λ (u : List Block). take (length s) u) f ∙ take-append-le (length s) s (k ∷ []) (omega arith) ∙ take_all (length s) s (omega arith) in
@@ -143,12 +145,11 @@ cut_more b whole s t c rest sofar xs reply n said serving front = elim (cases_lt
   | inr near ↦ subst (λ bytes. BegunFrom [] b whole (sofar ++ bytes)) (sym (take-append-le n xs reply near)) front
 ]
 
-pub heard_command : (b : Bounds) (whole : List Item) (old new : Option (List ℕ)) (s t : List Block) (heard more : List Heard) (c : Command) (h : Heard) (i : ℕ) → drop i whole ≡ items.Command c ∷ drop (i + 1) whole
-    → take (length s) t ≡ s → ((bytes : List ℕ) → Tells t b h bytes → Reply s b c bytes t) → IsReady t h → more ≡ heard ++ h ∷ []
-    → HasHeard b whole old new s heard (drop i whole) → HasHeard b whole old new t more (drop (i + 1) whole)
-heard_command b whole old new s t heard more c h i e kept says ready f has =
+heard_command : (b : Bounds) (whole : List Item) (old new : Option (List ℕ)) (s t : List Block) (heard more : List Heard) (c : Command) (h : Heard) (i : ℕ) → drop i whole ≡ items.Command c ∷ drop (i + 1) whole → IsHeard b c s t h
+    → more ≡ heard ++ h ∷ [] → HasHeard b whole old new s heard (drop i whole) → HasHeard b whole old new t more (drop (i + 1) whole)
+heard_command b whole old new s t heard more c h i e is f has =
     let rest = drop (i + 1) whole in
-    let before : (replies : List (List ℕ)) → AnswerEach (Tells t b) heard replies → AnswerEach (Tells s b) heard replies = each_before s t b kept heard has.ready in
+    let before : (replies : List (List ℕ)) → AnswerEach (Tells t b) heard replies → AnswerEach (Tells s b) heard replies = each_before s t b is.kept heard has.ready in
     let here : (replies : List (List ℕ)) → AnswerEach (Tells s b) heard replies → Serving b whole s (items.Command c ∷ rest) (has.sofar ++ bytes_of replies) =
     λ replies each. subst (λ (is : List Item). Serving b whole s is (has.sofar ++ bytes_of replies)) e (has.serving replies each) in
     subst (λ (hs : List Heard). HasHeard b whole old new t hs rest) (sym f) (record {
@@ -158,13 +159,19 @@ heard_command b whole old new s t heard more c h i e kept says ready f has =
       serving = λ replies each.
           let end = ends_with t b heard h replies each in
           subst (Serving b whole t rest) (append_assoc has.sofar (bytes_of end.first) end.last ∙ ap (λ bytes. has.sofar ++ bytes) (sym end.bytes))
-          (serving_command b whole s t c rest (has.sofar ++ bytes_of end.first) end.last (says end.last end.told) (here end.first (before end.first end.each)));
+          (serving_command b whole s t c rest (has.sofar ++ bytes_of end.first) end.last (is.says end.last end.told) (here end.first (before end.first end.each)));
       cut = λ replies n each.
           let end = ends_with t b heard h replies each in
           subst (λ bytes. BegunFrom [] b whole (has.sofar ++ take n bytes)) (sym end.bytes)
-          (cut_more b whole s t c rest has.sofar (bytes_of end.first) end.last n (says end.last end.told) (here end.first (before end.first end.each)) (has.cut end.first n (before end.first end.each)));
-      ready = all_more (IsReady t) heard h (all_ready_more s t kept heard has.ready) ready;
+          (cut_more b whole s t c rest has.sofar (bytes_of end.first) end.last n (is.says end.last end.told) (here end.first (before end.first end.each)) (has.cut end.first n (before end.first end.each)));
+      ready = all_more (IsReady t) heard h (all_ready_more s t is.kept heard has.ready) is.ready;
     })
+
+pub heard_item : (b : Bounds) (whole : List Item) (old new : Option (List ℕ)) (s t : List Block) (before after : List Heard) (x : Item) (i : ℕ) → drop i whole ≡ x ∷ drop (i + 1) whole → Hears b x s t before after
+    → HasHeard b whole old new s before (drop i whole) → HasHeard b whole old new t after (drop (i + 1) whole)
+heard_item b whole old new s t before after (items.Block k) i e hears has =
+    subst (λ (hs : List Heard). HasHeard b whole old new t hs (drop (i + 1) whole)) (sym hears.1) (heard_block b whole old new s t before k i e hears.0 has)
+heard_item b whole old new s t before after (items.Command c) i e hears has = heard_command b whole old new s t before after c hears.0 i e hears.1 hears.2 has
 
 -- all that was heard is told
 pub heard_told : (b : Bounds) (whole : List Item) (old new after : Option (List ℕ)) (s : List Block) (heard none : List Heard) (rest : List Item) → none ≡ [] → AreTold s b heard (Appends new after)
@@ -174,11 +181,11 @@ heard_told b whole old new after s heard none rest e told h =
     (quiet b whole old after s rest (h.sofar ++ bytes_of told.replies) (Appends_then old new after h.sofar (bytes_of told.replies) h.appended told.written) (h.serving told.replies told.each))
 
 -- nothing more is told
-pub heard_stop : (b : Bounds) (whole : List Item) (old new : Option (List ℕ)) (s : List Block) (heard : List Heard) (rest : List Item) → HasHeard b whole old new s heard rest → IsWritten old new (BegunFrom [] b whole)
+heard_stop : (b : Bounds) (whole : List Item) (old new : Option (List ℕ)) (s : List Block) (heard : List Heard) (rest : List Item) → HasHeard b whole old new s heard rest → IsWritten old new (BegunFrom [] b whole)
 heard_stop b whole old new s heard rest h = record { out = h.sofar; kind = h.begun; appended = h.appended }
 
 -- a front of what was heard is told
-pub heard_cut : (b : Bounds) (whole : List Item) (old new after : Option (List ℕ)) (s : List Block) (heard : List Heard) (rest : List Item) → AreTold s b heard (AppendsFront new after)
+heard_cut : (b : Bounds) (whole : List Item) (old new after : Option (List ℕ)) (s : List Block) (heard : List Heard) (rest : List Item) → AreTold s b heard (AppendsFront new after)
     → HasHeard b whole old new s heard rest → IsWritten old after (BegunFrom [] b whole)
 heard_cut b whole old new after s heard rest told h = record {
   out = h.sofar ++ take told.written.0 (bytes_of told.replies);
@@ -187,10 +194,19 @@ heard_cut b whole old new after s heard rest told h = record {
 }
 
 -- all items are heard, and what was heard of them is told
-pub heard_all : (b : Bounds) (whole : List Item) (old new after : Option (List ℕ)) (s : List Block) (heard : List Heard) (i : ℕ) → length whole ≤ i → AreTold s b heard (Appends new after)
-    → HasHeard b whole old new s heard (drop i whole) → IsWritten old after (OutputFrom [] b whole)
-heard_all b whole old new after s heard i far told h = record {
+heard_all : (b : Bounds) (whole : List Item) (old new after : Option (List ℕ)) (s : List Block) (heard : List Heard) (rest : List Item) → rest ≡ [] → AreTold s b heard (Appends new after)
+    → HasHeard b whole old new s heard rest → IsWritten old after (OutputFrom [] b whole)
+heard_all b whole old new after s heard rest none told h = record {
   out = h.sofar ++ bytes_of told.replies;
-  kind = serving_end b whole s (h.sofar ++ bytes_of told.replies) (subst (λ (is : List Item). Serving b whole s is (h.sofar ++ bytes_of told.replies)) (drop_all i whole far) (h.serving told.replies told.each));
+  kind = serving_end b whole s (h.sofar ++ bytes_of told.replies) (subst (λ (is : List Item). Serving b whole s is (h.sofar ++ bytes_of told.replies)) none (h.serving told.replies told.each));
   appended = Appends_then old new after h.sofar (bytes_of told.replies) h.appended told.written;
 }
+
+-- what was heard is told, and no items are left; or it is not told
+pub heard_end : {K : Type 0} (written : K → Option (List ℕ)) (faults : K → ℕ) (b : Bounds) (whole : List Item) (start old new : K) (s : List Block) (heard : List Heard) (rest : List Item) (end : Served) → (end ≡ served.Done → rest ≡ [])
+    → TellsAll written faults s b heard old new end → faults start ≤ faults old → faults old ≤ faults new → HasHeard b whole (written start) (written old) s heard rest → Serves written faults b whole start new end
+heard_end written faults b whole start old new s heard rest served.Done none told rose more h = heard_all b whole (written start) (written old) (written new) s heard rest (none refl) told h
+heard_end written faults b whole start old new s heard rest served.WriteFault none told rose more h =
+    (heard_cut b whole (written start) (written old) (written new) s heard rest told.0 h, Rose_since (faults start) (faults old) (faults new) rose more told.1)
+heard_end {K} written faults b whole start old new s heard rest served.OutOfMemory none told rose more h =
+    subst (λ (k : K). IsWritten (written start) (written k) (BegunFrom [] b whole)) (sym told) (heard_stop b whole (written start) (written old) s heard rest h)

@@ -1,12 +1,15 @@
 -- What was heard of commands, and what is told of it.
-use Rattle.std.specs.Prelude.{◌≡◌, ℕ, ◌≤◌, List, length, take, Option}
+use Rattle.std.specs.Prelude.{◌≡◌, ℕ, ◌≤◌, List, [], ◌∷◌, ◌++◌, length, take, Option}
 use Rattle.std.specs.List.{flat_map}
 use Rattle.std.specs.Io.KnownBytes.{Appends}
 use Rattle.ua_io.specs.Faults.{Rose, AppendsFront}
 use Rattle.ua_text.specs.declared.named.Block.{Block}
+use Rattle.ua_script.specs.declared.script.Command.{Command}
+use Rattle.ua_script.specs.declared.script.Item.{Item}
+use Rattle.ua_script.specs.declared.script.Item.TheVariants as items
 use Rattle.ua_jobs.specs.Harvests.{AnswerEach}
 use Rattle.ua_reply.specs.Sessions.{Bounds}
-use Rattle.ua_answer.specs.Replies.{IsPlainBuilt, PlainReply}
+use Rattle.ua_answer.specs.Replies.{IsPlainBuilt, PlainReply, Reply}
 use Rattle.ua_shell.specs.declared.hearing.Heard.{Heard}
 use Rattle.ua_shell.specs.declared.hearing.Heard.TheVariants.{Said, Asked}
 use Rattle.ua_shell.specs.declared.serve.Served.{Served}
@@ -21,6 +24,17 @@ IsReady s (Asked known command) = IsPlainBuilt command.now × (known ≤ length 
 abbrev pub Tells : List Block → Bounds → Heard → List ℕ → Type 0
 Tells s b (Said reply) bytes = bytes ≡ reply.items
 Tells s b (Asked known command) bytes = PlainReply (take known s) b command.now bytes
+
+-- what was heard of a command goes on with the session s to t, and whatever it tells there is a reply to the command
+pub record IsHeard (b : Bounds) (c : Command) (s t : List Block) (heard : Heard) : Type 0 where
+  pub kept : take (length s) t ≡ s
+  pub ready : IsReady t heard
+  pub says : (bytes : List ℕ) → Tells t b heard bytes → Reply s b c bytes t
+
+-- an item is heard: a block joins the session, what was heard of a command stands last
+abbrev pub Hears : Bounds → Item → (s t : List Block) → (before after : List Heard) → Type 0
+Hears b (items.Block k) s t before after = (t ≡ s ++ k ∷ []) × (after ≡ before)
+Hears b (items.Command c) s t before after = (heard : Heard) × IsHeard b c s t heard × (after ≡ before ++ heard ∷ [])
 
 -- the bytes of some replies, one after another
 abbrev pub bytes_of : List (List ℕ) → List ℕ

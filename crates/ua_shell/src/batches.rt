@@ -69,7 +69,7 @@ fn replies_to<R: Threads + Wait + Sync, G: Gate>(
     ensures { IfOk result (λ replies. AnswerEach (Tells session.now (bounds_of run.now.budget run.now.workers)) heard.now (map (λ v. v.items) replies.items)) }
 {
     let work = |number: u32|
-        requires { IsSync R.row × IsSync G.row × (number < length heard.now) }
+        requires { IsSync R.row × IsSync G.row × AllByRecursion (IsReady session.now) heard.now × (number < length heard.now) }
         ensures { IfOk result (IsAnswer (λ (h : Heard) v. Tells session.entry.now (bounds_of run.entry.now.budget run.entry.now.workers) h v.items) heard.entry.now number) }
     { reply_to(rt, alloc, &heard[number as usize], run, session) };
     batch_with(rt, alloc, heard.len() as u32, jobs, &FreeGate, &work)
@@ -136,21 +136,9 @@ pub fn serve_batches<R: Threads + Wait + Sync, K: Sink, G: Gate>(
     let mut session = Session::new(alloc);
     let mut heard = Vec::new(alloc);
     for item in items {
-        match item {
-            Item::Block(block) => {
-                let Ok(()) = session.introduce(block) else {
-                    return Served::OutOfMemory;
-                };
-            }
-            Item::Command(command) => {
-                let Ok(one) = hear(rt, alloc, command, run, &mut session) else {
-                    return Served::OutOfMemory;
-                };
-                let Ok(()) = heard.push(one) else {
-                    return Served::OutOfMemory;
-                };
-            }
-        }
+        let Ok(()) = hear(rt, alloc, item, run, &mut session, &mut heard) else {
+            return Served::OutOfMemory;
+        };
         if heard.len() >= JOBS as usize {
             let served = tell(rt, alloc, &heard, run, jobs, &session, sink);
             let Served::Done = served else {

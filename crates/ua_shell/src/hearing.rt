@@ -1,15 +1,16 @@
 //! Commands that are heard in order, and answered side by side.
 
-ghost use Rattle.std.specs.Prelude.{◌≡◌, ◌++◌, ℕ, List, [], ◌∷◌, length, take, IfOk, OnOk};
+ghost use Rattle.std.specs.Prelude.{◌≡◌, IfOk, OnOk};
 ghost use Rattle.ua_reply.specs.Sessions.{bounds_of};
 ghost use Rattle.ua_answer.specs.Replies.{IsBuilt, IsNamedRight, Reply, left_by};
-ghost use Rattle.ua_shell.specs.Hearing.{IsReady, Tells};
+ghost use Rattle.ua_shell.specs.Hearing.{IsHeard, Hears};
+ghost use Rattle.ua_shell.specs.Outputs.{IsServed};
 
 use std::alloc::{AllocError, Global};
 use std::thread::Threads;
 use ua_answer::{Answered, Context, Made, answer};
 use ua_reply::{Scope, Session};
-use ua_script::Command;
+use ua_script::{Command, Item};
 use ua_table::{Gate, Run};
 
 /// What was heard of a command.
@@ -57,8 +58,8 @@ pub(crate) fn introduce<'a>(
     }
 }
 
-/// Hears a command. A `make` is answered at once, and what it makes joins the session.
-pub(crate) fn hear<'a, R: Threads + Sync, G: Gate>(
+/// What is heard of a command. A `make` is answered at once, and what it makes joins the session.
+fn hear_command<'a, R: Threads + Sync, G: Gate>(
     rt: &R,
     alloc: Global,
     command: &'a Command,
@@ -66,9 +67,7 @@ pub(crate) fn hear<'a, R: Threads + Sync, G: Gate>(
     session: &mut Session<'a>,
 ) -> Result<Heard<'a>, AllocError>
     requires { IsBuilt command.now }
-    ensures kept { OnOk result (take (length session.old) session.new ≡ session.old) }
-    ensures ready { IfOk result (IsReady session.new) }
-    ensures told { IfOk result (λ heard. (bytes : List ℕ) → Tells session.new (bounds_of run.now.budget run.now.workers) heard bytes → Reply session.old (bounds_of run.now.budget run.now.workers) command.now bytes session.new) }
+    ensures { IfOk result (IsHeard (bounds_of run.now.budget run.now.workers) command.now session.old session.new) }
 {
     match command {
         Command::Make {
@@ -85,4 +84,26 @@ pub(crate) fn hear<'a, R: Threads + Sync, G: Gate>(
             command,
         }),
     }
+}
+
+/// Hears an item, behind what was heard before it.
+pub(crate) fn hear<'a, R: Threads + Sync, G: Gate>(
+    rt: &R,
+    alloc: Global,
+    item: &'a Item,
+    run: &Run<G>,
+    session: &mut Session<'a>,
+    heard: &mut Vec<Heard<'a>>,
+) -> Result<(), AllocError>
+    requires { IsServed item.now }
+    ensures { OnOk result (Hears (bounds_of run.now.budget run.now.workers) item.now session.old session.new heard.old.items heard.new.items) }
+{
+    match item {
+        Item::Block(block) => session.introduce(block)?,
+        Item::Command(command) => {
+            let one = hear_command(rt, alloc, command, run, session)?;
+            heard.push(one)?;
+        }
+    }
+    Ok(())
 }
