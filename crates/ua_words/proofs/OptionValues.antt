@@ -96,25 +96,61 @@ plain_choices (c ∷ choices) once asked = by_name c.name refl (plain_choices ch
         let own : IsNumber USUAL_WORKERS WORKERS (Some c.value) asked.workers = rw e at asked.is_workers in
         let none : value_of Workers choices ≡ None = rw e at once.0 in (
           number_plain USUAL_WORKERS WORKERS c.value asked.workers (lit< tt) own,
-          rest (record asked { workers = USUAL_WORKERS; is_workers = rw none refl; is_budget = rw e at asked.is_budget; is_jobs = rw e at asked.is_jobs; is_seed = rw e at asked.is_seed }),
+          rest (record {
+            workers = USUAL_WORKERS;
+            is_workers = rw none refl;
+            budget = asked.budget;
+            is_budget = rw e at asked.is_budget;
+            jobs = asked.jobs;
+            is_jobs = rw e at asked.is_jobs;
+            seed = asked.seed;
+            is_seed = rw e at asked.is_seed;
+          }),
         )
     by_name Budget e rest =
         let own : IsNumber USUAL_BUDGET BUDGET (Some c.value) asked.budget = rw e at asked.is_budget in
         let none : value_of Budget choices ≡ None = rw e at once.0 in (
           number_plain USUAL_BUDGET BUDGET c.value asked.budget (lit< tt) own,
-          rest (record asked { is_workers = rw e at asked.is_workers; budget = USUAL_BUDGET; is_budget = rw none refl; is_jobs = rw e at asked.is_jobs; is_seed = rw e at asked.is_seed }),
+          rest (record {
+            workers = asked.workers;
+            is_workers = rw e at asked.is_workers;
+            budget = USUAL_BUDGET;
+            is_budget = rw none refl;
+            jobs = asked.jobs;
+            is_jobs = rw e at asked.is_jobs;
+            seed = asked.seed;
+            is_seed = rw e at asked.is_seed;
+          }),
         )
     by_name Jobs e rest =
         let own : IsNumber USUAL_JOBS WORKERS (Some c.value) asked.jobs = rw e at asked.is_jobs in
         let none : value_of Jobs choices ≡ None = rw e at once.0 in (
           number_plain USUAL_JOBS WORKERS c.value asked.jobs (lit< tt) own,
-          rest (record asked { is_workers = rw e at asked.is_workers; is_budget = rw e at asked.is_budget; jobs = USUAL_JOBS; is_jobs = rw none refl; is_seed = rw e at asked.is_seed }),
+          rest (record {
+            workers = asked.workers;
+            is_workers = rw e at asked.is_workers;
+            budget = asked.budget;
+            is_budget = rw e at asked.is_budget;
+            jobs = USUAL_JOBS;
+            is_jobs = rw none refl;
+            seed = asked.seed;
+            is_seed = rw e at asked.is_seed;
+          }),
         )
     by_name Generate e rest =
         let own : IsSeed (Some c.value) asked.seed = rw e at asked.is_seed in
         let none : value_of Generate choices ≡ None = rw e at once.0 in (
           seed_plain c.value asked.seed own,
-          rest (record asked { is_workers = rw e at asked.is_workers; is_budget = rw e at asked.is_budget; is_jobs = rw e at asked.is_jobs; seed = None; is_seed = rw none refl }),
+          rest (record {
+            workers = asked.workers;
+            is_workers = rw e at asked.is_workers;
+            budget = asked.budget;
+            is_budget = rw e at asked.is_budget;
+            jobs = asked.jobs;
+            is_jobs = rw e at asked.is_jobs;
+            seed = None;
+            is_seed = rw none refl;
+          }),
         )
 
 asked_plain : (words : List Text) (s : Settings) (a : Asks words s) → AllByRecursion IsPlain a.choices

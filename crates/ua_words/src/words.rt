@@ -167,7 +167,8 @@ pub fn settings_of(alloc: Global, words: &[String]) -> Result<Option<Settings>, 
     let Some(jobs) = number(values.jobs, USUAL_JOBS, WORKERS) else {
         return Ok(None);
     };
-    if u64::from(jobs) * u64::from(workers) > u64::from(WORKERS) {
+    let together = u64::from(jobs) * u64::from(workers);
+    if together > u64::from(WORKERS) {
         return Ok(None);
     }
     let Some(generate) = seed(values.generate) else {
