@@ -1,8 +1,8 @@
 #!/usr/bin/env python3
-"""Times a script of 1,000 small commands with one job and with four: bench/jobs.py PROGRAM
+"""Times a script of 1,000 small commands with one job, with two and with four: bench/jobs.py PROGRAM
 
-Each job has one worker. For each number of jobs the least elapsed time of three runs is printed, with the processor time
-of that run, and whether the bytes are those of one job.
+Each job has one worker. For each number of jobs the least elapsed time of three runs is printed, with the processor
+time of that run, and whether the bytes are those of one job.
 """
 
 import sys
@@ -45,7 +45,8 @@ def main():
         out, elapsed, user = timed(sys.argv[1], jobs, text)
         first = first or (out, elapsed)
         same = "the same bytes" if out == first[0] else "OTHER BYTES"
-        print(f"{jobs} jobs: {elapsed:.2f} s, {user:.2f} s of processors, {first[1] / elapsed:.2f} times as fast, {same}")
+        speed = first[1] / elapsed
+        print(f"{jobs} jobs: {elapsed:.2f} s, {user:.2f} s of processors, {speed:.2f} times as fast, {same}")
 
 
 if __name__ == "__main__":
