@@ -15,12 +15,13 @@ RUNS = 3
 
 
 def script():
-    """The integers by 12 under addition, and closures in widths from 2 to 5 between congruences and commutators."""
+    """The integers by 12 under addition: closures of two unit vectors, and as many other commands."""
     size = 12
-    whole = "|" + " ".join(map(str, range(size))) + "|"
-    commands = [f"close A {width} " + " ".join(f"[{' '.join(str(int(place == unit)) for place in range(width))}]"
-                                             for unit in range(2)) + " count" for width in range(2, 6)]
-    commands += ["con A", f"comm A {whole} {whole}", "cond A maltsev", "hom A A [1] [5]"]
+    commands = []
+    for width in range(2, 6):
+        units = [" ".join(str(int(place == unit)) for place in range(width)) for unit in range(2)]
+        commands.append(f"close A {width} [{units[0]}] [{units[1]}] count")
+    commands += ["con A", "free A 2 count", "hom A A [1] [5]", "cg A [0 3]"]
     lines = [commands[number % len(commands)] for number in range(COMMANDS)]
     return (block(size, [(2, lambda a, b: (a + b) % size)]) + "\n".join(lines) + "\n").encode()
 
