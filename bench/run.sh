@@ -15,6 +15,8 @@ bench/congruences.py "$program"
 echo "== commands"
 bench/commands.py "$program"
 bench/normal_subgroups.py "$program" 14000
+echo "== jobs"
+bench/jobs.py "$program"
 echo "== certificates"
 bench/certificates.py "$program"
 echo "== closures"

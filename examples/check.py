@@ -46,7 +46,7 @@ def is_as_expected(program, words, script, reply):
 
 def endings():
     """Words, what standard input reads, a file for standard output or None, and the status and line wanted."""
-    usage = b"usage: uacalc [--workers 1..16] [--budget 1..1000000] [--generate NUMBER]\n"
+    usage = b"usage: uacalc [--workers 1..16] [--budget 1..1000000] [--jobs 1..16] [--generate NUMBER]\n"
     with tempfile.TemporaryFile() as script, tempfile.TemporaryFile() as fault, tempfile.TemporaryFile() as blanks:
         script.write(b"algebra E size 2 end con E")
         fault.write(b"algebra E size 2 end\ncon")

@@ -61,7 +61,7 @@ fn answer_provable<R: Threads + Sync, G: Gate>(
 }
 
 /// The reply to a command that leaves the session as it was.
-fn answer_plain<R: Threads + Sync, G: Gate>(
+pub fn answer_plain<R: Threads + Sync, G: Gate>(
     context: &Context<R, G>,
     command: &Command,
 ) -> Result<Vec<u8>, AllocError>

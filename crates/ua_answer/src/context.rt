@@ -2,7 +2,7 @@
 
 use std::alloc::Global;
 use std::thread::Threads;
-use ua_reply::Session;
+use ua_reply::Scope;
 use ua_table::{Gate, Run};
 
 /// What every command is answered with: the runtime, memory, what the script has introduced before it, and
@@ -11,6 +11,6 @@ use ua_table::{Gate, Run};
 pub struct Context<'a, 's, 'g, R: Threads + Sync, G: Gate> {
     pub rt: &'a R,
     pub alloc: Global,
-    pub session: &'a Session<'s>,
+    pub session: &'a Scope<'a, 's>,
     pub run: &'a Run<'g, G>,
 }

@@ -32,5 +32,5 @@ mod texts;
 mod types;
 
 pub use answered::{Answered, Made};
-pub use answers::answer;
+pub use answers::{answer, answer_plain};
 pub use context::Context;

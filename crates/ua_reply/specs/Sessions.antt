@@ -1,5 +1,5 @@
 -- What a session knows of the names that a script has introduced, and the bounds of a run.
-use Rattle.std.specs.Prelude.{◌≡◌, ℕ, ◌<◌, nat_eq, List, length, find, slice_get, Option, None, MatchOption}
+use Rattle.std.specs.Prelude.{◌≡◌, ℕ, ◌<◌, nat_eq, List, length, take, find, slice_get, Option, None, MatchOption}
 use Rattle.std.specs.Cmp.Lexicographic.{pointwise}
 use Rattle.ua_text.specs.declared.named.Block.{Block}
 use Rattle.ua_reply.specs.declared.known.Holder.{Holder}
@@ -14,9 +14,9 @@ held (Made block) = block
 abbrev pub lookup : List Block → List ℕ → Option Block
 lookup s name = find (λ (k : Block). pointwise nat_eq k.algebra.name name) s
 
--- the place of this name, or None where the session lacks it
+-- the first place of this name, or None where the session lacks it
 abbrev pub IsPlace : List Block → List ℕ → Option ℕ → Type 0
-IsPlace s name place = MatchOption place (lookup s name ≡ None) (λ i. (i < length s) × (slice_get s i ≡ lookup s name))
+IsPlace s name place = MatchOption place (lookup s name ≡ None) (λ i. (i < length s) × (slice_get s i ≡ lookup s name) × (lookup (take i s) name ≡ None))
 
 -- so it is for each name
 abbrev pub ArePlaces : List Block → (List ℕ → Option ℕ) → Type 0

@@ -7,6 +7,7 @@ mod known;
 mod operands;
 mod parts;
 mod refusals;
+mod scope;
 mod session;
 mod texts;
 
@@ -19,6 +20,7 @@ pub use operands::{
 };
 pub use parts::{part, part_in};
 pub use refusals::{Refusal, congruence_reply, refusal_reply};
+pub use scope::Scope;
 pub use session::Session;
 pub use texts::{
     push_counted, push_element, push_more, push_origin, push_part, push_place, push_rows, push_set,

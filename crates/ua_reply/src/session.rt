@@ -1,6 +1,6 @@
 //! What a script has introduced, found by name.
 
-ghost use Rattle.std.specs.Prelude.{◌≡◌, ◌++◌, [], ◌∷◌, option_copied, OnOk, OnErr};
+ghost use Rattle.std.specs.Prelude.{◌≡◌, ◌++◌, [], ◌∷◌, length, take, option_copied, OnOk, OnErr};
 ghost use Rattle.ua_text.specs.Blocks.{unnamed};
 ghost use Rattle.ua_reply.specs.Sessions.{lookup};
 
@@ -48,11 +48,21 @@ impl<'a> Session<'a> {
         }
     }
 
-    /// What the session knows of this name.
-    pub fn find(&self, name: &[u8]) -> Option<&Known<'a>>
-        ensures { option_copied result ≡ lookup self.now name.now }
+    /// How many blocks the session has.
+    pub fn len(&self) -> usize
+        ensures { result ≡ length self.now }
+    {
+        self.knowns.len()
+    }
+
+    /// What the first blocks, as many as `count`, tell of this name.
+    pub(crate) fn find_before(&self, name: &[u8], count: usize) -> Option<&Known<'a>>
+        ensures { option_copied result ≡ lookup (take count self.now) name.now }
     {
         let place = self.places.get(name)?;
+        if *place >= count {
+            return None;
+        }
         Some(&self.knowns[*place])
     }
 

@@ -1,4 +1,7 @@
 mod Serving
+mod Pending
+mod Sending
+mod Batching
 mod Built
 mod Generating
 mod Endings

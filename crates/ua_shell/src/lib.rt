@@ -2,7 +2,9 @@
 #![tactic(auto)]
 
 mod asking;
+mod batches;
 mod generated;
+mod hearing;
 pub mod laws;
 mod run_call;
 mod serve;

@@ -1,15 +1,14 @@
 //! The items of a script, one after another.
 
-ghost use Rattle.std.specs.Prelude.{◌≡◌, OnOk};
 ghost use Rattle.std.specs.List.{AllByRecursion};
 ghost use Rattle.ua_reply.specs.Sessions.{bounds_of};
-ghost use Rattle.ua_answer.specs.Replies.{left_by, IsNamedRight};
 ghost use Rattle.ua_shell.specs.Outputs.{IsServed};
 ghost use Rattle.ua_shell.specs.Served.{Serves};
 
-use std::alloc::{AllocError, Global};
+use crate::hearing::{answer_now, introduce};
+use std::alloc::Global;
 use std::thread::Threads;
-use ua_answer::{Answered, Context, Made, answer};
+use ua_answer::Answered;
 use ua_io::{Sink, write_all};
 use ua_reply::Session;
 use ua_script::Item;
@@ -21,17 +20,6 @@ pub enum Served {
     Done,
     WriteFault,
     OutOfMemory,
-}
-
-/// What a command made joins the session.
-fn introduce<'a>(session: &mut Session<'a>, made: Option<Made<'a>>) -> Result<(), AllocError>
-    requires { IsNamedRight made }
-    ensures { OnOk result (session.new ≡ left_by session.old made.entry) }
-{
-    match made {
-        Some(Made { name, algebra }) => session.introduce_made(name, algebra),
-        None => Ok(()),
-    }
 }
 
 /// Answers each command in order. Each reply is written as one piece, and nothing more after a fault.
@@ -54,13 +42,8 @@ pub fn serve<R: Threads + Sync, K: Sink, G: Gate>(
                 };
             }
             Item::Command(command) => {
-                let context = Context {
-                    rt,
-                    alloc,
-                    session: &session,
-                    run,
-                };
-                let Ok(Answered { reply, made }) = answer(&context, command) else {
+                let Ok(Answered { reply, made }) = answer_now(rt, alloc, command, run, &session)
+                else {
                     return Served::OutOfMemory;
                 };
                 let Ok(()) = write_all(sink, &reply) else {

@@ -10,7 +10,7 @@ use Rattle.clap.specs.Kinds.{Kinds, or_else}
 use Rattle.clap.specs.Walk.{Held, Row, Text, Walk, first_of, has_row, settled_rows, nothing_held, used, walk, walked, with_default}
 use Rattle.clap.specs.Simple.{App, entered, is_simple, matches_of}
 use Rattle.clap.specs.Faults.{default_fault, defaults_fault, entered_fault, fault_of, is_simple_and_free, level_fault, settle_fault, use_fault, walk_fault}
-use Rattle.ua_words.specs.Words.{Give, OptionName, Workers, Budget, Generate, name_text, same_name, Choice, choice_words, value_of, EachOnce}
+use Rattle.ua_words.specs.Words.{Give, OptionName, Workers, Budget, Jobs, Generate, name_text, same_name, Choice, choice_words, value_of, EachOnce}
 use Rattle.ua_words.specs.Options.{IsPlain, options_app}
 use Rattle.ua_words.proofs.Walking.{Ends, Flag, HaveNoDashes, answered, answered_rows, answered_settle, asked, asked_end, asked_turn, between, dashless, ends_first, ends_next, flag_of, idle_begins, idle_ends, joined_turn, long_parts, or_empty, row, rule, rules, shape, split_turn, two_dashes, use_clean, use_once, used_rows, value_turn}
 
@@ -27,28 +27,43 @@ Fresh rows (c ∷ choices) = (has_row (name_text c.name) rows ≡ false) × Fres
 test_is : (m n : OptionName) → bytes_eq (name_text n) (name_text m) ≡ same_name m n
 test_is Workers Workers = refl
 test_is Workers Budget = refl
+test_is Workers Jobs = refl
 test_is Workers Generate = refl
 test_is Budget Workers = refl
 test_is Budget Budget = refl
+test_is Budget Jobs = refl
 test_is Budget Generate = refl
+test_is Jobs Workers = refl
+test_is Jobs Budget = refl
+test_is Jobs Jobs = refl
+test_is Jobs Generate = refl
 test_is Generate Workers = refl
 test_is Generate Budget = refl
+test_is Generate Jobs = refl
 test_is Generate Generate = refl
 
 same_itself : (n : OptionName) → same_name n n ≡ true
 same_itself Workers = refl
 same_itself Budget = refl
+same_itself Jobs = refl
 same_itself Generate = refl
 
 same_is : (m n : OptionName) → same_name m n ≡ true → m ≡ n
 same_is Workers Workers e = refl
 same_is Workers Budget e = cc
+same_is Workers Jobs e = cc
 same_is Workers Generate e = cc
 same_is Budget Workers e = cc
 same_is Budget Budget e = refl
+same_is Budget Jobs e = cc
 same_is Budget Generate e = cc
+same_is Jobs Workers e = cc
+same_is Jobs Budget e = cc
+same_is Jobs Jobs e = refl
+same_is Jobs Generate e = cc
 same_is Generate Workers e = cc
 same_is Generate Budget e = cc
+same_is Generate Jobs e = cc
 same_is Generate Generate e = refl
 
 row_added : (id : Text) (rows : List Row) (r : Row) → has_row id (rows ++ r ∷ []) ≡ (has_row id rows || bytes_eq r.id id)
@@ -210,12 +225,14 @@ joined_long : (n : OptionName) (v : Text) → long_of (joined_word n v) ≡ Some
 unfolding joined_word
 joined_long Workers v = refl
 joined_long Budget v = refl
+joined_long Jobs v = refl
 joined_long Generate v = refl
 
 joined_dashless : (n : OptionName) (v : Text) → bytes_eq (joined_word n v) two_dashes ≡ false
 unfolding joined_word
 joined_dashless Workers v = refl
 joined_dashless Budget v = refl
+joined_dashless Jobs v = refl
 joined_dashless Generate v = refl
 
 split_word : OptionName → Text
@@ -225,12 +242,14 @@ split_long : (n : OptionName) → long_of (split_word n) ≡ Some (name_text n, 
 unfolding split_word
 split_long Workers = refl
 split_long Budget = refl
+split_long Jobs = refl
 split_long Generate = refl
 
 split_dashless : (n : OptionName) → bytes_eq (split_word n) two_dashes ≡ false
 unfolding split_word
 split_dashless Workers = refl
 split_dashless Budget = refl
+split_dashless Jobs = refl
 split_dashless Generate = refl
 
 -- the words of a choice
@@ -298,8 +317,8 @@ end_of words = (fold (walked rules []) (between []) words).held
 matches_are : (words : List Text) → matches_of options_app words ≡ settled_rows rules (end_of words).pending (end_of words).rows
 matches_are words =
     let rows = settled_rows rules (end_of words).pending (end_of words).rows in
-    ap (λ rs. with_default (with_default rs (rule Budget)) (rule Generate)) (default_is Workers rows)
-    ∙ ap (λ rs. with_default rs (rule Generate)) (default_is Budget rows) ∙ default_is Generate rows
+    ap (λ rs. with_default (with_default (with_default rs (rule Budget)) (rule Jobs)) (rule Generate)) (default_is Workers rows)
+    ∙ ap (λ rs. with_default (with_default rs (rule Jobs)) (rule Generate)) (default_is Budget rows) ∙ ap (λ rs. with_default rs (rule Generate)) (default_is Jobs rows) ∙ default_is Generate rows
 
 or_none : (k : Kinds) → or_else k [] ≡ k
 or_none [] = refl
@@ -308,8 +327,9 @@ or_none (x ∷ k) = refl
 no_defaults : (rows : List Row) → defaults_fault rows rules ≡ []
 unfolding defaults_fault
 no_defaults rows =
-    let behind = with_default rows (rule Workers) in
-    rw (no_default_fault Workers rows, no_default_fault Budget behind, no_default_fault Generate (with_default behind (rule Budget))) refl
+    let first = with_default rows (rule Workers) in
+    let second = with_default first (rule Budget) in
+    rw (no_default_fault Workers rows, no_default_fault Budget first, no_default_fault Jobs second, no_default_fault Generate (with_default second (rule Jobs))) refl
 
 abbrev made : App
 made = record { top = shape; subs = [] }

@@ -13,7 +13,7 @@ use Rattle.clap.specs.Faults.{flags_fault, react_fault, settle_fault, turn_fault
 use Rattle.clap.specs.declared.builder.action.ArgAction.TheVariants.{Set}
 use Rattle.clap.specs.declared.builder.value_parser.ValueParser.TheVariants as vp
 use Rattle.clap.specs.declared.parser.matches.ValueSource.TheVariants.{CommandLine}
-use Rattle.ua_words.specs.Words.{OptionName, Workers, Budget, Generate, name_text}
+use Rattle.ua_words.specs.Words.{OptionName, Workers, Budget, Jobs, Generate, name_text}
 use Rattle.ua_words.specs.Options.{bare_app, option_rule, options_app}
 
 -- the command, as it is built
@@ -21,7 +21,7 @@ abbrev pub rule : OptionName → Rule
 rule n = record (option_rule (name_text n)) { action = Some Set; parser = Some vp.String; range = Some (record { start_inclusive = 1; end_inclusive = 1 }) }
 
 abbrev pub rules : List Rule
-rules = rule Workers ∷ rule Budget ∷ rule Generate ∷ []
+rules = rule Workers ∷ rule Budget ∷ rule Jobs ∷ rule Generate ∷ []
 
 abbrev pub shape : Shape
 shape = record bare_app.top { rules = rules; is_built = true; disable_help_subcommand = true }
@@ -159,16 +159,19 @@ pub record Flag (word : Text) : Type 0 where
 found : (n : OptionName) → arg_by_long rules (name_text n) ≡ Some (rule n)
 found Workers = refl
 found Budget = refl
+found Jobs = refl
 found Generate = refl
 
 by_id : (n : OptionName) → arg_by_id rules (name_text n) ≡ Some (rule n)
 by_id Workers = refl
 by_id Budget = refl
+by_id Jobs = refl
 by_id Generate = refl
 
 same_text : (n : OptionName) → bytes_eq (name_text n) (name_text n) ≡ true
 same_text Workers = refl
 same_text Budget = refl
+same_text Jobs = refl
 same_text Generate = refl
 
 -- what a flag does where no option waits
@@ -190,11 +193,12 @@ unfolding flags_fault bundle_met
 flag_of rows p word plain clean = by_long (long_of word) refl
   where
     at_name : (name : Text) (v : Option Text) → long_of word ≡ Some (name, v) → (b : Bool) → bytes_eq (name_text Workers) name ≡ b → (d : Bool) → bytes_eq (name_text Budget) name ≡ d
-        → (e : Bool) → bytes_eq (name_text Generate) name ≡ e → Flag word
-    at_name name v long true is d other e another = record { name = Workers; value = v; long = long ∙ ap (λ (t : Text). Some (t, v)) (sym ((bytes_eq-Decides (name_text Workers) name).0 is)) }
-    at_name name v long false not_first true is e another = record { name = Budget; value = v; long = long ∙ ap (λ (t : Text). Some (t, v)) (sym ((bytes_eq-Decides (name_text Budget) name).0 is)) }
-    at_name name v long false not_first false not_second true is = record { name = Generate; value = v; long = long ∙ ap (λ (t : Text). Some (t, v)) (sym ((bytes_eq-Decides (name_text Generate) name).0 is)) }
-    at_name name v long false not_first false not_second false not_third = let bad = rw (plain, long, not_first, not_second, not_third) at clean in cc
+        → (j : Bool) → bytes_eq (name_text Jobs) name ≡ j → (e : Bool) → bytes_eq (name_text Generate) name ≡ e → Flag word
+    at_name name v long true is d other j third e another = record { name = Workers; value = v; long = long ∙ ap (λ (t : Text). Some (t, v)) (sym ((bytes_eq-Decides (name_text Workers) name).0 is)) }
+    at_name name v long false not_first true is j third e another = record { name = Budget; value = v; long = long ∙ ap (λ (t : Text). Some (t, v)) (sym ((bytes_eq-Decides (name_text Budget) name).0 is)) }
+    at_name name v long false not_first false not_second true is e another = record { name = Jobs; value = v; long = long ∙ ap (λ (t : Text). Some (t, v)) (sym ((bytes_eq-Decides (name_text Jobs) name).0 is)) }
+    at_name name v long false not_first false not_second false not_third true is = record { name = Generate; value = v; long = long ∙ ap (λ (t : Text). Some (t, v)) (sym ((bytes_eq-Decides (name_text Generate) name).0 is)) }
+    at_name name v long false not_first false not_second false not_third false not_fourth = let bad = rw (plain, long, not_first, not_second, not_third, not_fourth) at clean in cc
 
     by_char : (flags : Text) → long_of word ≡ None → short_of word ≡ Some flags → (o : Option ℕ) → slice_get (chars flags) 0 ≡ o → Flag word
     by_char [] long short o first = let bad = rw (plain, long, short) at clean in cc
@@ -207,7 +211,8 @@ flag_of rows p word plain clean = by_long (long_of word) refl
 
     by_long : (o : Option (Text × Option Text)) → long_of word ≡ o → Flag word
     by_long None long = by_short long (short_of word) refl
-    by_long (Some q) long = at_name q.0 q.1 long (bytes_eq (name_text Workers) q.0) refl (bytes_eq (name_text Budget) q.0) refl (bytes_eq (name_text Generate) q.0) refl
+    by_long (Some q) long =
+        at_name q.0 q.1 long (bytes_eq (name_text Workers) q.0) refl (bytes_eq (name_text Budget) q.0) refl (bytes_eq (name_text Jobs) q.0) refl (bytes_eq (name_text Generate) q.0) refl
 
 -- no word is `--`
 abbrev pub HaveNoDashes : List Text → Type 0
@@ -277,14 +282,16 @@ unfolding walked flags_fault bundle_met
 asked_turn rows n word plain clean = by_long (long_of word) refl
   where
     at_name : (name : Text) (v : Option Text) → long_of word ≡ Some (name, v) → (b : Bool) → bytes_eq (name_text Workers) name ≡ b → (d : Bool) → bytes_eq (name_text Budget) name ≡ d
-        → (e : Bool) → bytes_eq (name_text Generate) name ≡ e → walked rules [] (asked rows n) word ≡ answered rows n word
-    at_name name None long true is d other e another = let bad = rw (plain, long, is, by_id n) at clean in cc
-    at_name name (Some v) long true is d other e another = let bad = rw (plain, long, is, by_id n) at clean in cc
-    at_name name None long false not_first true is e another = let bad = rw (plain, long, not_first, is, by_id n) at clean in cc
-    at_name name (Some v) long false not_first true is e another = let bad = rw (plain, long, not_first, is, by_id n) at clean in cc
-    at_name name None long false not_first false not_second true is = let bad = rw (plain, long, not_first, not_second, is, by_id n) at clean in cc
-    at_name name (Some v) long false not_first false not_second true is = let bad = rw (plain, long, not_first, not_second, is, by_id n) at clean in cc
-    at_name name v long false not_first false not_second false not_third = let bad = rw (plain, long, not_first, not_second, not_third) at clean in cc
+        → (j : Bool) → bytes_eq (name_text Jobs) name ≡ j → (e : Bool) → bytes_eq (name_text Generate) name ≡ e → walked rules [] (asked rows n) word ≡ answered rows n word
+    at_name name None long true is d other j third e another = let bad = rw (plain, long, is, by_id n) at clean in cc
+    at_name name (Some v) long true is d other j third e another = let bad = rw (plain, long, is, by_id n) at clean in cc
+    at_name name None long false not_first true is j third e another = let bad = rw (plain, long, not_first, is, by_id n) at clean in cc
+    at_name name (Some v) long false not_first true is j third e another = let bad = rw (plain, long, not_first, is, by_id n) at clean in cc
+    at_name name None long false not_first false not_second true is e another = let bad = rw (plain, long, not_first, not_second, is, by_id n) at clean in cc
+    at_name name (Some v) long false not_first false not_second true is e another = let bad = rw (plain, long, not_first, not_second, is, by_id n) at clean in cc
+    at_name name None long false not_first false not_second false not_third true is = let bad = rw (plain, long, not_first, not_second, not_third, is, by_id n) at clean in cc
+    at_name name (Some v) long false not_first false not_second false not_third true is = let bad = rw (plain, long, not_first, not_second, not_third, is, by_id n) at clean in cc
+    at_name name v long false not_first false not_second false not_third false not_fourth = let bad = rw (plain, long, not_first, not_second, not_third, not_fourth) at clean in cc
 
     by_char : (flags : Text) → long_of word ≡ None → short_of word ≡ Some flags → (o : Option ℕ) → slice_get (chars flags) 0 ≡ o → walked rules [] (asked rows n) word ≡ answered rows n word
     by_char [] long short o first = rw (plain, long, short, by_id n, same_text n) refl
@@ -297,7 +304,8 @@ asked_turn rows n word plain clean = by_long (long_of word) refl
 
     by_long : (o : Option (Text × Option Text)) → long_of word ≡ o → walked rules [] (asked rows n) word ≡ answered rows n word
     by_long None long = by_short long (short_of word) refl
-    by_long (Some q) long = at_name q.0 q.1 long (bytes_eq (name_text Workers) q.0) refl (bytes_eq (name_text Budget) q.0) refl (bytes_eq (name_text Generate) q.0) refl
+    by_long (Some q) long =
+        at_name q.0 q.1 long (bytes_eq (name_text Workers) q.0) refl (bytes_eq (name_text Budget) q.0) refl (bytes_eq (name_text Jobs) q.0) refl (bytes_eq (name_text Generate) q.0) refl
 
 -- a text that does not begin with a hyphen is taken as the value
 pub value_turn : (rows : List Row) (n : OptionName) (v : Text) → bytes_eq v two_dashes ≡ false → long_of v ≡ None → short_of v ≡ None

@@ -5,7 +5,7 @@ use Rattle.clap.specs.Lexer.{strip_byte}
 use Rattle.clap.specs.Walk.{Rule}
 use Rattle.clap.specs.Simple.{App, new_app, new_rule, with_rule}
 use Rattle.ua_words.specs.declared.words.Values.{Values}
-use Rattle.ua_words.specs.Words.{Workers, Budget, Generate, name_text, Choice, Give, value_of}
+use Rattle.ua_words.specs.Words.{Workers, Budget, Jobs, Generate, name_text, Choice, Give, value_of}
 
 -- an option with a value
 abbrev pub option_rule : List ℕ → Rule
@@ -16,12 +16,13 @@ abbrev pub bare_app : App
 bare_app = record (new_app (codes "uacalc")) { top = record (new_app (codes "uacalc")).top { no_binary_name = true; disable_help_flag = true } }
 
 abbrev pub options_app : App
-options_app = with_rule (with_rule (with_rule bare_app (option_rule (name_text Workers))) (option_rule (name_text Budget))) (option_rule (name_text Generate))
+options_app = with_rule (with_rule (with_rule (with_rule bare_app (option_rule (name_text Workers))) (option_rule (name_text Budget))) (option_rule (name_text Jobs))) (option_rule (name_text Generate))
 
 -- the values are those that the options are given
 pub record AreValues (choices : List Choice) (values : Values) : Type 0 where
   pub workers : option_map (λ text. text.now) values.workers ≡ value_of Workers choices
   pub budget : option_map (λ text. text.now) values.budget ≡ value_of Budget choices
+  pub jobs : option_map (λ text. text.now) values.jobs ≡ value_of Jobs choices
   pub generate : option_map (λ text. text.now) values.generate ≡ value_of Generate choices
 
 -- the words give options, with these values

@@ -1,25 +1,28 @@
 -- The words behind the program's name.
-use Rattle.std.specs.Prelude.{◌≡◌, ℕ, ◌≤◌, if◌then◌else◌, Bool, true, false, List, [], ◌∷◌, ◌++◌, Option, None, Some, codes}
+use Rattle.std.specs.Prelude.{◌≡◌, ℕ, ◌*◌, ◌≤◌, if◌then◌else◌, Bool, true, false, List, [], ◌∷◌, ◌++◌, Option, None, Some, codes}
 use Rattle.std.specs.List.{flat_map}
 use Rattle.std.specs.Fmt.{decimal}
 use Rattle.ua_table.specs.declared.limits.TheConstants.{BUDGET, WORKERS}
 use Rattle.ua_words.specs.declared.words.Settings.{Settings}
-use Rattle.ua_words.specs.declared.words.TheConstants.{USUAL_WORKERS, USUAL_BUDGET, SEED}
+use Rattle.ua_words.specs.declared.words.TheConstants.{USUAL_WORKERS, USUAL_BUDGET, USUAL_JOBS, SEED}
 
 -- the options
 pub data OptionName : Type 0 where
   Workers : OptionName
   Budget : OptionName
+  Jobs : OptionName
   Generate : OptionName
 
 abbrev pub name_text : OptionName → List ℕ
 name_text Workers = codes "workers"
 name_text Budget = codes "budget"
+name_text Jobs = codes "jobs"
 name_text Generate = codes "generate"
 
 abbrev pub same_name : OptionName → OptionName → Bool
 same_name Workers Workers = true
 same_name Budget Budget = true
+same_name Jobs Jobs = true
 same_name Generate Generate = true
 same_name _ _ = false
 
@@ -65,12 +68,14 @@ IsSeed None seed = seed ≡ None
 IsSeed (Some value) None = ⊥
 IsSeed (Some value) (Some n) = Writes SEED value n
 
--- the words are options with numbers, and the settings are these numbers
+-- the words are options with numbers, and the settings are these numbers; all workers of all jobs are not too many
 pub record Asks (words : List (List ℕ)) (settings : Settings) : Type 0 where
   pub choices : List Choice
   pub given : Give words choices
   pub workers : IsNumber USUAL_WORKERS WORKERS (value_of Workers choices) settings.workers
   pub budget : IsNumber USUAL_BUDGET BUDGET (value_of Budget choices) settings.budget
+  pub jobs : IsNumber USUAL_JOBS WORKERS (value_of Jobs choices) settings.jobs
+  pub together : settings.jobs * settings.workers ≤ WORKERS
   pub generate : IsSeed (value_of Generate choices) settings.generate
 
 -- the words are in the stated form

@@ -4,4 +4,4 @@
 pub mod laws;
 mod words;
 
-pub use words::{SEED, Settings, USUAL_BUDGET, USUAL_WORKERS, settings_of};
+pub use words::{SEED, Settings, USUAL_BUDGET, USUAL_JOBS, USUAL_WORKERS, settings_of};

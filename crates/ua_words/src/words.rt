@@ -19,14 +19,19 @@ pub const USUAL_WORKERS: u32 = 4;
 /// The budget where no word tells it, in members of a closure.
 pub const USUAL_BUDGET: u32 = 10_000;
 
+/// How many commands are answered side by side where no word tells it.
+pub const USUAL_JOBS: u32 = 1;
+
 /// The greatest number that a script is generated from.
 pub const SEED: u32 = 2_147_483_647;
 
-/// What the words ask for. With `generate` no script is read: one is generated from this number.
+/// What the words ask for: so many commands are answered side by side, each by so many workers. With
+/// `generate` no script is read: one is generated from this number.
 #[derive(Clone, Copy, Debug, PartialEq, Eq)]
 pub struct Settings {
     pub workers: u32,
     pub budget: u32,
+    pub jobs: u32,
     pub generate: Option<u32>,
 }
 
@@ -35,6 +40,7 @@ pub struct Settings {
 struct Values<'a> {
     workers: Option<&'a str>,
     budget: Option<&'a str>,
+    jobs: Option<&'a str>,
     generate: Option<&'a str>,
 }
 
@@ -58,7 +64,8 @@ fn command<'a>(alloc: Global) -> Result<Command<'a>, AllocError>
         .disable_help_flag(true);
     let workers = with_option(alloc, bare, "workers")?;
     let budget = with_option(alloc, workers, "budget")?;
-    with_option(alloc, budget, "generate")
+    let jobs = with_option(alloc, budget, "jobs")?;
+    with_option(alloc, jobs, "generate")
 }
 
 /// Whether a word is `--`, which `clap` takes as the end of the options.
@@ -80,6 +87,7 @@ fn values_of<'a>(alloc: Global, words: &'a [String]) -> Result<Option<Values<'a>
         Ok(matches) => Ok(Some(Values {
             workers: matches.get_str("workers"),
             budget: matches.get_str("budget"),
+            jobs: matches.get_str("jobs"),
             generate: matches.get_str("generate"),
         })),
         Err(error) if error.kind() == ErrorKind::OutOfMemory => Err(AllocError),
@@ -141,7 +149,8 @@ fn seed(value: Option<&str>) -> Option<Option<u32>>
 
 /// What the words ask for, or None where they are not in the stated form.
 ///
-/// Without options there are `USUAL_WORKERS`, and the budget is `USUAL_BUDGET`.
+/// Without options there are `USUAL_WORKERS` and `USUAL_JOBS`, and the budget is `USUAL_BUDGET`. All workers of
+/// all jobs are at most `limits::WORKERS`.
 pub fn settings_of(alloc: Global, words: &[String]) -> Result<Option<Settings>, AllocError>
     ensures asks { IfOk result (λ found. IfSome found (λ settings. Asks (map string_bytes words.now) settings)) }
     ensures refused { IfOk result (λ found. IfNone found (AreAccepted (map string_bytes words.now) → ⊥)) }
@@ -155,12 +164,20 @@ pub fn settings_of(alloc: Global, words: &[String]) -> Result<Option<Settings>, 
     let Some(budget) = number(values.budget, USUAL_BUDGET, BUDGET) else {
         return Ok(None);
     };
+    let Some(jobs) = number(values.jobs, USUAL_JOBS, WORKERS) else {
+        return Ok(None);
+    };
+    let together = u64::from(jobs) * u64::from(workers);
+    if together > u64::from(WORKERS) {
+        return Ok(None);
+    }
     let Some(generate) = seed(values.generate) else {
         return Ok(None);
     };
     Ok(Some(Settings {
         workers,
         budget,
+        jobs,
         generate,
     }))
 }

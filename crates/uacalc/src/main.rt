@@ -43,7 +43,7 @@ fn tell(rt: &impl Eprint, status: &Status) -> io::Result<()> {
     match status {
         Status::Done => Ok(()),
         Status::Usage => rt.eprintln(
-            "usage: uacalc [--workers 1..16] [--budget 1..1000000] [--generate NUMBER]",
+            "usage: uacalc [--workers 1..16] [--budget 1..1000000] [--jobs 1..16] [--generate NUMBER]",
         ),
         Status::ReadFault => rt.eprintln("read fault"),
         Status::WriteFault => rt.eprintln("write fault"),

@@ -3,6 +3,7 @@
 use super::{ANY, BOTH, MEET, ONE, Trial, row, rows, run_with, words_of};
 use std::alloc::Global;
 use std::process::Abort;
+use std::sync::Wait;
 use std::test::Fail;
 use std::thread::Threads;
 use ua_shell::Status;
@@ -119,7 +120,7 @@ fn certificates_beyond_the_budget(rt: HostRuntime) -> Result<(), Fail> {
 }
 
 /// A certificate and its reply.
-fn checked<R: Threads + Abort + Sync>(
+fn checked<R: Threads + Wait + Abort + Sync>(
     rt: &R,
     alloc: Global,
     json: &str,
@@ -192,7 +193,7 @@ fn checks_of_terms(rt: HostRuntime) -> Result<(), Fail> {
 }
 
 /// What a certificate of this question is told where it is checked on the algebra of this name.
-fn verdict<R: Threads + Abort + Sync>(
+fn verdict<R: Threads + Wait + Abort + Sync>(
     rt: &R,
     alloc: Global,
     workers: &str,

@@ -2,6 +2,7 @@
 
 use super::{Ended, run_by, run_with, words_of};
 use std::alloc::{AllocError, Global};
+use std::sync::Wait;
 use std::test::Fail;
 use std::thread::Threads;
 use ua_shell::Status;
@@ -19,7 +20,7 @@ sub M [2]
 ";
 
 /// Runs the script with one byte at a call, where the call of this number of the source, and that of the sink, fails.
-fn slowly<R: Threads + Sync>(
+fn slowly<R: Threads + Wait + Sync>(
     rt: &R,
     alloc: Global,
     source_fails: &[u32],
@@ -38,7 +39,7 @@ fn slowly<R: Threads + Sync>(
 }
 
 /// What the script is answered where nothing fails.
-fn undisturbed<R: Threads + Sync>(rt: &R, alloc: Global) -> Result<Ended, AllocError> {
+fn undisturbed<R: Threads + Wait + Sync>(rt: &R, alloc: Global) -> Result<Ended, AllocError> {
     let words = words_of(alloc, &["--workers", "1"])?;
     run_with(rt, alloc, &words, SCRIPT.as_bytes(), &[], &[])
 }

@@ -3,13 +3,14 @@
 use super::run_with;
 use std::alloc::Global;
 use std::process::Abort;
+use std::sync::Wait;
 use std::test::Fail;
 use std::thread::Threads;
 use ua_shell::Status;
 use ua_text::{FaultKind, TextFault};
 
 /// Runs a text that is no script, and compares its fault.
-fn refuses<R: Threads + Abort + Sync>(
+fn refuses<R: Threads + Wait + Abort + Sync>(
     rt: &R,
     alloc: Global,
     script: &str,
@@ -22,7 +23,7 @@ fn refuses<R: Threads + Abort + Sync>(
 }
 
 /// The same fault in both versions, one line further down behind the line of the second.
-fn refuses_both<R: Threads + Abort + Sync>(
+fn refuses_both<R: Threads + Wait + Abort + Sync>(
     rt: &R,
     alloc: Global,
     script: &str,

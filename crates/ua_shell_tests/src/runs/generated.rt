@@ -3,13 +3,14 @@
 use super::{run_with, words_of};
 use std::alloc::Global;
 use std::process::Abort;
+use std::sync::Wait;
 use std::test::Fail;
 use std::thread::Threads;
 use ua_script::print;
 use ua_shell::{Status, generated_script};
 
 /// Runs the script that is generated from 0. The source fails at its first call, so nothing is read.
-fn writes_zero<R: Threads + Abort + Sync>(
+fn writes_zero<R: Threads + Wait + Abort + Sync>(
     rt: &R,
     alloc: Global,
     words: &[&str],

@@ -3,6 +3,7 @@
 use super::{MEET, run_with, words_of};
 use std::alloc::Global;
 use std::process::Abort;
+use std::sync::Wait;
 use std::test::Fail;
 use std::thread::Threads;
 use ua_shell::Status;
@@ -22,6 +23,8 @@ fn words_set_the_budget(rt: HostRuntime) -> Result<(), Fail> {
             ["--workers", "2", "--budget", "1"].as_slice(),
             "exceeds 1\n",
         ),
+        (["--jobs", "4"].as_slice(), "closed 3\n"),
+        (["--jobs=16", "--workers=1"].as_slice(), "closed 3\n"),
     ] {
         let words = words_of(alloc, words)?;
         let ended = run_with(&rt, alloc, &words, script, &[], &[])?;
@@ -33,7 +36,11 @@ fn words_set_the_budget(rt: HostRuntime) -> Result<(), Fail> {
 
 /// Runs words that are in no stated form. The source fails at its first call, so nothing is read where the
 /// status is another.
-fn refuses<R: Threads + Abort + Sync>(rt: &R, alloc: Global, words: &[&str]) -> Result<(), Fail> {
+fn refuses<R: Threads + Wait + Abort + Sync>(
+    rt: &R,
+    alloc: Global,
+    words: &[&str],
+) -> Result<(), Fail> {
     let words = words_of(alloc, words)?;
     let ended = run_with(rt, alloc, &words, MEET.as_bytes(), &[0], &[])?;
     assert_eq!(rt; ended.status, Status::Usage, "{words:?}");
@@ -86,7 +93,13 @@ fn words_are_refused(rt: HostRuntime) -> Result<(), Fail> {
         &["--generate", "2147483648"],
         &["--generate"],
         &["--generate", "0", "--generate=0"],
-        &["--jobs", "2"],
+        &["--jobs", "5"],
+        &["--jobs", "4", "--workers", "8"],
+        &["--workers=1", "--jobs=17"],
+        &["--workers=1", "--jobs", "0"],
+        &["--workers=1", "--jobs", "02"],
+        &["--jobs"],
+        &["--jobs", "1", "--jobs", "1"],
     ] {
         refuses(&rt, rt.alloc(), words)?;
     }

@@ -10,7 +10,7 @@ returns-then-has_dashes-clause-kept c = dashes_refused c.args.words.now (sym c.i
 
 pub returns-in-Ok-clause-given : goal.returns-in-Ok-clause-given
 returns-in-Ok-clause-given c =
-    matched_given (map string_bytes c.args.words.now) (record { workers = c.get_str.result; budget = c.get_str-in-Ok.result; generate = c.get_str-in-Ok-2.result })
+    matched_given (map string_bytes c.args.words.now) (record { workers = c.get_str.result; budget = c.get_str-in-Ok.result; jobs = c.get_str-in-Ok-2.result; generate = c.get_str-in-Ok-3.result })
     (no_dashes c.args.words.now (sym c.if-has_dashes.false ∙ c.has_dashes.ensures))
     (record {
       app = app_of c.in_ok-command.field-0;
@@ -20,12 +20,13 @@ returns-in-Ok-clause-given c =
       rows = λ simple. (c.in-Ok.ensures.matches simple).0;
       workers = c.get_str.ensures;
       budget = c.get_str-in-Ok.ensures;
-      generate = c.get_str-in-Ok-2.ensures;
+      jobs = c.get_str-in-Ok-2.ensures;
+      generate = c.get_str-in-Ok-3.ensures;
     })
 
 pub returns-in-Ok-clause-kept : goal.returns-in-Ok-clause-kept
 returns-in-Ok-clause-kept c =
-    matched_kept (map string_bytes c.args.words.now) (record { workers = c.get_str.result; budget = c.get_str-in-Ok.result; generate = c.get_str-in-Ok-2.result })
+    matched_kept (map string_bytes c.args.words.now) (record { workers = c.get_str.result; budget = c.get_str-in-Ok.result; jobs = c.get_str-in-Ok-2.result; generate = c.get_str-in-Ok-3.result })
     (record {
       app = app_of c.in_ok-command.field-0;
       app_is = c.in_ok-command.ensures;
@@ -34,7 +35,8 @@ returns-in-Ok-clause-kept c =
       rows = λ simple. (c.in-Ok.ensures.matches simple).0;
       workers = c.get_str.ensures;
       budget = c.get_str-in-Ok.ensures;
-      generate = c.get_str-in-Ok-2.ensures;
+      jobs = c.get_str-in-Ok-2.ensures;
+      generate = c.get_str-in-Ok-3.ensures;
     })
 
 pub returns-clause-kept : goal.returns-clause-kept
