@@ -20,10 +20,10 @@ use Rattle.ua_chain.specs.Answers.{power_of, generators_of}
 use Rattle.ua_chain.specs.Closures.{IsClosureOf}
 use Rattle.ua_chain.proofs.ChainLaws.{fillings_assign, generator_count, some_fillings}
 
--- each pattern has a place
-pub places_low : (ps : List VariablePattern) (places j : ℕ) → AllByRecursion (IsPatternOf places) ps → j < places → AllByRecursion (λ (p : VariablePattern). j < length p.places) ps
-places_low [] places j h l = tt
-places_low (p ∷ ps) places j h l = (let n = h.0.count in omega (arith, l, n), places_low ps places j h.1 l)
+-- each pattern has the places
+pub has_places : (ps : List VariablePattern) (places : ℕ) → AllByRecursion (IsPatternOf places) ps → AllByRecursion (λ (p : VariablePattern). places ≤ length p.places) ps
+has_places [] places h = tt
+has_places (p ∷ ps) places h = (let n = h.0.count in omega (arith, n), has_places ps places h.1)
 
 -- what stands at a place is an element
 place_fits : (a : FiniteAlgebra) (places j : ℕ) (fs : List (List ℕ)) → j < places → ((xs : List ℕ) → Contains fs xs → IsAssignment a.size places xs) → AllZip (λ (b : FiniteAlgebra) x. x < b.size) (replicate (length fs) a) (place_vector fs j)

@@ -1,12 +1,12 @@
 //! The power in which the vectors of a kind's terms lie, their generators, and their parts.
 
-ghost use Rattle.std.specs.Prelude.{◌≡◌, ◌<◌, ◌≤◌, length, map, slice_index, IfOk, IfErr};
-ghost use Rattle.std.specs.List.{AllByRecursion, range_with_len};
+ghost use Rattle.std.specs.Prelude.{◌≡◌, ◌<◌, ◌≤◌, length, slice_index, IfOk, IfErr};
+ghost use Rattle.std.specs.List.{AllByRecursion};
 ghost use Rattle.ua_table.specs.declared.limits.TheConstants.{SIZE, WIDTH, BUDGET};
 ghost use Rattle.ua_table.specs.Algebras.{IsVector};
 ghost use Rattle.ua_term.specs.Assignments.{projection};
 ghost use Rattle.ua_close.specs.Answers.{IsCause};
-ghost use Rattle.ua_identity.specs.Patterns.{all_fillings, place_vector};
+ghost use Rattle.ua_identity.specs.Patterns.{all_fillings};
 ghost use Rattle.ua_chain.specs.Answers.{power_of, generators_of};
 ghost use Rattle.ua_chain.specs.KindTables.{pattern_at};
 ghost use Rattle.ua_chain.specs.PartsOf.{IsPartOf};
@@ -15,24 +15,8 @@ use crate::classes::Part;
 use crate::kinds::Kind;
 use std::alloc::{AllocError, Global};
 use ua_close::{CloseError, check_power};
-use ua_identity::{append_values, place_row, start_of, width_of};
+use ua_identity::{append_values, place_vectors, start_of, width_of};
 use ua_table::{Algebra, Elem, Frame, Vectors};
-
-/// What stands at each place of the kind's terms, as vectors of so many entries.
-fn place_rows(alloc: Global, size: u32, kind: &Kind, width: u32) -> Result<Vectors, AllocError>
-    requires some { 0 < size }
-    requires small { size ≤ SIZE }
-    requires width { width ≡ length (all_fillings size kind.now.patterns) }
-    requires narrow { width ≤ WIDTH }
-    ensures { IfOk result (λ vectors. vectors.items ≡ map (place_vector (all_fillings size kind.now.patterns)) (range_with_len 0 kind.now.places)) }
-{
-    let mut vectors = Vectors::new(alloc, width);
-    for place in 0..kind.places() {
-        let row = place_row(alloc, size, kind.patterns(), place)?;
-        vectors.add(row.as_slice())?;
-    }
-    Ok(vectors)
-}
 
 /// The power of the algebra in which the vectors of the kind's terms lie, with the generators of these, or why
 /// they are too wide to be closed. None of them is made where they are too wide.
@@ -55,7 +39,7 @@ pub(crate) fn generators<'a>(
     let Ok(frame) = Frame::power(a, width as u32) else {
         unreachable!()
     };
-    let gens = place_rows(alloc, a.size(), kind, frame.width())?;
+    let gens = place_vectors(alloc, a.size(), kind.patterns(), places, frame.width())?;
     Ok((frame, gens))
 }
 

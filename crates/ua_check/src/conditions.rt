@@ -8,7 +8,7 @@ ghost use Rattle.ua_table.specs.Refusals.{refusal_if};
 ghost use Rattle.ua_term.specs.Steps.{AreSteps};
 ghost use Rattle.ua_identity.specs.Identities.{TermIdentity};
 ghost use Rattle.ua_identity.specs.Conditions.{IsCondition};
-ghost use Rattle.ua_identity.specs.Patterns.{condition_power, argument_vectors};
+ghost use Rattle.ua_identity.specs.Patterns.{condition_power};
 ghost use Rattle.ua_check.specs.declared.flaws.Flaw.TheVariants as flaw;
 ghost use Rattle.ua_check.specs.Steps.{written_term};
 ghost use Rattle.ua_check.specs.Flaws.{Tells};
@@ -137,20 +137,6 @@ pub(crate) fn condition(
     condition_flaws(alloc, a, name, k, steps)
 }
 
-/// For each place, what stands there under each identity and each assignment of its variables.
-fn arguments(alloc: Global, a: &Algebra, condition: &Condition) -> Result<Vectors, AllocError>
-    requires { length (condition_power a.now condition.now) ≤ WIDTH }
-    ensures width { IfOk result (λ vectors. vectors.width ≡ length (condition_power a.now condition.now)) }
-    ensures vectors { IfOk result (λ vectors. vectors.items ≡ argument_vectors a.now condition.now) }
-{
-    let mut vectors = Vectors::new(alloc, condition.width(a) as u32);
-    for place in 0..condition.arity() {
-        let row = condition.argument_row(alloc, a, place)?;
-        vectors.add(row.as_slice())?;
-    }
-    Ok(vectors)
-}
-
 /// The first flaw of a certificate that no term meets a condition.
 fn no_condition_flaws(
     alloc: Global,
@@ -170,7 +156,7 @@ fn no_condition_flaws(
     let width = condition.width(a) as u32;
     vectors(a.size(), width, ListName::Rows, rows)?;
     let frame = frame_of(a, width)?;
-    let gens = arguments(alloc, a, &condition)?;
+    let gens = condition.argument_vectors(alloc, a)?;
     let target = condition.value_row(alloc, a)?;
     outside(alloc, a, &frame, &gens, rows, target.as_slice())
 }

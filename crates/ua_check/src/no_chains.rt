@@ -1,12 +1,11 @@
 //! Certificates that there is no chain.
 
-ghost use Rattle.std.specs.Prelude.{◌≡◌, ◌<◌, ◌≤◌, ◌^◌, [], ◌∷◌, length, map, IsOk, IfOk};
-ghost use Rattle.std.specs.List.{AllByRecursion, range_with_len};
+ghost use Rattle.std.specs.Prelude.{◌≡◌, ◌<◌, ◌≤◌, ◌^◌, [], ◌∷◌, length, IsOk, IfOk};
+ghost use Rattle.std.specs.List.{AllByRecursion};
 ghost use Rattle.ua_table.specs.declared.limits.TheConstants.{SIZE, WIDTH};
 ghost use Rattle.ua_table.specs.Refusals.{first_refusal};
 ghost use Rattle.ua_term.specs.Assignments.{projection};
-ghost use Rattle.ua_identity.specs.Identities.{VariablePattern};
-ghost use Rattle.ua_identity.specs.Patterns.{all_fillings, place_vector};
+ghost use Rattle.ua_identity.specs.Patterns.{all_fillings};
 ghost use Rattle.ua_check.specs.Flaws.{Tells};
 ghost use Rattle.ua_check.specs.Chains.{kind_of, chain_width, HasNoChain};
 ghost use Rattle.ua_check.specs.Reached as reached;
@@ -21,28 +20,10 @@ use crate::reached::{ended, followed, marks, odd_positions, parity, positions, s
 use crate::vectors::vectors;
 use std::alloc::{AllocError, Global};
 use ua_cert::ChainName;
-use ua_identity::{Pattern, append_values, laws, place_row, width_of};
+use ua_identity::{Pattern, append_values, laws, place_vectors, width_of};
 use ua_rows::Rows;
 use ua_table::limits::WIDTH;
 use ua_table::{Algebra, Elem, Frame, Listed, Vectors};
-
-/// What stands at each place of the terms, as vectors of so many entries.
-fn places(alloc: Global, size: u32, patterns: &[Pattern], width: u32) -> Result<Vectors, AllocError>
-    requires some { 0 < size }
-    requires small { size ≤ SIZE }
-    requires three { AllByRecursion (λ (p : VariablePattern). length p.places ≡ 3) patterns.now }
-    requires width { width ≡ length (all_fillings size patterns.now) }
-    requires narrow { width ≤ WIDTH }
-    ensures width { IfOk result (λ vectors. vectors.width ≡ width) }
-    ensures vectors { IfOk result (λ vectors. vectors.items ≡ map (place_vector (all_fillings size patterns.now)) (range_with_len 0 3)) }
-{
-    let mut vectors = Vectors::new(alloc, width);
-    for place in 0..3 {
-        let row = place_row(alloc, size, patterns, place)?;
-        vectors.add(row.as_slice())?;
-    }
-    Ok(vectors)
-}
 
 /// The rows and the vectors of the places, where the rows hold all that these generate.
 fn rows_and_places(
@@ -70,7 +51,7 @@ fn rows_and_places(
     let Ok(frame) = Frame::power(a, width) else {
         unreachable!()
     };
-    let places = places(alloc, size, patterns, width)?;
+    let places = place_vectors(alloc, size, patterns, 3, width)?;
     let list = closed_rows(alloc, a, &frame, &places, rows)?;
     Ok((list, places))
 }

@@ -2,7 +2,7 @@
 
 ghost use Rattle.ua_cond.specs.Permitted.{MayDecide};
 
-use crate::frames::{arguments, power};
+use crate::frames::power;
 use std::alloc::Global;
 use std::thread::Threads;
 use ua_close::{Answer, CloseError, Gate, Run, member};
@@ -31,7 +31,7 @@ pub fn decide<R: Threads + Sync, G: Gate>(
     // What this call ensures says that the algebra has an element.
     let _size = a.size();
     let frame = power(a, condition, run.budget)?;
-    let arguments = arguments(alloc, a, condition, frame.width())?;
+    let arguments = condition.argument_vectors(alloc, a)?;
     let values = condition.value_row(alloc, a)?;
     match member(rt, alloc, &frame, &arguments, values.as_slice(), run)? {
         Answer::Yes(steps) => {

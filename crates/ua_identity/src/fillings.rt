@@ -1,6 +1,6 @@
 //! What stands at the places of terms under patterns.
 
-ghost use Rattle.std.specs.Prelude.{◌≡◌, ◌+◌, ◌*◌, ◌<◌, ◌≤◌, ◌^◌, ◌++◌, length, replicate, IfOk, OnOk};
+ghost use Rattle.std.specs.Prelude.{◌≡◌, ◌+◌, ◌*◌, ◌<◌, ◌≤◌, ◌^◌, ◌++◌, length, map, replicate, IfOk, OnOk};
 ghost use Rattle.std.specs.List.{AllByRecursion, flat_map, range_with_len};
 ghost use Rattle.ua_table.specs.declared.limits.TheConstants.{SIZE, WIDTH};
 ghost use Rattle.ua_term.specs.Assignments.{projection};
@@ -11,7 +11,7 @@ ghost use Rattle.ua_identity.specs.Patterns as fillings;
 
 use crate::patterns::Pattern;
 use std::alloc::{AllocError, Global};
-use ua_table::Elem;
+use ua_table::{Elem, Vectors};
 
 /// How many assignments of so many elements to so many variables there are.
 pub fn count(size: u32, variables: u8) -> u128
@@ -80,7 +80,7 @@ pub fn append_values(
 }
 
 /// What stands at a place under each pattern and each assignment, pattern first.
-pub fn place_row(
+fn place_row(
     alloc: Global,
     size: u32,
     patterns: &[Pattern],
@@ -97,6 +97,31 @@ pub fn place_row(
         append_values(&mut row, size, pattern.variables(), pattern.variable(place))?;
     }
     Ok(row)
+}
+
+/// For each of so many places, what stands there under each pattern and each assignment, pattern first: vectors
+/// of so many entries.
+pub fn place_vectors(
+    alloc: Global,
+    size: u32,
+    patterns: &[Pattern],
+    places: u8,
+    width: u32,
+) -> Result<Vectors, AllocError>
+    requires some { 0 < size }
+    requires small { size ≤ SIZE }
+    requires places { AllByRecursion (λ (p : VariablePattern). places ≤ length p.places) patterns.now }
+    requires width { width ≡ length (all_fillings size patterns.now) }
+    requires narrow { width ≤ WIDTH }
+    ensures width { IfOk result (λ vectors. vectors.width ≡ width) }
+    ensures vectors { IfOk result (λ vectors. vectors.items ≡ map (place_vector (all_fillings size patterns.now)) (range_with_len 0 places)) }
+{
+    let mut vectors = Vectors::new(alloc, width);
+    for place in 0..places {
+        let row = place_row(alloc, size, patterns, place)?;
+        vectors.add(row.as_slice())?;
+    }
+    Ok(vectors)
 }
 
 /// Behind how many coordinates those of pattern m begin.

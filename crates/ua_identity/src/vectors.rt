@@ -3,12 +3,12 @@
 use crate::conditions::Condition;
 use crate::fillings::{append_values, count};
 use std::alloc::{AllocError, Global};
-use ua_table::{Algebra, Elem};
+use ua_table::{Algebra, Elem, Vectors};
 
 impl Condition {
     ghost use Rattle.std.specs.Prelude.{◌≡◌, ◌*◌, ◌<◌, ◌≤◌, ◌^◌, length, IfOk};
     ghost use Rattle.ua_table.specs.declared.limits.TheConstants.{WIDTH, BUDGET};
-    ghost use Rattle.ua_identity.specs.Patterns.{all_fillings, place_vector, patterns_of, condition_power, value_vector};
+    ghost use Rattle.ua_identity.specs.Patterns.{all_fillings, place_vector, patterns_of, condition_power, argument_vectors, value_vector};
 
     /// How many coordinates the vectors of the condition have: one for each identity and each assignment of
     /// elements to its variables. It takes no memory.
@@ -26,7 +26,7 @@ impl Condition {
     }
 
     /// What stands at a place under each identity and each assignment of its variables, identity first.
-    pub fn argument_row(
+    fn argument_row(
         &self,
         alloc: Global,
         a: &Algebra,
@@ -44,6 +44,20 @@ impl Condition {
             append_values(&mut row, size, pattern.variables(), variable)?;
         }
         Ok(row)
+    }
+
+    /// For each place, what stands there under each identity and each assignment of its variables, identity first.
+    pub fn argument_vectors(&self, alloc: Global, a: &Algebra) -> Result<Vectors, AllocError>
+        requires { length (condition_power a.now self.now) ≤ WIDTH }
+        ensures width { IfOk result (λ vectors. vectors.width ≡ length (condition_power a.now self.now)) }
+        ensures vectors { IfOk result (λ vectors. vectors.items ≡ argument_vectors a.now self.now) }
+    {
+        let mut vectors = Vectors::new(alloc, self.width(a) as u32);
+        for place in 0..self.arity() {
+            let row = self.argument_row(alloc, a, place)?;
+            vectors.add(row.as_slice())?;
+        }
+        Ok(vectors)
     }
 
     /// What the identities say that the value is under each assignment of their variables, identity first.

@@ -10,7 +10,7 @@ use Rattle.ua_close.specs.Answers.{IsCause}
 use Rattle.ua_identity.specs.Patterns.{all_fillings, place_vector}
 use Rattle.ua_chain.specs.Answers.{power_of, generators_of}
 use Rattle.ua_chain.proofs.ChainLaws.{some_fillings, generator_count}
-use Rattle.ua_chain.proofs.VectorLaws.{generators_fit, width_low}
+use Rattle.ua_chain.proofs.VectorLaws.{has_places, generators_fit, width_low}
 use Rattle.ua_chain.proofs.vectors.generators.Goals as goal
 
 pub check_power-requires-clause-some : goal.check_power-requires-clause-some
@@ -59,5 +59,5 @@ returns-clause-admitted c =
     let kind = c.args.kind.now in
     let width = c.width_of-width.ensures.width ∙ (λ i. length (all_fillings (c.size.ensures.size i) (c.patterns.ensures.patterns i))) in
     let frame : c.in-Ok.frame ≡ power_of a kind = c.in-Ok.ensures.ok ∙ ap (λ n. replicate n a) width in
-    let gens : c.in_ok-gens.gens.items ≡ generators_of a kind = c.in_ok-gens.ensures ∙ ap (λ n. map (place_vector (all_fillings n kind.patterns)) (range_with_len 0 kind.places)) c.size-2.ensures.size in
+    let gens : c.in_ok-gens.gens.items ≡ generators_of a kind = c.in_ok-gens.ensures.vectors ∙ (λ i. map (place_vector (all_fillings (c.size-2.ensures.size i) (c.patterns-2.ensures.patterns i))) (range_with_len 0 (c.places-places.ensures.places i))) in
     subst (λ (q : Product × List Vector). AllByRecursion (IsVector q.0) q.1) (λ i. (sym frame i, sym gens i)) (generators_fit a kind c.places-places.ensures.kind)

@@ -1,9 +1,24 @@
-use Rattle.std.proofs.Common.{◌++◌, ◌∷◌, [], length, sym, ap, ◌∙◌, arith}
+use Rattle.std.proofs.Common.{◌<◌, ◌≤◌, ◌++◌, ◌∷◌, [], ℕ, List, length, sym, ap, ◌∙◌, arith}
+use Rattle.std.specs.List.{AllByRecursion}
 use Rattle.std.proofs.lemmas.List.{length-map}
 use Rattle.std.proofs.lemmas.List.FromFn.{length-map-range_with_len, map-range_with_len_more}
 use Rattle.ua_table.specs.VectorLists.{VectorList}
+use Rattle.ua_identity.specs.Identities.{VariablePattern}
 use Rattle.ua_identity.specs.Patterns.{all_fillings, place_vector}
-use Rattle.ua_check.proofs.no_chains.places.Goals as goal
+use Rattle.ua_identity.proofs.fillings.place_vectors.Goals as goal
+
+has_place : (ps : List VariablePattern) (places j : ℕ) → AllByRecursion (λ (p : VariablePattern). places ≤ length p.places) ps → j < places → AllByRecursion (λ (p : VariablePattern). j < length p.places) ps
+has_place [] places j h l = tt
+has_place (p ∷ ps) places j h l = (let n = h.0 in omega (arith, l, n), has_place ps places j h.1 l)
+
+pub place_row-requires-clause-narrow : goal.place_row-requires-clause-narrow
+place_row-requires-clause-narrow c =
+    let width = c.requires.width in
+    let narrow = c.requires.narrow in
+    omega (arith, width, narrow)
+
+pub place_row-requires-clause-place : goal.place_row-requires-clause-place
+place_row-requires-clause-place c = has_place c.args.patterns.now c.args.places c.loop-place.place c.requires.places c.loop-place-test.true
 
 pub add-requires-clause-width : goal.add-requires-clause-width
 add-requires-clause-width c =

@@ -1,7 +1,7 @@
 use Rattle.std.proofs.Common.{◌≡◌, map}
 use Rattle.std.specs.List.{range_with_len}
 use Rattle.ua_identity.specs.Patterns.{all_fillings, place_vector}
-use Rattle.ua_check.proofs.no_chains.places.Given as goal
+use Rattle.ua_identity.proofs.fillings.place_vectors.Given as goal
 
 -- the vectors of the places so far
 abbrev pub invariant-loop-place : goal.invariant-loop-place
