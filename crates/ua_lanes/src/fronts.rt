@@ -50,6 +50,15 @@ pub(crate) fn slot_of(hash: u64, slots: usize) -> usize
     (hash >> 20) as usize & (slots - 1)
 }
 
+/// Which of two vectors keeps a slot that is empty or names the first of them: the values that are found first
+/// come most often. An empty slot is 0.
+#[inline(always)]
+pub(crate) fn kept(there: u32, new: u32) -> u32
+    ensures { (n : ℕ) → there ≤ n → new ≤ n → result ≤ n }
+{
+    if there == 0 { new } else { there }
+}
+
 /// A front of so many slots, with these vectors.
 fn front_of(
     alloc: Global,
@@ -68,7 +77,7 @@ fn front_of(
     for i in 0..count {
         let start = i * words;
         let slot = slot_of(hash_of(&keys[start..start + words]), slots);
-        front[slot] = i as u32;
+        front[slot] = kept(front[slot], i as u32);
     }
     Ok(front)
 }
