@@ -1,18 +1,20 @@
 -- Lines of an operation: what a table's values at one coordinate say of the operation's vectors.
-use Rattle.std.proofs.Common.{◌≡◌, ℕ, zero, suc, ◌<◌, ◌≤◌, Bool, true, false, List, [], ◌∷◌, length, map, set, refl, sym, ap, ◌∙◌, subst, arith, Some, ⊎_elim}
+use Rattle.std.proofs.Common.{◌≡◌, ℕ, zero, suc, ◌+◌, ◌-◌, ◌*◌, ◌^◌, ◌<◌, ◌≤◌, Bool, true, false, List, [], ◌∷◌, length, map, set, refl, sym, ap, ◌∙◌, subst, arith, Some, ⊎_elim}
 use Rattle.std.specs.Prelude.{slice_get, slice_index, slice_index_or, slice_set, nat_lt, if◌then◌else◌}
 use Rattle.std.specs.List.{AllByRecursion}
 use Rattle.std.proofs.lemmas.Bool.{cases_lt, lt-ltb}
 use Rattle.std.proofs.lemmas.Grind.{same_number_lists}
-use Rattle.std.proofs.lemmas.List.{map-set}
+use Rattle.std.proofs.lemmas.List.{length-set, map-set}
 use Rattle.std.proofs.lemmas.List.FromFn.{length-map-range_with_len, get_or-map-range_with_len}
 use Rattle.ua_table.specs.Algebras.{Vector, Operation, FiniteAlgebra, Product, IsOperation, IsAlgebra, IsProduct, IsVector, numeral, value_at, column, apply}
 use Rattle.ua_table.proofs.Lists.{found, get_or-slice_get, mapped_at, All-slice_get, AllZip-length, AllZip-slice_get}
-use Rattle.ua_table.proofs.ApplyLemmas.{operation_at, length-apply, apply_at}
+use Rattle.ua_table.specs.Tables.{IsTable}
+use Rattle.ua_table.proofs.Codes.{numeral-cons}
+use Rattle.ua_table.proofs.ApplyLemmas.{operation_at, length-apply, apply_at, numeral-below}
 use Rattle.ua_rows.proofs.ApplyForms.{size_is}
 use Rattle.ua_lanes.specs.Columns.{values_at}
 use Rattle.ua_lanes.specs.Lines.{IsSmallProduct, size_at, algebra_at, line_value}
-use Rattle.ua_lanes.proofs.ListLaws.{all_or, all_weaker}
+use Rattle.ua_lanes.proofs.ListLaws.{all_or, all_set, all_weaker}
 
 -- ---- the algebra of a coordinate
 
@@ -102,3 +104,28 @@ lines_apply p f vs free v vector =
         chosen (nat_lt (slice_index v x) (size_at p x)) (value_at (algebra_at p x) f (slice_set (column vs x) free (slice_index v x))) 0 is
         ∙ ap (λ (b : FiniteAlgebra). value_at b f (slice_set (column vs x) free (slice_index v x))) (algebra_there p x a at)
         ∙ ap (value_at a f) (sym (map-set (λ (w : Vector). slice_index w x) vs free v))
+
+-- ---- the numbers of arguments that differ in one place
+
+-- as the digit at a place grows, so does the number, by a power of the base
+pub numeral_set : (n : ℕ) (xs : List ℕ) (k y : ℕ) → k < length xs → numeral n (set xs k y) ≡ numeral n (set xs k 0) + y * n ^ (length xs - k - 1)
+numeral_set n [] k y low = absurd (omega (arith, low))
+numeral_set n (x ∷ xs) zero y low =
+    let e : suc (length xs) - 0 - 1 ≡ length xs = omega arith in
+    numeral-cons n y xs ∙ (let z : y * n ^ length xs + numeral n xs ≡ (0 * n ^ length xs + numeral n xs) + y * n ^ length xs = omega arith in z)
+    ∙ (λ i. sym (numeral-cons n 0 xs) i + y * n ^ sym e i)
+numeral_set n (x ∷ xs) (suc k) y low =
+    let e : suc (length xs) - suc k - 1 ≡ length xs - k - 1 = omega arith in
+    let inner = numeral_set n xs k y (omega (arith, low)) in
+    let same : n ^ length (set xs k y) ≡ n ^ length (set xs k 0) = ap (λ m. n ^ m) (length-set xs k y ∙ sym (length-set xs k 0)) in
+    numeral-cons n x (set xs k y)
+    ∙ (λ i. x * same i + inner i)
+    ∙ (let z : x * n ^ length (set xs k 0) + (numeral n (set xs k 0) + y * n ^ (length xs - k - 1)) ≡ (x * n ^ length (set xs k 0) + numeral n (set xs k 0)) + y * n ^ (length xs - k - 1) = omega arith in z)
+    ∙ (λ i. sym (numeral-cons n x (set xs k 0)) i + y * n ^ sym e i)
+
+-- and it is within a table
+pub numeral_within : (o : Operation) (xs : List ℕ) (k y : ℕ) → IsTable o → length xs ≡ o.arity → AllByRecursion (λ x. x < o.size) xs → y < o.size → numeral o.size (set xs k y) < length o.values
+numeral_within o xs k y t arity below small =
+    let low = numeral-below o.size (set xs k y) (all_set (λ x. x < o.size) xs k y small below) in
+    let all : o.size ^ length (set xs k y) ≡ length o.values = ap (λ m. o.size ^ m) (length-set xs k y ∙ arity) ∙ sym t.operation.total in
+    omega (arith, low, all)

@@ -96,11 +96,11 @@ key_last keys key words count long one =
     ∙ take_all words key (omega (arith, one))
 
 pub pushed_columns : (width words count blocks : ℕ) (tiles : List (List (List ℕ))) (keys : Vec ℕ Global) (key front : List ℕ) (ready : Bool) → AreColumns width words count blocks tiles keys key front ready
-    → (more : List (List (List ℕ))) (v : Vector) (keys' : Vec ℕ Global) (key' : List ℕ) (slot : ℕ)
-    → IsEntered words count tiles more v → AreSmall more → count < 16 * blocks → count + 1 < 2 ^ 32
+    → (more : List (List (List ℕ))) (v : Vector) (keys' : Vec ℕ Global) (key' : List ℕ) (slot named : ℕ)
+    → IsEntered words count tiles more v → AreSmall more → named ≤ count → count < 16 * blocks → count + 1 < 2 ^ 32
     → key' ≡ key_of (block_of more words (count / 16)) (count % 16) → keys'.items ≡ keys.items ++ key' → length key' ≡ words
-    → AreColumns width words (count + 1) blocks more keys' key' (set front slot count) false
-pushed_columns width words count blocks tiles keys key front ready h more v keys' key' slot entered small room few key_is keys_are long = record {
+    → AreColumns width words (count + 1) blocks more keys' key' (set front slot named) false
+pushed_columns width words count blocks tiles keys key front ready h more v keys' key' slot named entered small last room few key_is keys_are long = record {
   narrow = h.narrow;
   words_are = h.words_are;
   small = small;
@@ -116,7 +116,7 @@ pushed_columns width words count blocks tiles keys key front ready h more v keys
       subst (λ k. key_at (keys.items ++ key') words k ≡ key_of (block_of more words (k / 16)) (k % 16)) (sym last) (key_last keys.items key' words count h.keyed long ∙ key_is))
       (cases_lt i count);
   key_long = long;
-  some = (let l = length-set front slot count in let s = h.some in omega (arith, l, s));
-  named = all_set (λ r. r ≤ count + 1 - 1) front slot count (omega arith) (all_weaker (λ r. r ≤ count - 1) (λ r. r ≤ count + 1 - 1) (λ r low. omega (arith, low)) front h.named);
+  some = (let l = length-set front slot named in let s = h.some in omega (arith, l, s));
+  named = all_set (λ r. r ≤ count + 1 - 1) front slot named (omega (arith, last)) (all_weaker (λ r. r ≤ count - 1) (λ r. r ≤ count + 1 - 1) (λ r low. omega (arith, low)) front h.named);
   room = λ t. cc;
 }

@@ -112,18 +112,18 @@ pushed_quads width words count keys key v is long one wide entries =
         ∙ ap (slice_index v) (let z : 4 * (x / 4) + x % 4 ≡ x = omega arith in z))
 
 pub pushed_invariant : (width size words count : ℕ) (keys : Vec ℕ Global) (key front : List ℕ) (ready : Bool) → AreQuads width size words count keys key front ready
-    → (v key' : List ℕ) (keys' : Vec ℕ Global) (slot : ℕ) → count + 1 < 2 ^ 32 → AllByRecursion (λ x. x < size) v → length key' ≡ words → keys'.items ≡ keys.items ++ key'
+    → (v key' : List ℕ) (keys' : Vec ℕ Global) (slot named : ℕ) → named ≤ count → count + 1 < 2 ^ 32 → AllByRecursion (λ x. x < size) v → length key' ≡ words → keys'.items ≡ keys.items ++ key'
     → ((j e : ℕ) → j < length key' → e < 4 → slice_index (lanes_of (slice_index key' j)) e ≡ slice_index v (4 * j + e))
-    → AreQuads width size words (count + 1) keys' key' (set front slot count) false
-pushed_invariant width size words count keys key front ready h v key' keys' slot few small one keys_are entries = record {
+    → AreQuads width size words (count + 1) keys' key' (set front slot named) false
+pushed_invariant width size words count keys key front ready h v key' keys' slot named last few small one keys_are entries = record {
   some_size = h.some_size;
   words_are = h.words_are;
   few = few;
   keyed = (let l = length-append keys.items key' in let k = h.keyed in let e = ap (length {A = ℕ}) keys_are in omega (arith, l, k, e, one));
   below = subst (AllByRecursion (IsBelow size)) (sym keys_are) (all_append (IsBelow size) keys.items key' h.below (key_below v key' size h.some_size small entries));
   key_long = one;
-  some = (let l = length-set front slot count in let s = h.some in omega (arith, l, s));
-  named = all_set (λ r. r ≤ count + 1 - 1) front slot count (omega arith) (all_weaker (λ r. r ≤ count - 1) (λ r. r ≤ count + 1 - 1) (λ r low. omega (arith, low)) front h.named);
+  some = (let l = length-set front slot named in let s = h.some in omega (arith, l, s));
+  named = all_set (λ r. r ≤ count + 1 - 1) front slot named (omega (arith, last)) (all_weaker (λ r. r ≤ count - 1) (λ r. r ≤ count + 1 - 1) (λ r low. omega (arith, low)) front h.named);
   room = λ t. cc;
 }
 

@@ -20,7 +20,7 @@ pub(crate) fn write_words(lines: &[Tile], tiles: &[Tile], out: &mut [[u64; 16]])
     let mut hashes = [SEED; 16];
     for j in 0..out.len() {
         let words = line_words(&lines[j], &tiles[j]);
-        mix_all(&mut hashes, &words);
+        mix_all(&mut hashes, &words, j);
         out[j] = words;
     }
     hashes

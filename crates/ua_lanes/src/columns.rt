@@ -7,7 +7,7 @@ ghost use Rattle.std.specs.Simd.Lanes.{number_l};
 ghost use Rattle.ua_lanes.specs.Columns.{AreSmall, entry_of, lane_of, key_of, block_of, words_for, AreLines, values_at};
 
 use crate::blocks::{known_bits, write_words};
-use crate::fronts::{FRONT, first_bits, guesses, hash_of, reserve_slots, slot_of};
+use crate::fronts::{FRONT, first_bits, guesses, hash_of, kept, reserve_slots, slot_of};
 use crate::tiles::{LANES, Tile, push_tiles};
 use std::alloc::{AllocError, Global};
 use std::marker::Model;
@@ -157,7 +157,7 @@ pub(crate) struct Columns {
     keys: Vec<u64>,
     /// Room for the words of one vector.
     key: Vec<u64>,
-    /// Vectors by their hashes: of those that share a slot the last.
+    /// Vectors by their hashes: of those that share a slot the first.
     front: Vec<u32>,
     /// Whether one more vector can be pushed without memory.
     ready: bool,
@@ -258,7 +258,7 @@ impl Columns {
         write_key(columns, lane, self.key.as_mut_slice());
         self.keys.extend_from_slice(self.key.as_slice()).unwrap();
         let slot = slot_of(hash_of(self.key.as_slice()), self.front.len());
-        self.front[slot] = self.count as u32;
+        self.front[slot] = kept(self.front[slot], self.count as u32);
         self.count += 1;
         self.ready = false;
     }

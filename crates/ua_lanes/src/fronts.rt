@@ -7,8 +7,12 @@ ghost use Rattle.std.specs.List.{AllByRecursion};
 use crate::tiles::LANES;
 use std::alloc::{AllocError, Global};
 
-/// How many slots the front has at least for each vector.
+/// How many slots the front has at least for each vector: twice as many where vectors have so many words that what
+/// the front forgets takes long to compute.
 const SLOTS: usize = 8;
+
+/// How many words such vectors have at least.
+const LONG: usize = 9;
 
 /// How many slots the first front has.
 pub(crate) const FRONT: usize = 256;
@@ -24,20 +28,31 @@ fn mixed(hash: u64, word: u64) -> u64 {
     low ^ high
 }
 
+/// A hash with the word at a place: those at even places are only taken in, and mixed with the word behind them.
+/// A product for every two words is enough to guess by.
+#[inline(always)]
+fn with_word(hash: u64, word: u64, place: usize) -> u64 {
+    if place % 2 == 0 {
+        (hash ^ word).rotate_left(7)
+    } else {
+        mixed(hash, word)
+    }
+}
+
 /// The hash of some words. It only guides a look-up, so nothing is said of it.
 pub(crate) fn hash_of(key: &[u64]) -> u64 {
     let mut hash = SEED;
-    for word in key {
-        hash = mixed(hash, *word);
+    for (place, word) in key.iter().enumerate() {
+        hash = with_word(hash, *word, place);
     }
     hash
 }
 
-/// Mixes a word into each hash.
+/// Takes the word at a place into each hash.
 #[inline(always)]
-pub(crate) fn mix_all(hashes: &mut [u64; 16], words: &[u64; 16]) {
+pub(crate) fn mix_all(hashes: &mut [u64; 16], words: &[u64; 16], place: usize) {
     for r in 0..16 {
-        hashes[r] = mixed(hashes[r], words[r]);
+        hashes[r] = with_word(hashes[r], words[r], place);
     }
 }
 
@@ -47,7 +62,16 @@ pub(crate) fn slot_of(hash: u64, slots: usize) -> usize
     requires { 0 < slots }
     ensures { result < slots }
 {
-    (hash >> 20) as usize & (slots - 1)
+    (mixed(hash, 0) >> 20) as usize & (slots - 1)
+}
+
+/// Which of two vectors keeps a slot that is empty or names the first of them: the values that are found first
+/// come most often. An empty slot is 0.
+#[inline(always)]
+pub(crate) fn kept(there: u32, new: u32) -> u32
+    ensures { (n : ℕ) → there ≤ n → new ≤ n → result ≤ n }
+{
+    if there == 0 { new } else { there }
 }
 
 /// A front of so many slots, with these vectors.
@@ -68,7 +92,7 @@ fn front_of(
     for i in 0..count {
         let start = i * words;
         let slot = slot_of(hash_of(&keys[start..start + words]), slots);
-        front[slot] = i as u32;
+        front[slot] = kept(front[slot], i as u32);
     }
     Ok(front)
 }
@@ -88,7 +112,8 @@ pub(crate) fn reserve_slots(
     ensures some { 0 < length front.new.items }
     ensures named { AllByRecursion (λ r. r ≤ count - 1) front.new.items }
 {
-    if count * SLOTS >= front.len() {
+    let slots = if words < LONG { SLOTS } else { 2 * SLOTS };
+    if count * slots >= front.len() {
         *front = front_of(alloc, keys, words, count, front.len() * 2)?;
     }
     Ok(())

@@ -12,24 +12,50 @@ use crate::columns::Columns;
 use crate::tiles::{LANES, Tile};
 use ua_table::{Elem, Frame, OpTable};
 
-/// The value of a table where the argument at the free place is this element, and the others are given.
-pub(crate) fn value_with(
+/// The number of some arguments: at which place of a table their value stands.
+fn number_of(table: &OpTable, args: &[Elem]) -> usize
+    requires arity { length args.now ≡ table.now.arity }
+    requires below { AllByRecursion (λ x. x < table.now.size) args.now }
+    ensures number { result ≡ numeral table.now.size args.now }
+    ensures within { result < length table.now.values }
+{
+    let size = table.size() as usize;
+    let mut number: usize = 0;
+    for x in args {
+        number = number * size + *x as usize;
+    }
+    number
+}
+
+/// Where the values of a table stand at which the argument at the free place is each element, and the others are
+/// given: that of 0, and how far behind each the next one is.
+pub(crate) fn line_in(
     table: &OpTable,
     mut args: [Elem; 4],
     arity: usize,
     free: usize,
-    y: Elem,
-) -> Elem
+) -> (usize, usize)
     requires few { arity ≤ 4 }
     requires arity { arity ≡ table.now.arity }
     requires free { free < arity }
-    requires element { y < table.now.size }
     requires below { AllByRecursion (λ x. x < table.now.size) (take arity args) }
-    ensures value { result ≡ slice_index table.now.values (numeral table.now.size (slice_set (take arity args) free y)) }
+    ensures numbers { (y : ℕ) → result.0 + y * result.1 ≡ numeral table.now.size (slice_set (take arity args) free y) }
+    ensures within { (y : ℕ) → y < table.now.size → result.0 + y * result.1 < length table.now.values }
+{
+    args[free] = 0;
+    let start = number_of(table, &args[..arity]);
+    let step = (table.size() as usize).pow((arity - free - 1) as u32);
+    (start, step)
+}
+
+/// The value at a place of a table.
+#[inline(always)]
+pub(crate) fn value_in(table: &OpTable, number: usize) -> Elem
+    requires { number < length table.now.values }
+    ensures value { result ≡ slice_index table.now.values number }
     ensures element { result < table.now.size }
 {
-    args[free] = y;
-    table.value(&args[..arity])
+    table.values()[number]
 }
 
 /// The values of a table, each times a scale, where the argument at the free place is each element, and the
@@ -44,9 +70,10 @@ fn line_at(table: &OpTable, args: [Elem; 4], arity: usize, free: usize, scale: u
     ensures bytes { AllByRecursion (λ x. x < 256) result }
     ensures values { (y : ℕ) → y < 16 → slice_index result y ≡ scale * (if nat_lt y table.now.size then slice_index table.now.values (numeral table.now.size (slice_set (take arity args) free y)) else 0) }
 {
+    let (start, step) = line_in(table, args, arity, free);
     let mut line = [0; 16];
     for y in 0..table.size() as usize {
-        line[y] = value_with(table, args, arity, free, y as Elem) as u8 * scale;
+        line[y] = value_in(table, start + y * step) as u8 * scale;
     }
     line
 }

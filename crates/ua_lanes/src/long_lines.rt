@@ -8,7 +8,7 @@ ghost use Rattle.ua_lanes.specs.Lines.{line_value};
 ghost use Rattle.ua_lanes.specs.Quads.{AreLongLines};
 ghost use Rattle.ua_lanes.specs.LargeLanes.{AreQuadVectors};
 
-use crate::lines::value_with;
+use crate::lines::{line_in, value_in};
 use crate::quad_lists::Quads;
 use ua_table::{Elem, Frame, OpTable};
 
@@ -24,9 +24,10 @@ fn fill_line(table: &OpTable, args: [Elem; 4], arity: usize, free: usize, line: 
     ensures values { (y : ℕ) → y < length line.new → slice_index line.new y ≡ (if nat_lt y table.now.size then slice_index table.now.values (numeral table.now.size (slice_set (take arity args) free y)) else 0) }
 {
     let size = table.size() as usize;
+    let (start, step) = line_in(table, args, arity, free);
     for y in 0..line.len() {
         line[y] = if y < size {
-            value_with(table, args, arity, free, y as Elem)
+            value_in(table, start + y * step)
         } else {
             0
         };

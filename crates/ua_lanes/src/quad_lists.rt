@@ -9,7 +9,7 @@ ghost use Rattle.ua_lanes.specs.Columns.{values_at};
 ghost use Rattle.ua_lanes.specs.Quads.{IsBelow, AreLongLines};
 
 use crate::blocks::known_bits;
-use crate::fronts::{FRONT, first_bits, guesses, hash_of, reserve_slots, slot_of};
+use crate::fronts::{FRONT, first_bits, guesses, hash_of, kept, reserve_slots, slot_of};
 use crate::quads::{ENTRIES, entries_of, word_of, write_values};
 use crate::tiles::LANES;
 use std::alloc::{AllocError, Global};
@@ -85,7 +85,7 @@ pub(crate) struct Quads {
     keys: Vec<u64>,
     /// Room for the words of one vector.
     key: Vec<u64>,
-    /// Vectors by their hashes: of those that share a slot the last.
+    /// Vectors by their hashes: of those that share a slot the first.
     front: Vec<u32>,
     /// Whether one more vector can be pushed without memory.
     ready: bool,
@@ -198,7 +198,7 @@ impl Quads {
         write_key(v, self.size, self.key.as_mut_slice());
         self.keys.extend_from_slice(self.key.as_slice()).unwrap();
         let slot = slot_of(hash_of(self.key.as_slice()), self.front.len());
-        self.front[slot] = self.count as u32;
+        self.front[slot] = kept(self.front[slot], self.count as u32);
         self.count += 1;
         self.ready = false;
     }

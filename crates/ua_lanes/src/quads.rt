@@ -53,6 +53,46 @@ fn value_of(lines: &[Elem], size: usize, word: u64) -> u64
     ])
 }
 
+/// The values of four lines at word j of key r.
+#[inline(always)]
+fn value_at(lines: &[Elem], size: usize, keys: &[u64], words: usize, j: usize, r: usize) -> u64
+    requires lines { 4 * size ≤ length lines.now }
+    requires key { r * words + j < length keys.now }
+    requires below { AllByRecursion (IsBelow size) keys.now }
+    ensures { lanes_of result ≡ values_in_word lines.now size (slice_index keys.now (r * words + j)) }
+{
+    value_of(lines, size, keys[r * words + j])
+}
+
+/// The values of four lines at word j of each key of a block of sixteen, which is no loop.
+#[inline(always)]
+fn whole_values_at(lines: &[Elem], size: usize, keys: &[u64], words: usize, j: usize) -> [u64; 16]
+    requires lines { 4 * size ≤ length lines.now }
+    requires keys { LANES * words ≤ length keys.now }
+    requires word { j < words }
+    requires below { AllByRecursion (IsBelow size) keys.now }
+    ensures { (r : ℕ) → r < LANES → lanes_of (slice_index result r) ≡ values_in_word lines.now size (slice_index keys.now (r * words + j)) }
+{
+    [
+        value_at(lines, size, keys, words, j, 0),
+        value_at(lines, size, keys, words, j, 1),
+        value_at(lines, size, keys, words, j, 2),
+        value_at(lines, size, keys, words, j, 3),
+        value_at(lines, size, keys, words, j, 4),
+        value_at(lines, size, keys, words, j, 5),
+        value_at(lines, size, keys, words, j, 6),
+        value_at(lines, size, keys, words, j, 7),
+        value_at(lines, size, keys, words, j, 8),
+        value_at(lines, size, keys, words, j, 9),
+        value_at(lines, size, keys, words, j, 10),
+        value_at(lines, size, keys, words, j, 11),
+        value_at(lines, size, keys, words, j, 12),
+        value_at(lines, size, keys, words, j, 13),
+        value_at(lines, size, keys, words, j, 14),
+        value_at(lines, size, keys, words, j, 15),
+    ]
+}
+
 /// The values of four lines at word j of each key of a block.
 #[inline(always)]
 fn values_at(
@@ -70,9 +110,12 @@ fn values_at(
     requires below { AllByRecursion (IsBelow size) keys.now }
     ensures { (r : ℕ) → r < count → lanes_of (slice_index result r) ≡ values_in_word lines.now size (slice_index keys.now (r * words + j)) }
 {
+    if count == LANES {
+        return whole_values_at(lines, size, keys, words, j);
+    }
     let mut values = [0; 16];
     for r in 0..count {
-        values[r] = value_of(lines, size, keys[r * words + j]);
+        values[r] = value_at(lines, size, keys, words, j, r);
     }
     values
 }
@@ -97,7 +140,7 @@ pub(crate) fn write_values(
     let mut hashes = [SEED; 16];
     for j in 0..words {
         let values = values_at(&lines[4 * size * j..], size, keys, words, j, count);
-        mix_all(&mut hashes, &values);
+        mix_all(&mut hashes, &values, j);
         out[j] = values;
     }
     hashes

@@ -12,8 +12,8 @@ loop-y-preserved c =
     let i = c.loop-y.invariant in
     let line = c.loop-y.line in
     let y = c.loop-y.y in
-    let value = c.value_with.result in
-    let low = c.value_with.ensures.element in
+    let value = c.value_in.result in
+    let low = c.value_in.ensures.element in
     let test = c.loop-y-test.true in
     let end = c.size-y-end.ensures.size in
     let few = c.requires.size in
@@ -25,6 +25,6 @@ loop-y-preserved c =
       bytes = all_set (λ x. x < 256) line y (value * c.args.scale) (omega (arith, most)) i.bytes;
       values = one_more (λ k. slice_index (slice_set line y (value * c.args.scale)) k ≡ c.args.scale * slice_index c.args.table.now.values (numeral c.args.table.now.size (slice_set (take c.args.arity c.args.args) c.args.free k))) y
           (λ k less. get_or-set_other line y k (value * c.args.scale) 0 (λ e. omega (arith, e, less)) ∙ i.values k less)
-          (get_or-set_same line y (value * c.args.scale) 0 within ∙ (let e = c.value_with.ensures.value in let m : value * c.args.scale ≡ c.args.scale * value = search arith in m ∙ ap (λ n. c.args.scale * n) e));
+          (get_or-set_same line y (value * c.args.scale) 0 within ∙ (let e = c.value_in.ensures.value ∙ ap (slice_index c.args.table.now.values) (c.line_in-start.ensures.numbers y) in let m : value * c.args.scale ≡ c.args.scale * value = search arith in m ∙ ap (λ n. c.args.scale * n) e));
       zeros = λ k more. get_or-set_other line y k (value * c.args.scale) 0 (λ e. omega (arith, e, more)) ∙ i.zeros k (omega (arith, more));
     }

@@ -8,6 +8,6 @@ abbrev pub invariant-loop-y : goal.invariant-loop-y
 invariant-loop-y l = record {
   long : length l.line ≡ 16;
   bytes : AllByRecursion (λ x. x < 256) l.line;
-  values : (k : ℕ) → k < l.y → slice_index l.line k ≡ l.scale * slice_index l.table.values (numeral l.table.size (slice_set (take l.arity l.args) l.free k));
+  values : (k : ℕ) → k < l.y → slice_index l.line k ≡ l.scale * slice_index l.table.values (numeral l.table.size (slice_set (take l.arity l.fn.args) l.free k));
   zeros : (k : ℕ) → l.y ≤ k → slice_index l.line k ≡ 0;
 }
