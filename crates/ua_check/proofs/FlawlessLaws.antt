@@ -1,7 +1,7 @@
 -- What is written of an answer that is right has no flaw: steps, listings, and rows that lack a vector.
-use Rattle.std.proofs.Common.{◌≡◌, ◌≢◌, ℕ, zero, suc, ◌+◌, ◌-◌, ◌<◌, ◌≤◌, Bool, true, false, not, ◌&&◌, ◌||◌, cond, Option, Some, None, List, [], ◌∷◌, ◌++◌, map, length, take, drop, replicate, get_or, codes, refl, sym, ap, ◌∙◌, subst, arith, ⊎_elim}
+use Rattle.std.proofs.Common.{◌≡◌, ◌≢◌, ℕ, zero, suc, ◌+◌, ◌-◌, ◌<◌, ◌≤◌, Bool, true, false, not, ◌&&◌, ◌||◌, cond, Option, Some, None, List, [], ◌∷◌, ◌++◌, map, length, take, drop, replicate, codes, refl, sym, ap, ◌∙◌, subst, arith}
 use Rattle.std.specs.Prelude.{Contains, slice_get, slice_index, slice_index_or, find, nat_lt, nat_eq, min, ◌==◌}
-use Rattle.std.specs.List.{AllByRecursion, AllZip, list_all, list_any, range_with_len}
+use Rattle.std.specs.List.{AllByRecursion, list_all, list_any, range_with_len}
 use Rattle.std.specs.Option.{option_map}
 use Rattle.std.specs.Cmp.Lexicographic.{pointwise, nat_list_eq_equiv, bytes_decides, slice_cmp}
 use Rattle.std.specs.Ordering.{nat_cmp, is_lt}
@@ -13,19 +13,18 @@ use Rattle.std.proofs.lemmas.Map.Views.{list_any-from_Contains}
 use Rattle.ua_table.specs.declared.limits.TheConstants.{WIDTH}
 use Rattle.ua_table.specs.declared.origins.Origin.{Origin}
 use Rattle.ua_table.specs.declared.origins.Origin.TheVariants.{Gen, Op}
-use Rattle.ua_table.specs.Algebras.{Vector, Operation, FiniteAlgebra, Product, IsVector, arities, arities_of, names_of, apply, IsIncreasing}
+use Rattle.ua_table.specs.Algebras.{Vector, Operation, FiniteAlgebra, IsVector, arities, arities_of, names_of, apply, IsIncreasing}
 use Rattle.ua_table.specs.Names.{is_reserved, is_variable}
 use Rattle.ua_table.specs.Tables.{IsTable, IsAlgebraTable}
-use Rattle.ua_table.specs.Counting.{one_if, times, once_below, EachOnceBelow}
+use Rattle.ua_table.specs.Counting.{one_if, times, EachOnceBelow}
 use Rattle.ua_table.specs.Generated.{Sg}
 use Rattle.ua_table.specs.Origins.{IsOrigin, IsApplication, arguments_of, origin_value}
 use Rattle.ua_table.specs.Terms.{term_value}
-use Rattle.ua_table.specs.Listings.{Row, vectors_of, ranks_of, IsMadeFrom, IsListing, IsClosedListing}
+use Rattle.ua_table.specs.Listings.{Row, vectors_of, ranks_of, IsMadeFrom}
 use Rattle.ua_table.specs.Refusals.{refusal_if, first_refusal, is_outside}
-use Rattle.ua_table.proofs.Lists.{found, mapped_at, mapped_from, Contains-head, Contains-tail, Contains-slice_get, Contains-cases, Contains-none, Contains-map_from, All-slice_get, all_at, get_or-slice_get}
+use Rattle.ua_table.proofs.Lists.{found, mapped_at, mapped_from, Contains-head, Contains-tail, Contains-slice_get, All-slice_get, get_or-slice_get}
 use Rattle.ua_table.proofs.Counts.{one_if-same, times-Contains}
 use Rattle.ua_table.proofs.GeneratedLaws.{generator_in, result_in}
-use Rattle.ua_table.proofs.ListingLaws.{vector_in}
 use Rattle.ua_table.proofs.Choices.{range_low}
 use Rattle.ua_term.specs.Meanings.{operation_number, has_operation}
 use Rattle.ua_term.specs.Steps.{AreStepsFrom, AreSteps, step_values, step_term, unfolded}
@@ -33,10 +32,8 @@ use Rattle.ua_term.specs.Printing.{name_at}
 use Rattle.ua_term.specs.Assignments.{assignments, IsAssignment}
 use Rattle.ua_term.proofs.AssignmentLaws.{assignment_from}
 use Rattle.ua_term.proofs.Naming.{named_number, named_there}
-use Rattle.ua_term.proofs.StepLaws.{length_values}
 use Rattle.ua_rows.specs.RowLists.{rows_at}
 use Rattle.ua_cert.specs.declared.certs.CertStep.{CertStep}
-use Rattle.ua_check.specs.declared.flaws.Flaw.{Flaw}
 use Rattle.ua_check.specs.declared.flaws.Flaw.TheVariants as flaw
 use Rattle.ua_check.specs.declared.flaws.ListName.{ListName}
 use Rattle.ua_check.specs.declared.flaws.ListName.TheVariants.{Gens, Rows, Target}

@@ -1,21 +1,21 @@
 -- Rows that are closed, with the positions of those that beginnings of chains reach where there is no chain, have no flaw.
-use Rattle.std.proofs.Common.{◌≡◌, ℕ, zero, suc, ◌+◌, ◌<◌, ◌≤◌, Bool, true, false, not, ◌&&◌, ◌||◌, Some, None, List, [], ◌∷◌, ◌++◌, map, length, ⊎_elim, refl, sym, ap, ◌∙◌, subst, arith}
-use Rattle.std.specs.Prelude.{Contains, ◌↔◌, slice_get, slice_index, slice_index_or, ◌==◌, nat_lt, replicate}
+use Rattle.std.proofs.Common.{◌≡◌, ℕ, zero, suc, ◌+◌, ◌<◌, ◌≤◌, Bool, true, false, not, ◌&&◌, ◌||◌, Some, None, List, [], ◌∷◌, ◌++◌, length, ⊎_elim, refl, sym, ap, ◌∙◌, subst, arith}
+use Rattle.std.specs.Prelude.{Contains, slice_get, slice_index, slice_index_or, ◌==◌, nat_lt, replicate}
 use Rattle.std.specs.List.{AllByRecursion, list_any}
 use Rattle.std.proofs.lemmas.Bool.Decides.{nat_tests}
-use Rattle.std.proofs.lemmas.List.{length-map, length-replicate}
+use Rattle.std.proofs.lemmas.List.{length-replicate}
 use Rattle.std.proofs.lemmas.List.FromFn.{length-map-range_with_len}
 use Rattle.std.proofs.lemmas.List.Elements.{All-from_recursion}
 use Rattle.ua_table.specs.declared.limits.TheConstants.{WIDTH}
-use Rattle.ua_table.specs.Algebras.{Vector, FiniteAlgebra, IsVector, arities_of, arities, IsIncreasing}
-use Rattle.ua_table.specs.Terms.{Tree, Generator, IsTerm, eval, term_value}
+use Rattle.ua_table.specs.Algebras.{Vector, FiniteAlgebra, IsVector, arities_of, IsIncreasing}
+use Rattle.ua_table.specs.Terms.{Tree, Generator, IsTerm, eval}
 use Rattle.ua_table.specs.Generated.{Sg}
 use Rattle.ua_table.specs.Refusals.{refusal_if}
 use Rattle.ua_table.proofs.Lists.{found, get_or-slice_get, Contains-head, Contains-tail, Contains-cases, Contains-none, Contains-slice_get, all_at, All-slice_get, all_append}
 use Rattle.ua_term.specs.Assignments.{IsAssignment}
 use Rattle.ua_walk.specs.Sequences.{Alternates, BeginsWith, EndsWith, ends_even}
-use Rattle.ua_identity.specs.Identities.{VariablePattern, TermIdentity, xxy, xyx, xyy}
-use Rattle.ua_identity.specs.Chains.{ChainKind, AreLinked, IsOwn, IsPlace, IsBeginning, IsChain, is_among_even, IsReached}
+use Rattle.ua_identity.specs.Identities.{VariablePattern, xxy, xyx, xyy}
+use Rattle.ua_identity.specs.Chains.{AreLinked, IsOwn, IsPlace, IsBeginning, IsChain, is_among_even, IsReached}
 use Rattle.ua_identity.specs.Patterns.{all_fillings, vector_of, place_vector, part_of}
 use Rattle.ua_identity.specs.Kinds.{alike}
 use Rattle.ua_identity.proofs.PatternLaws.{part_is, linked_from_parts, satisfied_from_part}
@@ -28,12 +28,12 @@ use Rattle.ua_check.specs.Shapes.{power}
 use Rattle.ua_check.specs.Answers.{AreExact, AreThose}
 use Rattle.ua_check.specs.Flaws.{vectors_flaw, closed_flaw}
 use Rattle.ua_check.specs.Chains.{kind_of, chain_width, HasNoChain}
-use Rattle.ua_check.specs.Reached.{even_parts, odd_parts, leads, is_own_row, holds_position, odd_positions, is_position, positions_flaw, parity_flaw, is_led_to, is_started, is_followed, is_not_end, places_of, place_of, row_flaw, reached_lines, reached_flaw, rows_flaw, sides_flaw, no_chain_lines, no_chain_flaw}
+use Rattle.ua_check.specs.Reached.{even_parts, odd_parts, leads, is_own_row, holds_position, odd_positions, is_position, positions_flaw, parity_flaw, is_led_to, is_started, is_followed, is_not_end, places_of, place_of, row_flaw, reached_lines, no_chain_lines, no_chain_flaw}
 use Rattle.ua_check.proofs.FirstLaws.{same_is}
 use Rattle.ua_check.proofs.StepLaws.{arities_power}
 use Rattle.ua_check.proofs.NoChainLaws.{VectorLaw, three_long, three, vec, even_leads, odd_leads, start_is}
 use Rattle.ua_check.proofs.ReachedLaws.{some_wide}
-use Rattle.ua_check.proofs.FlawlessLaws.{is_below, is_equal, all_true, no_line, no_refusal, no_option, none_bad, no_vector_flaw, no_closed_flaw}
+use Rattle.ua_check.proofs.FlawlessLaws.{is_below, all_true, no_line, no_refusal, no_option, none_bad, no_vector_flaw, no_closed_flaw}
 
 -- ---- positions
 

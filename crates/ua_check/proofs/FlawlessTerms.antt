@@ -1,8 +1,8 @@
 -- What is written of an answer on conditions and chains that is right has no flaw.
-use Rattle.std.proofs.Common.{◌≡◌, ℕ, zero, suc, ◌+◌, ◌-◌, ◌<◌, ◌≤◌, Bool, true, false, not, ◌&&◌, ◌||◌, cond, Option, Some, None, List, [], ◌∷◌, map, length, refl, sym, ap, ◌∙◌, subst, arith, ⊎_elim}
-use Rattle.std.specs.Prelude.{Contains, slice_get, slice_index, slice_index_or, find, nat_lt, nat_le, ◌==◌, ◌%◌}
-use Rattle.std.specs.List.{AllByRecursion, list_all, list_any, enumerate_from}
-use Rattle.std.specs.Option.{option_map, is_none}
+use Rattle.std.proofs.Common.{◌≡◌, ℕ, zero, suc, ◌+◌, ◌<◌, ◌≤◌, Bool, true, false, not, ◌&&◌, ◌||◌, cond, Some, None, List, [], ◌∷◌, map, length, refl, sym, ap, ◌∙◌, subst, arith}
+use Rattle.std.specs.Prelude.{Contains, slice_get, slice_index, slice_index_or, nat_lt, ◌==◌, ◌%◌}
+use Rattle.std.specs.List.{AllByRecursion, list_any, enumerate_from}
+use Rattle.std.specs.Option.{is_none}
 use Rattle.std.proofs.lemmas.Bool.Decides.{nat_tests}
 use Rattle.std.proofs.lemmas.List.{length-map}
 use Rattle.ua_table.specs.declared.limits.TheConstants.{WIDTH}
@@ -10,10 +10,10 @@ use Rattle.ua_table.specs.declared.origins.Origin.{Origin}
 use Rattle.ua_table.specs.Algebras.{Vector, FiniteAlgebra, IsVector, arities_of, IsIncreasing}
 use Rattle.ua_table.specs.Tables.{IsAlgebraTable}
 use Rattle.ua_table.specs.Terms.{Tree, eval}
-use Rattle.ua_table.specs.Refusals.{refusal_if, first_refusal}
+use Rattle.ua_table.specs.Refusals.{first_refusal}
 use Rattle.ua_table.proofs.Lists.{found, get_or-slice_get, All-slice_get}
 use Rattle.ua_term.specs.Steps.{AreSteps}
-use Rattle.ua_term.specs.Assignments.{assignments, IsAssignment}
+use Rattle.ua_term.specs.Assignments.{assignments}
 use Rattle.ua_term.proofs.AssignmentLaws.{assignment_from}
 use Rattle.ua_walk.specs.Sequences.{Alternates, BeginsWith, EndsWith}
 use Rattle.ua_identity.specs.Identities.{TermIdentity, at_pattern, Satisfies}
@@ -24,15 +24,14 @@ use Rattle.ua_cert.specs.declared.certs.CertStep.{CertStep}
 use Rattle.ua_cert.specs.declared.certs.CondName.{CondName}
 use Rattle.ua_cert.specs.declared.certs.ChainName.{ChainName}
 use Rattle.ua_check.specs.declared.flaws.ListName.TheVariants.{Rows}
-use Rattle.ua_check.specs.declared.flaws.Flaw.{Flaw}
 use Rattle.ua_check.specs.declared.flaws.Flaw.TheVariants as flaw
 use Rattle.ua_check.specs.Firsts.{first_bad}
 use Rattle.ua_check.specs.Steps.{written_step, written_steps, written_term, last_term}
 use Rattle.ua_check.specs.Shapes.{power}
 use Rattle.ua_check.specs.Answers.{AreExact}
-use Rattle.ua_check.specs.Flaws.{vectors_flaw, steps_flaw, outside_lines}
-use Rattle.ua_check.specs.Conditions.{condition_of, has_places, is_no_condition, fails, identity_failure, failure_flaw, identities_flaw, condition_lines, condition_flaw, width_of, no_condition_lines, no_condition_flaw}
-use Rattle.ua_check.specs.Chains.{kind_of, chain_width, place_identity, satisfies, satisfies_all, is_fit, link_at, is_unlinked, are_linked, is_in_chain, links_flaw, term_flaw, terms_flaw, is_without_term, chain_lines, chain_flaw}
+use Rattle.ua_check.specs.Flaws.{steps_flaw}
+use Rattle.ua_check.specs.Conditions.{condition_of, has_places, is_no_condition, fails, identity_failure, failure_flaw, condition_lines, condition_flaw, width_of, no_condition_lines, no_condition_flaw}
+use Rattle.ua_check.specs.Chains.{kind_of, chain_width, place_identity, satisfies, satisfies_all, is_fit, link_at, is_unlinked, are_linked, is_in_chain, links_flaw, term_flaw, is_without_term, chain_lines, chain_flaw}
 use Rattle.ua_check.proofs.FirstLaws.{skipped}
 use Rattle.ua_check.proofs.SatisfyLaws.{read_all}
 use Rattle.ua_check.proofs.FlawlessLaws.{is_equal, all_true, not_either, no_line, no_refusal, no_option, none_bad, none_found, no_vector_flaw, steps_again, no_step_flaw, no_outside_flaw}

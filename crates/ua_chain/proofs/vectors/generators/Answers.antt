@@ -10,7 +10,7 @@ use Rattle.ua_close.specs.Answers.{IsCause}
 use Rattle.ua_identity.specs.Patterns.{all_fillings, place_vector}
 use Rattle.ua_chain.specs.Answers.{power_of, generators_of}
 use Rattle.ua_chain.proofs.ChainLaws.{some_fillings, generator_count}
-use Rattle.ua_chain.proofs.VectorLaws.{has_places, generators_fit, width_low}
+use Rattle.ua_chain.proofs.VectorLaws.{generators_fit, width_low}
 use Rattle.ua_chain.proofs.vectors.generators.Goals as goal
 
 pub check_power-requires-clause-some : goal.check_power-requires-clause-some
