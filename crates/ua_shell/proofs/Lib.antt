@@ -2,6 +2,7 @@ mod Serving
 mod Pending
 mod Sending
 mod Batching
+mod Sharing
 mod Built
 mod Generating
 mod Endings

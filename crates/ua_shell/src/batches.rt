@@ -15,7 +15,7 @@ ghost use Rattle.ua_shell.specs.Outputs.{IsServed};
 ghost use Rattle.ua_shell.specs.Served.{Serves};
 
 use crate::hearing::{Heard, hear};
-use crate::serve::Served;
+use crate::serve::{Served, serve};
 use std::alloc::{AllocError, Global};
 use std::sync::Wait;
 use std::thread::Threads;
@@ -120,7 +120,7 @@ fn tell<R: Threads + Wait + Sync, K: Sink, G: Gate>(
 ///
 /// The replies are written in order, each as one piece, and nothing more after a fault. Where a batch wants
 /// memory nothing of it is written.
-pub fn serve_batches<R: Threads + Wait + Sync, K: Sink, G: Gate>(
+fn serve_batches<R: Threads + Wait + Sync, K: Sink, G: Gate>(
     rt: &R,
     alloc: Global,
     items: &[Item],
@@ -148,4 +148,24 @@ pub fn serve_batches<R: Threads + Wait + Sync, K: Sink, G: Gate>(
         }
     }
     tell(rt, alloc, &heard, run, jobs, &session, sink)
+}
+
+/// Answers the commands one by one where there is one job, and else in batches.
+pub fn serve_items<R: Threads + Wait + Sync, K: Sink, G: Gate>(
+    rt: &R,
+    alloc: Global,
+    items: &[Item],
+    run: &Run<G>,
+    jobs: u32,
+    sink: &mut K,
+) -> Served
+    requires served { AllByRecursion IsServed items.now }
+    requires some { 1 ≤ jobs }
+    requires pool { jobs ≤ WORKERS }
+    ensures { Serves K.written K.faults (bounds_of run.now.budget run.now.workers) items.now sink.old sink.new result }
+{
+    match jobs {
+        1 => serve(rt, alloc, items, run, sink),
+        _ => serve_batches(rt, alloc, items, run, jobs, sink),
+    }
 }
