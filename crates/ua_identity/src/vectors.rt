@@ -26,12 +26,7 @@ impl Condition {
     }
 
     /// What stands at a place under each identity and each assignment of its variables, identity first.
-    fn argument_row(
-        &self,
-        alloc: Global,
-        a: &Algebra,
-        place: u8,
-    ) -> Result<Vec<Elem>, AllocError>
+    fn argument_row(&self, alloc: Global, a: &Algebra, place: u8) -> Result<Vec<Elem>, AllocError>
         requires place { place < self.now.arity }
         requires narrow { length (condition_power a.now self.now) ≤ WIDTH }
         ensures { IfOk result (λ row. row.items ≡ place_vector (all_fillings a.now.size (patterns_of self.now)) place) }

@@ -75,21 +75,57 @@ written_sync = search (sync-Written, name_shared.the_sync, as_row_sync, crosses,
 -- variant by variant, and each field by field
 pub command_sync : IsSync command.the_row
 command_sync = variants_sync command.enum (
-    (provable_sync, (mode_sync, (search (sendable, as_row_sync), tt))), (
-    (word_sync, (number_sync, (mode_sync, tt))), (
-    (word_sync, (items_sync, tt)), (
-    (word_sync, tt), (
-    (word_sync, (written_sync, (items_sync, tt))), (
-    (word_sync, (search (list_shared.the_sync, sendable, as_row_sync, crosses, items_shared.the_sync), tt)), (
-    (word_sync, tt), (
-    (word_sync, tt), (
-    (word_sync, tt), (
-    (word_sync, (number_sync, (search (list_shared.the_sync, sendable, as_row_sync, crosses, identity_shared.the_sync), tt))), (
-    (word_sync, (number_sync, (clone_sync, (points_sync, tt)))), (
-    (word_sync, (part_sync, (part_sync, (part_sync, tt)))), (
-    (word_sync, (part_sync, (part_sync, tt))), (
-    (word_sync, (series_sync, tt)), (
-    (word_sync, (written_sync, (written_sync, tt))), (
-    (word_sync, (word_sync, (items_sync, (items_sync, tt)))), (
-    (word_sync, (search (list_shared.the_sync, sendable, as_row_sync, crosses), tt)), (
-    (place_sync, (word_sync, (making_sync, tt))), tt))))))))))))))))))
+  (provable_sync, (mode_sync, (search (sendable, as_row_sync), tt))),
+  (
+    (word_sync, (number_sync, (mode_sync, tt))),
+    (
+      (word_sync, (items_sync, tt)),
+      (
+        (word_sync, tt),
+        (
+          (word_sync, (written_sync, (items_sync, tt))),
+          (
+            (word_sync, (search (list_shared.the_sync, sendable, as_row_sync, crosses, items_shared.the_sync), tt)),
+            (
+              (word_sync, tt),
+              (
+                (word_sync, tt),
+                (
+                  (word_sync, tt),
+                  (
+                    (word_sync, (number_sync, (search (list_shared.the_sync, sendable, as_row_sync, crosses, identity_shared.the_sync), tt))),
+                    (
+                      (word_sync, (number_sync, (clone_sync, (points_sync, tt)))),
+                      (
+                        (word_sync, (part_sync, (part_sync, (part_sync, tt)))),
+                        (
+                          (word_sync, (part_sync, (part_sync, tt))),
+                          (
+                            (word_sync, (series_sync, tt)),
+                            (
+                              (word_sync, (written_sync, (written_sync, tt))),
+                              (
+                                (word_sync, (word_sync, (items_sync, (items_sync, tt)))),
+                                (
+                                  (word_sync, (search (list_shared.the_sync, sendable, as_row_sync, crosses), tt)),
+                                  (
+                                    (place_sync, (word_sync, (making_sync, tt))),
+                                    tt,
+                                  ),
+                                ),
+                              ),
+                            ),
+                          ),
+                        ),
+                      ),
+                    ),
+                  ),
+                ),
+              ),
+            ),
+          ),
+        ),
+      ),
+    ),
+  ),
+)
