@@ -1,9 +1,12 @@
 -- A command may be shared by threads, since its fields may. Enums of fewer variants are seen to be so without a proof.
 use Rattle.std.proofs.Crossing.{crosses}
+use denote.Builtin.{u8}
 use denote.Hole.{as_row}
 use denote.Param.Send.{IsSync, sendable}
 use denote.Param.SendFields.{variants_sync, as_row_sync}
+use denote.Struct.Field.{bool-field}
 use Rattle.ua_table.proofs.names.Name.TheSendSync as name_shared
+use Rattle.ua_table.specs.contracts.listed.Listed as lists
 use Rattle.ua_table.proofs.listed.Listed.TheSendSync as list_shared
 use Rattle.ua_text.specs.contracts.tokens.Place as place
 use Rattle.ua_text.proofs.tokens.Place.TheSendSync as place_shared
@@ -72,24 +75,23 @@ place_sync = as_row_sync place.the_field place_shared.the_field_sync
 written_sync : IsSync (as_row written.the_field)
 written_sync = search (sync-Written, name_shared.the_sync, as_row_sync, crosses, sendable)
 
+one : {A : Type 0} → A → A × Unit {0}
+one a = (a, tt)
+
+two : {A B : Type 0} → A → B → A × (B × Unit {0})
+two a b = (a, (b, tt))
+
+three : {A B C : Type 0} → A → B → C → A × (B × (C × Unit {0}))
+three a b c = (a, (b, (c, tt)))
+
+four : {A B C D : Type 0} → A → B → C → D → A × (B × (C × (D × Unit {0})))
+four a b c d = (a, (b, (c, (d, tt))))
+
 -- variant by variant, and each field by field
 pub command_sync : IsSync command.the_row
-command_sync = variants_sync command.enum (
-    (provable_sync, (mode_sync, (search (sendable, as_row_sync), tt))), (
-    (word_sync, (number_sync, (mode_sync, tt))), (
-    (word_sync, (items_sync, tt)), (
-    (word_sync, tt), (
-    (word_sync, (written_sync, (items_sync, tt))), (
-    (word_sync, (search (list_shared.the_sync, sendable, as_row_sync, crosses, items_shared.the_sync), tt)), (
-    (word_sync, tt), (
-    (word_sync, tt), (
-    (word_sync, tt), (
-    (word_sync, (number_sync, (search (list_shared.the_sync, sendable, as_row_sync, crosses, identity_shared.the_sync), tt))), (
-    (word_sync, (number_sync, (clone_sync, (points_sync, tt)))), (
-    (word_sync, (part_sync, (part_sync, (part_sync, tt)))), (
-    (word_sync, (part_sync, (part_sync, tt))), (
-    (word_sync, (series_sync, tt)), (
-    (word_sync, (written_sync, (written_sync, tt))), (
-    (word_sync, (word_sync, (items_sync, (items_sync, tt)))), (
-    (word_sync, (search (list_shared.the_sync, sendable, as_row_sync, crosses), tt)), (
-    (place_sync, (word_sync, (making_sync, tt))), tt))))))))))))))))))
+command_sync =
+    let flag_sync : IsSync (as_row bool-field) = search (sendable, as_row_sync) in
+    let vectors_sync : IsSync (as_row (lists.the_field items.the_row)) = search (list_shared.the_sync, sendable, as_row_sync, crosses, items_shared.the_sync) in
+    let identities_sync : IsSync (as_row (lists.the_field identity.the_row)) = search (list_shared.the_sync, sendable, as_row_sync, crosses, identity_shared.the_sync) in
+    let bytes_sync : IsSync (as_row (lists.the_field u8)) = search (list_shared.the_sync, sendable, as_row_sync, crosses) in
+    variants_sync command.enum (three provable_sync mode_sync flag_sync, (three word_sync number_sync mode_sync, (two word_sync items_sync, (one word_sync, (three word_sync written_sync items_sync, (two word_sync vectors_sync, (one word_sync, (one word_sync, (one word_sync, (three word_sync number_sync identities_sync, (four word_sync number_sync clone_sync points_sync, (four word_sync part_sync part_sync part_sync, (three word_sync part_sync part_sync, (two word_sync series_sync, (three word_sync written_sync written_sync, (four word_sync word_sync items_sync items_sync, (two word_sync bytes_sync, (three place_sync word_sync making_sync, tt))))))))))))))))))
