@@ -65,8 +65,8 @@ pub(crate) fn slot_of(hash: u64, slots: usize) -> usize
     (mixed(hash, 0) >> 20) as usize & (slots - 1)
 }
 
-/// Which of two vectors keeps a slot that is empty or names the first of them: the values that are found first
-/// come most often. An empty slot is 0.
+/// Which vector a slot names where one more is to be entered: the one that is there, since the values that are found
+/// first come most often. An empty slot is 0, as is that of vector 0, which alone gives way.
 #[inline(always)]
 pub(crate) fn kept(there: u32, new: u32) -> u32
     ensures { (n : ℕ) → there ≤ n → new ≤ n → result ≤ n }

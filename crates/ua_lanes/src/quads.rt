@@ -64,7 +64,7 @@ fn value_at(lines: &[Elem], size: usize, keys: &[u64], words: usize, j: usize, r
     value_of(lines, size, keys[r * words + j])
 }
 
-/// The values of four lines at word j of each key of a block of sixteen, which is no loop.
+/// The values of four lines at word j of each key of a whole block, without a loop: most blocks are whole.
 #[inline(always)]
 fn whole_values_at(lines: &[Elem], size: usize, keys: &[u64], words: usize, j: usize) -> [u64; 16]
     requires lines { 4 * size ≤ length lines.now }

@@ -3,7 +3,6 @@ use Rattle.std.specs.List.{AllByRecursion}
 use Rattle.ua_table.specs.declared.limits.TheConstants.{VALUES}
 use Rattle.ua_table.specs.Algebras.{Operation}
 use Rattle.ua_table.specs.Tables.{IsTable}
-use Rattle.ua_table.proofs.ApplyLemmas.{numeral-below}
 use Rattle.ua_table.proofs.Digits.{digit_more, numeral_more}
 use Rattle.ua_lanes.proofs.lines.number_of.Goals as goal
 
