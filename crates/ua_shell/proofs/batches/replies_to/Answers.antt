@@ -1,5 +1,5 @@
 use Rattle.std.proofs.Common.{Vec, Global, ℕ}
-use denote.Param.Send.{IsSync, sendable, arg_sync, param_sync}
+use denote.Param.Send.{sendable, arg_sync, param_sync}
 use denote.Exit.{no}
 use mir.Syntax.{named}
 use Rattle.ua_table.proofs.Lists.{all_weaker}
