@@ -2,8 +2,8 @@
 
 ghost use Rattle.std.specs.Prelude.{◌≡◌, ◌∷◌, if◌then◌else◌, true, OnOk};
 ghost use Rattle.ua_text.specs.Machine.{Taken, table_role, with_naming};
-ghost use Rattle.ua_text.specs.Offers.{is_role};
-ghost use Rattle.ua_text.specs.Steps.{takes, skips, is_items, offers_here, next_stack, pushed_parts, parts_behind};
+ghost use Rattle.ua_text.specs.Offers.{is_role, offers_here};
+ghost use Rattle.ua_text.specs.Steps.{takes, skips, is_items, next_stack, pushed_parts, parts_behind};
 ghost use Rattle.ua_text.specs.Grammars.{forms_of};
 
 use crate::checks::{size_of, values_of};
@@ -102,12 +102,12 @@ pub fn follow(
         Symbol::Inside => push_unless(stack, text == b"]".as_slice(), symbol)?,
         Symbol::Identities(list) => stack.push_identity(list)?,
         Symbol::Naming(size) => push_names(stack, size)?,
-        Symbol::Elements(0) => {}
+        Symbol::Elements(0) | Symbol::Behind(0) | Symbol::Entries { count: 0, .. } => {}
         Symbol::Elements(count) => stack.push(Symbol::Elements(count - 1))?,
         Symbol::Pick(table) => push_form(grammar, stack, table, text)?,
         Symbol::Items => push_item(grammar, stack, text)?,
         Symbol::Term(depth) => push_unless(stack, is_variable(text), Symbol::Behind(depth))?,
-        Symbol::Behind(depth) => push_argument(stack, depth.saturating_sub(1))?,
+        Symbol::Behind(depth) => push_argument(stack, depth - 1)?,
         Symbol::Args(depth) => {
             if text == b",".as_slice() {
                 push_argument(stack, depth)?;
@@ -117,7 +117,7 @@ pub fn follow(
         Symbol::Ops(size) => push_unless(stack, text == b"end".as_slice(), Symbol::OpName(size))?,
         Symbol::OpName(size) => stack.push(Symbol::Arity(size))?,
         Symbol::Arity(size) => push_values(stack, size, values_of(size, text))?,
-        Symbol::Entries { count, size } => push_entries(stack, size, count.saturating_sub(1))?,
+        Symbol::Entries { count, size } => push_entries(stack, size, count - 1)?,
         _ => {}
     }
     Ok(())
