@@ -6,12 +6,12 @@ use Rattle.ua_text.specs.declared.symbols.Role.TheVariants as roles
 use Rattle.ua_text.specs.Words.{same}
 use Rattle.ua_text.specs.Pieces.{Placed}
 use Rattle.ua_text.specs.Signs.{Wanted, sign, Front}
-use Rattle.ua_script.specs.declared.script.Items.{Items}
-use Rattle.ua_script.specs.declared.script.CloneWord.{CloneWord}
-use Rattle.ua_script.specs.declared.script.CloneWord.TheVariants.{Term, Polynomial}
-use Rattle.ua_script.specs.declared.script.PointsText.{PointsText}
-use Rattle.ua_script.specs.declared.script.PointsText.TheVariants.{Total, Partial}
-use Rattle.ua_script.specs.Grammar.{vector, clone_word, points}
+use Rattle.ua_operands.specs.declared.written.Items.{Items}
+use Rattle.ua_operands.specs.declared.written.CloneWord.{CloneWord}
+use Rattle.ua_operands.specs.declared.written.CloneWord.TheVariants.{Term, Polynomial}
+use Rattle.ua_operands.specs.declared.written.PointsText.{PointsText}
+use Rattle.ua_operands.specs.declared.written.PointsText.TheVariants.{Total, Partial}
+use Rattle.ua_operands.specs.Written.{vector, clone_word, points}
 
 pub clone_is : (k c : CloneWord) (t : List ℕ) → t ≡ clone_word k → same t (clone_word c) ≡ true → c ≡ k
 clone_is k c t e h = differ k c (subst (λ z. same z (clone_word c) ≡ true) e h)

@@ -7,12 +7,12 @@ ghost use Rattle.ua_text.specs.Printing.{Shows};
 ghost use Rattle.ua_text.specs.Signs.{Wanted, sign, Front};
 ghost use Rattle.ua_text.specs.Tokens.{tokens_left, source_of};
 ghost use Rattle.ua_text.specs.Reading.{Gives, begins_with};
-ghost use Rattle.ua_script.specs.declared.script.Variable.{Variable};
-ghost use Rattle.ua_script.specs.declared.script.IdentityText.{IdentityText};
-ghost use Rattle.ua_script.specs.Grammar.{variable, variable_word, arguments, identity};
+ghost use Rattle.ua_operands.specs.declared.written.Variable.{Variable};
+ghost use Rattle.ua_operands.specs.declared.written.IdentityText.{IdentityText};
+ghost use Rattle.ua_operands.specs.Written.{variable, variable_word, arguments, identity};
 
 use crate::readers::{is_word, place_of};
-use crate::script::{IdentityText, Variable};
+use crate::written::{IdentityText, Variable};
 use std::alloc::{AllocError, Global};
 use ua_table::Listed;
 use ua_text::{Miss, Printer, Role, Tokens, exact, is_next, next};

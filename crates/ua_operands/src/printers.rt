@@ -5,9 +5,9 @@ ghost use Rattle.std.specs.List.{flat_map};
 ghost use Rattle.ua_text.specs.declared.symbols.Role.{Role};
 ghost use Rattle.ua_text.specs.Signs.{sign};
 ghost use Rattle.ua_text.specs.Printing.{Shows};
-ghost use Rattle.ua_script.specs.Grammar.{word, further, number, entry, vector, part_block, part_blocks, part, names, cond_word, series_word, mode};
+ghost use Rattle.ua_operands.specs.Written.{word, further, number, entry, vector, part_block, part_blocks, part, names, cond_word, series_word, mode};
 
-use crate::script::{CondWord, Entry, Items, Mode, Number, PartText, SeriesWord, Word};
+use crate::written::{CondWord, Entry, Items, Mode, Number, PartText, SeriesWord, Word};
 use std::alloc::AllocError;
 use ua_table::Listed;
 use ua_text::{Printer, Role};

@@ -3,10 +3,10 @@ use Rattle.std.specs.List.{flat_map}
 use Rattle.ua_text.specs.declared.symbols.Role.TheVariants as roles
 use Rattle.ua_text.specs.Signs.{sign_at}
 use Rattle.ua_text.specs.Tokens.{tokens_left}
-use Rattle.ua_script.specs.declared.script.IdentityText.{IdentityText}
-use Rattle.ua_script.specs.Grammar.{identity, identity_behind}
-use Rattle.ua_script.proofs.ReadLemmas.{more_step, more_missed, more_done}
-use Rattle.ua_script.proofs.identities.identities.Goals as goal
+use Rattle.ua_operands.specs.declared.written.IdentityText.{IdentityText}
+use Rattle.ua_operands.specs.Written.{identity, identity_behind}
+use Rattle.ua_operands.proofs.ReadLemmas.{more_step, more_missed, more_done}
+use Rattle.ua_operands.proofs.identities.identities.Goals as goal
 
 pub returns-in_err-read-clause-only : goal.returns-in_err-read-clause-only
 returns-in_err-read-clause-only c = λ is ws s f.

@@ -3,10 +3,10 @@ use Rattle.std.specs.List.{flat_map}
 use Rattle.ua_text.specs.Signs.{Wanted, Front}
 use Rattle.ua_text.specs.Reading.{begins_with}
 use Rattle.ua_text.specs.Tokens.{tokens_left, source_of}
-use Rattle.ua_script.specs.declared.script.IdentityText.{IdentityText}
-use Rattle.ua_script.specs.Grammar.{identity}
-use Rattle.ua_script.proofs.ReadLemmas.{More}
-use Rattle.ua_script.proofs.identities.identities.Given as goal
+use Rattle.ua_operands.specs.declared.written.IdentityText.{IdentityText}
+use Rattle.ua_operands.specs.Written.{identity}
+use Rattle.ua_operands.proofs.ReadLemmas.{More}
+use Rattle.ua_operands.proofs.identities.identities.Given as goal
 
 -- of identities that stand there, those so far are read
 abbrev pub invariant-loop-alloc : goal.invariant-loop-alloc

@@ -3,8 +3,8 @@ use Rattle.ua_text.specs.declared.symbols.Role.TheVariants as roles
 use Rattle.ua_text.specs.Signs.{sign}
 use Rattle.ua_text.specs.Printing.{Shows}
 use Rattle.ua_text.proofs.Prints.{shows_both, map_push, take_whole}
-use Rattle.ua_script.specs.Grammar.{variable}
-use Rattle.ua_script.proofs.identities.put_arguments.Goals as goal
+use Rattle.ua_operands.specs.Written.{variable}
+use Rattle.ua_operands.proofs.identities.put_arguments.Goals as goal
 
 pub loop-v-preserved : goal.loop-v-preserved
 loop-v-preserved c =

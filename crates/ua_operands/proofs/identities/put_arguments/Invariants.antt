@@ -1,7 +1,7 @@
 use Rattle.std.proofs.Common.{map, take}
 use Rattle.ua_text.specs.Printing.{Shows}
-use Rattle.ua_script.specs.Grammar.{variable}
-use Rattle.ua_script.proofs.identities.put_arguments.Given as goal
+use Rattle.ua_operands.specs.Written.{variable}
+use Rattle.ua_operands.proofs.identities.put_arguments.Given as goal
 
 -- the variables so far are printed
 abbrev pub invariant-loop-v : goal.invariant-loop-v

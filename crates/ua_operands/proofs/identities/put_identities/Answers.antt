@@ -2,8 +2,8 @@ use Rattle.std.proofs.Common.{◌≡◌, ◌++◌, ◌<◌, length, take, sym, �
 use Rattle.std.specs.List.{flat_map}
 use Rattle.ua_text.specs.Printing.{Shows}
 use Rattle.ua_text.proofs.Prints.{shows_both, flat_push, take_whole}
-use Rattle.ua_script.specs.Grammar.{identity}
-use Rattle.ua_script.proofs.identities.put_identities.Goals as goal
+use Rattle.ua_operands.specs.Written.{identity}
+use Rattle.ua_operands.proofs.identities.put_identities.Goals as goal
 
 pub loop-i-preserved : goal.loop-i-preserved
 loop-i-preserved c =

@@ -3,8 +3,8 @@ use Rattle.ua_text.specs.declared.symbols.Role.TheVariants as roles
 use Rattle.ua_text.specs.Signs.{sign, sign_at}
 use Rattle.ua_text.specs.Printing.{Shows}
 use Rattle.ua_text.proofs.Prints.{shows_both, on_ok}
-use Rattle.ua_script.specs.Grammar.{variable, arguments, identity_behind}
-use Rattle.ua_script.proofs.identities.put_identity.Goals as goal
+use Rattle.ua_operands.specs.Written.{variable, arguments, identity_behind}
+use Rattle.ua_operands.proofs.identities.put_identity.Goals as goal
 
 pub returns : goal.returns
 returns c =

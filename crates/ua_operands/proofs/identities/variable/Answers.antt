@@ -1,8 +1,8 @@
 use Rattle.std.proofs.Common.{rules, [], sym}
-use Rattle.ua_script.specs.declared.script.Variable.TheVariants.{X, Y, Z, W}
-use Rattle.ua_script.specs.Grammar.{variable}
-use Rattle.ua_script.proofs.ReadLemmas.{variable_is, some_variable}
-use Rattle.ua_script.proofs.identities.variable.Goals as goal
+use Rattle.ua_operands.specs.declared.written.Variable.TheVariants.{X, Y, Z, W}
+use Rattle.ua_operands.specs.Written.{variable}
+use Rattle.ua_operands.proofs.ReadLemmas.{variable_is, some_variable}
+use Rattle.ua_operands.proofs.identities.variable.Goals as goal
 
 pub returns-in_err-token-clause-only : goal.returns-in_err-token-clause-only
 returns-in_err-token-clause-only c = λ k ws f. let e = c.in_err-token.ensures.only (variable k) ws [] f in search rules

@@ -2,10 +2,10 @@ use Rattle.std.proofs.Common.{codes, refl, ◌∙◌, arith, rules}
 use Rattle.ua_text.specs.Tokens.{tokens_left}
 use Rattle.ua_text.specs.declared.symbols.Role.TheVariants as roles
 use Rattle.ua_text.specs.Signs.{sign}
-use Rattle.ua_script.specs.declared.script.Variable.{Variable}
-use Rattle.ua_script.specs.Grammar.{variable}
-use Rattle.ua_script.proofs.ReadLemmas.{single_step, single_missed, single_done, variable_apart}
-use Rattle.ua_script.proofs.identities.variables.Goals as goal
+use Rattle.ua_operands.specs.declared.written.Variable.{Variable}
+use Rattle.ua_operands.specs.Written.{variable}
+use Rattle.ua_operands.proofs.ReadLemmas.{single_step, single_missed, single_done, variable_apart}
+use Rattle.ua_operands.proofs.identities.variables.Goals as goal
 
 pub returns-in_err-read-clause-only : goal.returns-in_err-read-clause-only
 returns-in_err-read-clause-only c = λ vs ws f.

@@ -2,10 +2,10 @@ use Rattle.std.proofs.Common.{◌≡◌, ◌≤◌, List, [], ◌∷◌, ◌++�
 use Rattle.ua_text.specs.declared.symbols.Role.TheVariants as roles
 use Rattle.ua_text.specs.Signs.{Wanted, Front, sign}
 use Rattle.ua_text.specs.Tokens.{tokens_left, source_of}
-use Rattle.ua_script.specs.declared.script.Variable.{Variable}
-use Rattle.ua_script.specs.Grammar.{variable}
-use Rattle.ua_script.proofs.ReadLemmas.{MoreSingles}
-use Rattle.ua_script.proofs.identities.variables.Given as goal
+use Rattle.ua_operands.specs.declared.written.Variable.{Variable}
+use Rattle.ua_operands.specs.Written.{variable}
+use Rattle.ua_operands.proofs.ReadLemmas.{MoreSingles}
+use Rattle.ua_operands.proofs.identities.variables.Given as goal
 
 -- of variables that stand there, those so far are read
 abbrev pub invariant-loop-tokens : goal.invariant-loop-tokens

@@ -1,10 +1,10 @@
 use Rattle.std.proofs.Common.{rules, [], sym}
 use Rattle.ua_text.specs.declared.symbols.Role.TheVariants as roles
 use Rattle.ua_text.specs.Signs.{sign}
-use Rattle.ua_script.specs.declared.script.CloneWord.TheVariants.{Term, Polynomial}
-use Rattle.ua_script.specs.Grammar.{clone_word}
-use Rattle.ua_script.proofs.CloneLemmas.{clone_is, some_clone}
-use Rattle.ua_script.proofs.clones.clone_word.Goals as goal
+use Rattle.ua_operands.specs.declared.written.CloneWord.TheVariants.{Term, Polynomial}
+use Rattle.ua_operands.specs.Written.{clone_word}
+use Rattle.ua_operands.proofs.CloneLemmas.{clone_is, some_clone}
+use Rattle.ua_operands.proofs.points.clone_word.Goals as goal
 
 pub returns-in_err-token-clause-only : goal.returns-in_err-token-clause-only
 returns-in_err-token-clause-only c = λ k ws f. let e = c.in_err-token.ensures.only (sign roles.Exact (clone_word k)) ws [] f in search rules

@@ -1,7 +1,7 @@
 use Rattle.std.proofs.Common.{rules, ◌≡◌, ◌++◌}
 use Rattle.std.specs.List.{flat_map}
-use Rattle.ua_script.specs.Grammar.{vector}
-use Rattle.ua_script.proofs.clones.partial.Goals as goal
+use Rattle.ua_operands.specs.Written.{vector}
+use Rattle.ua_operands.proofs.points.partial.Goals as goal
 
 pub returns-in_err-first-clause-only : goal.returns-in_err-first-clause-only
 returns-in_err-first-clause-only c = λ v vs ws short each b f.

@@ -3,10 +3,10 @@ use Rattle.ua_text.specs.declared.symbols.Role.TheVariants as roles
 use Rattle.ua_text.specs.Signs.{Wanted, sign, Front}
 use Rattle.ua_text.specs.Tokens.{tokens_left}
 use Rattle.ua_text.specs.Reading.{Gives}
-use Rattle.ua_script.specs.declared.script.PointsText.{PointsText}
-use Rattle.ua_script.specs.Reading.{ArePointsShort}
-use Rattle.ua_script.proofs.CloneLemmas.{first_of, behind, points_front, is_total, is_partial, some_points}
-use Rattle.ua_script.proofs.clones.points.Goals as goal
+use Rattle.ua_operands.specs.declared.written.PointsText.{PointsText}
+use Rattle.ua_operands.specs.Reading.{ArePointsShort}
+use Rattle.ua_operands.proofs.CloneLemmas.{first_of, behind, points_front, is_total, is_partial, some_points}
+use Rattle.ua_operands.proofs.points.points.Goals as goal
 
 pub returns-in_err-first-clause-only : goal.returns-in_err-first-clause-only
 returns-in_err-first-clause-only c = λ m ws short n f.

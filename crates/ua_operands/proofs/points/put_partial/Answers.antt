@@ -3,8 +3,8 @@ use Rattle.std.specs.List.{flat_map}
 use Rattle.ua_text.specs.declared.symbols.Role.TheVariants as roles
 use Rattle.ua_text.specs.Signs.{sign}
 use Rattle.ua_text.proofs.Prints.{shows_both, on_ok}
-use Rattle.ua_script.specs.Grammar.{vector}
-use Rattle.ua_script.proofs.clones.put_partial.Goals as goal
+use Rattle.ua_operands.specs.Written.{vector}
+use Rattle.ua_operands.proofs.points.put_partial.Goals as goal
 
 pub returns : goal.returns
 returns c =

@@ -3,8 +3,8 @@ use Rattle.ua_text.specs.declared.symbols.Role.TheVariants as roles
 use Rattle.ua_text.specs.Signs.{sign}
 use Rattle.ua_text.specs.Printing.{Shows}
 use Rattle.ua_text.proofs.Prints.{shows_both, map_push, take_whole}
-use Rattle.ua_script.specs.Grammar.{further}
-use Rattle.ua_script.proofs.printers.put_further.Goals as goal
+use Rattle.ua_operands.specs.Written.{further}
+use Rattle.ua_operands.proofs.printers.put_further.Goals as goal
 
 pub loop-w-preserved : goal.loop-w-preserved
 loop-w-preserved c =

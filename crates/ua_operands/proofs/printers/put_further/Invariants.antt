@@ -1,7 +1,7 @@
 use Rattle.std.proofs.Common.{map, take}
 use Rattle.ua_text.specs.Printing.{Shows}
-use Rattle.ua_script.specs.Grammar.{further}
-use Rattle.ua_script.proofs.printers.put_further.Given as goal
+use Rattle.ua_operands.specs.Written.{further}
+use Rattle.ua_operands.proofs.printers.put_further.Given as goal
 
 -- the names so far are printed
 abbrev pub invariant-loop-w : goal.invariant-loop-w

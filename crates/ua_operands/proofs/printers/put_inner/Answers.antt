@@ -2,9 +2,9 @@ use Rattle.std.proofs.Common.{◌≡◌, ◌∷◌, [], ◌<◌, length, map, ta
 use Rattle.ua_text.specs.declared.symbols.Role.TheVariants as roles
 use Rattle.ua_text.specs.Printing.{Shows}
 use Rattle.ua_text.proofs.Prints.{shows_both, map_push, take_whole}
-use Rattle.ua_script.specs.declared.script.Number.{Number}
-use Rattle.ua_script.specs.Grammar.{number}
-use Rattle.ua_script.proofs.printers.put_inner.Goals as goal
+use Rattle.ua_operands.specs.declared.written.Number.{Number}
+use Rattle.ua_operands.specs.Written.{number}
+use Rattle.ua_operands.proofs.printers.put_inner.Goals as goal
 
 abbrev none_there : Number
 none_there = record { value = 0; place = record { line = 0; column = 0 } }

@@ -3,9 +3,9 @@ use Rattle.std.specs.List.{flat_map}
 use Rattle.ua_text.specs.declared.symbols.Role.TheVariants as roles
 use Rattle.ua_text.specs.Printing.{Shows}
 use Rattle.ua_text.proofs.Prints.{shows_both, flat_push, take_whole}
-use Rattle.ua_script.specs.Grammar.{part_block}
-use Rattle.ua_script.proofs.ReadLemmas.{blocks_flat}
-use Rattle.ua_script.proofs.printers.put_part_blocks.Goals as goal
+use Rattle.ua_operands.specs.Written.{part_block}
+use Rattle.ua_operands.proofs.ReadLemmas.{blocks_flat}
+use Rattle.ua_operands.proofs.printers.put_part_blocks.Goals as goal
 
 pub loop-block-preserved : goal.loop-block-preserved
 loop-block-preserved c =

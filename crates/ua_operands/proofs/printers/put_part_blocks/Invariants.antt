@@ -2,8 +2,8 @@ use Rattle.std.proofs.Common.{take}
 use Rattle.std.specs.List.{flat_map}
 use Rattle.ua_text.specs.declared.symbols.Role.TheVariants as roles
 use Rattle.ua_text.specs.Printing.{Shows}
-use Rattle.ua_script.specs.Grammar.{part_block}
-use Rattle.ua_script.proofs.printers.put_part_blocks.Given as goal
+use Rattle.ua_operands.specs.Written.{part_block}
+use Rattle.ua_operands.proofs.printers.put_part_blocks.Given as goal
 
 -- the blocks so far are printed
 abbrev pub invariant-loop-block : goal.invariant-loop-block

@@ -3,8 +3,8 @@ use Rattle.ua_text.specs.declared.symbols.Role.TheVariants as roles
 use Rattle.ua_text.specs.Signs.{sign, sign_at}
 use Rattle.ua_text.specs.Printing.{Shows}
 use Rattle.ua_text.proofs.Prints.{shows_both, map_push, take_whole}
-use Rattle.ua_script.specs.Grammar.{entry}
-use Rattle.ua_script.proofs.printers.put_vector.Goals as goal
+use Rattle.ua_operands.specs.Written.{entry}
+use Rattle.ua_operands.proofs.printers.put_vector.Goals as goal
 
 pub loop-value-preserved : goal.loop-value-preserved
 loop-value-preserved c =

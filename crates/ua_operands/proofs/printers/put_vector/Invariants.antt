@@ -1,7 +1,7 @@
 use Rattle.std.proofs.Common.{map, take}
 use Rattle.ua_text.specs.Printing.{Shows}
-use Rattle.ua_script.specs.Grammar.{entry}
-use Rattle.ua_script.proofs.printers.put_vector.Given as goal
+use Rattle.ua_operands.specs.Written.{entry}
+use Rattle.ua_operands.proofs.printers.put_vector.Given as goal
 
 -- the values so far are printed
 abbrev pub invariant-loop-value : goal.invariant-loop-value

@@ -2,8 +2,8 @@ use Rattle.std.proofs.Common.{◌≡◌, ◌++◌, ◌<◌, length, take, sym, �
 use Rattle.std.specs.List.{flat_map}
 use Rattle.ua_text.specs.Printing.{Shows}
 use Rattle.ua_text.proofs.Prints.{shows_both, flat_push, take_whole}
-use Rattle.ua_script.specs.Grammar.{vector}
-use Rattle.ua_script.proofs.printers.put_vectors.Goals as goal
+use Rattle.ua_operands.specs.Written.{vector}
+use Rattle.ua_operands.proofs.printers.put_vectors.Goals as goal
 
 pub loop-v-preserved : goal.loop-v-preserved
 loop-v-preserved c =

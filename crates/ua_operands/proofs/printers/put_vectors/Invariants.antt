@@ -1,8 +1,8 @@
 use Rattle.std.proofs.Common.{take}
 use Rattle.std.specs.List.{flat_map}
 use Rattle.ua_text.specs.Printing.{Shows}
-use Rattle.ua_script.specs.Grammar.{vector}
-use Rattle.ua_script.proofs.printers.put_vectors.Given as goal
+use Rattle.ua_operands.specs.Written.{vector}
+use Rattle.ua_operands.proofs.printers.put_vectors.Given as goal
 
 -- the vectors so far are printed
 abbrev pub invariant-loop-v : goal.invariant-loop-v

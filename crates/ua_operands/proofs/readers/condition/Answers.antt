@@ -1,10 +1,10 @@
 use Rattle.std.proofs.Common.{rules, [], sym}
 use Rattle.ua_text.specs.declared.symbols.Role.TheVariants as roles
 use Rattle.ua_text.specs.Signs.{sign}
-use Rattle.ua_script.specs.declared.script.CondWord.TheVariants.{Maltsev, Majority, Minority, Pixley}
-use Rattle.ua_script.specs.Grammar.{cond_word}
-use Rattle.ua_script.proofs.ReadLemmas.{condition_is, some_condition}
-use Rattle.ua_script.proofs.readers.condition.Goals as goal
+use Rattle.ua_operands.specs.declared.written.CondWord.TheVariants.{Maltsev, Majority, Minority, Pixley}
+use Rattle.ua_operands.specs.Written.{cond_word}
+use Rattle.ua_operands.proofs.ReadLemmas.{condition_is, some_condition}
+use Rattle.ua_operands.proofs.readers.condition.Goals as goal
 
 pub returns-in_err-token-clause-only : goal.returns-in_err-token-clause-only
 returns-in_err-token-clause-only c = λ k ws f. let e = c.in_err-token.ensures.only (sign roles.Exact (cond_word k)) ws [] f in search rules

@@ -2,9 +2,9 @@ use Rattle.std.proofs.Common.{rules, ◌∷◌, ◌++◌, [], refl, codes, ◌�
 use Rattle.ua_text.specs.declared.symbols.Role.TheVariants as roles
 use Rattle.ua_text.specs.Signs.{sign}
 use Rattle.ua_text.specs.Tokens.{tokens_left}
-use Rattle.ua_script.specs.Grammar.{names}
-use Rattle.ua_script.proofs.ReadLemmas.{names_front}
-use Rattle.ua_script.proofs.readers.names.Goals as goal
+use Rattle.ua_operands.specs.Written.{names}
+use Rattle.ua_operands.proofs.ReadLemmas.{names_front}
+use Rattle.ua_operands.proofs.readers.names.Goals as goal
 
 pub returns-in_err-exact-clause-only : goal.returns-in_err-exact-clause-only
 returns-in_err-exact-clause-only c = λ ns ws a f.

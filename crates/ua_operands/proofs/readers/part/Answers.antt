@@ -2,9 +2,9 @@ use Rattle.std.proofs.Common.{rules, [], ◌++◌, codes, sym, ◌∙◌}
 use Rattle.ua_text.specs.declared.symbols.Role.TheVariants as roles
 use Rattle.ua_text.specs.Signs.{sign_at}
 use Rattle.ua_text.specs.Tokens.{tokens_left}
-use Rattle.ua_script.specs.Grammar.{part_blocks}
-use Rattle.ua_script.proofs.ReadLemmas.{blocks_front, part_is}
-use Rattle.ua_script.proofs.readers.part.Goals as goal
+use Rattle.ua_operands.specs.Written.{part_blocks}
+use Rattle.ua_operands.proofs.ReadLemmas.{blocks_front, part_is}
+use Rattle.ua_operands.proofs.readers.part.Goals as goal
 
 pub returns-in_err-bar-clause-only : goal.returns-in_err-bar-clause-only
 returns-in_err-bar-clause-only c = λ p ws a n f.

@@ -2,8 +2,8 @@ use Rattle.std.proofs.Common.{rules, [], refl, codes, ◌∙◌}
 use Rattle.ua_text.specs.declared.symbols.Role.TheVariants as roles
 use Rattle.ua_text.specs.Signs.{sign}
 use Rattle.ua_text.specs.Tokens.{tokens_left}
-use Rattle.ua_script.proofs.ReadLemmas.{block_front}
-use Rattle.ua_script.proofs.readers.part_block.Goals as goal
+use Rattle.ua_operands.proofs.ReadLemmas.{block_front}
+use Rattle.ua_operands.proofs.readers.part_block.Goals as goal
 
 pub returns-in_err-numbers-clause-only : goal.returns-in_err-numbers-clause-only
 returns-in_err-numbers-clause-only c = λ role b ws a f.

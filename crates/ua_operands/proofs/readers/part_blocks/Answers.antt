@@ -1,11 +1,11 @@
 use Rattle.std.proofs.Common.{rules, List, ◌++◌, refl, ◌∙◌, append_assoc, arith}
 use Rattle.ua_text.specs.declared.symbols.Role.TheVariants as roles
 use Rattle.ua_text.specs.Tokens.{tokens_left}
-use Rattle.ua_script.specs.declared.script.Number.{Number}
-use Rattle.ua_script.specs.Grammar.{part_block, part_blocks}
-use Rattle.ua_script.specs.Reading.{IsShortBlock}
-use Rattle.ua_script.proofs.ReadLemmas.{more_step, more_missed, more_done, block_number, tail_number}
-use Rattle.ua_script.proofs.readers.part_blocks.Goals as goal
+use Rattle.ua_operands.specs.declared.written.Number.{Number}
+use Rattle.ua_operands.specs.Written.{part_block, part_blocks}
+use Rattle.ua_operands.specs.Reading.{IsShortBlock}
+use Rattle.ua_operands.proofs.ReadLemmas.{more_step, more_missed, more_done, block_number, tail_number}
+use Rattle.ua_operands.proofs.readers.part_blocks.Goals as goal
 
 pub returns-in_err-block-clause-only : goal.returns-in_err-block-clause-only
 returns-in_err-block-clause-only c = λ bs ws a s f.

@@ -3,11 +3,11 @@ use Rattle.std.specs.List.{AllByRecursion}
 use Rattle.ua_text.specs.declared.symbols.Role.TheVariants as roles
 use Rattle.ua_text.specs.Signs.{Wanted, Front}
 use Rattle.ua_text.specs.Tokens.{tokens_left, source_of}
-use Rattle.ua_script.specs.declared.script.Number.{Number}
-use Rattle.ua_script.specs.Grammar.{part_blocks}
-use Rattle.ua_script.specs.Reading.{IsShortBlock, begins_number}
-use Rattle.ua_script.proofs.ReadLemmas.{More}
-use Rattle.ua_script.proofs.readers.part_blocks.Given as goal
+use Rattle.ua_operands.specs.declared.written.Number.{Number}
+use Rattle.ua_operands.specs.Written.{part_blocks}
+use Rattle.ua_operands.specs.Reading.{IsShortBlock, begins_number}
+use Rattle.ua_operands.proofs.ReadLemmas.{More}
+use Rattle.ua_operands.proofs.readers.part_blocks.Given as goal
 
 -- of blocks that stand there, those so far are read
 abbrev pub invariant-loop-alloc : goal.invariant-loop-alloc

@@ -1,10 +1,10 @@
 use Rattle.std.proofs.Common.{rules, [], sym}
 use Rattle.ua_text.specs.declared.symbols.Role.TheVariants as roles
 use Rattle.ua_text.specs.Signs.{sign}
-use Rattle.ua_script.specs.declared.script.SeriesWord.TheVariants.{Derived, Lower}
-use Rattle.ua_script.specs.Grammar.{series_word}
-use Rattle.ua_script.proofs.ReadLemmas.{series_is, some_series}
-use Rattle.ua_script.proofs.readers.series.Goals as goal
+use Rattle.ua_operands.specs.declared.written.SeriesWord.TheVariants.{Derived, Lower}
+use Rattle.ua_operands.specs.Written.{series_word}
+use Rattle.ua_operands.proofs.ReadLemmas.{series_is, some_series}
+use Rattle.ua_operands.proofs.readers.series.Goals as goal
 
 pub returns-in_err-token-clause-only : goal.returns-in_err-token-clause-only
 returns-in_err-token-clause-only c = λ k ws f. let e = c.in_err-token.ensures.only (sign roles.Exact (series_word k)) ws [] f in search rules

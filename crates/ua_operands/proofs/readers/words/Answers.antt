@@ -2,11 +2,11 @@ use Rattle.std.proofs.Common.{codes, refl, ◌∙◌, arith, rules}
 use Rattle.ua_text.specs.Tokens.{tokens_left}
 use Rattle.ua_text.specs.declared.symbols.Role.TheVariants as roles
 use Rattle.ua_text.specs.Signs.{sign}
-use Rattle.ua_script.specs.declared.script.Word.{Word}
-use Rattle.ua_script.specs.Grammar.{word}
-use Rattle.ua_script.specs.Reading.{IsNamed}
-use Rattle.ua_script.proofs.ReadLemmas.{single_step, single_missed, single_done, word_apart}
-use Rattle.ua_script.proofs.readers.words.Goals as goal
+use Rattle.ua_operands.specs.declared.written.Word.{Word}
+use Rattle.ua_operands.specs.Written.{word}
+use Rattle.ua_operands.specs.Reading.{IsNamed}
+use Rattle.ua_operands.proofs.ReadLemmas.{single_step, single_missed, single_done, word_apart}
+use Rattle.ua_operands.proofs.readers.words.Goals as goal
 
 pub returns-in_err-read-clause-only : goal.returns-in_err-read-clause-only
 returns-in_err-read-clause-only c = λ es ws a f.

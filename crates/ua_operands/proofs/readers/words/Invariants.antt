@@ -3,11 +3,11 @@ use Rattle.std.specs.List.{AllByRecursion}
 use Rattle.ua_text.specs.declared.symbols.Role.TheVariants as roles
 use Rattle.ua_text.specs.Signs.{Wanted, Front, sign}
 use Rattle.ua_text.specs.Tokens.{tokens_left, source_of}
-use Rattle.ua_script.specs.declared.script.Word.{Word}
-use Rattle.ua_script.specs.Grammar.{word}
-use Rattle.ua_script.specs.Reading.{IsNamed}
-use Rattle.ua_script.proofs.ReadLemmas.{MoreSingles}
-use Rattle.ua_script.proofs.readers.words.Given as goal
+use Rattle.ua_operands.specs.declared.written.Word.{Word}
+use Rattle.ua_operands.specs.Written.{word}
+use Rattle.ua_operands.specs.Reading.{IsNamed}
+use Rattle.ua_operands.proofs.ReadLemmas.{MoreSingles}
+use Rattle.ua_operands.proofs.readers.words.Given as goal
 
 -- of words that stand there, those so far are read
 abbrev pub invariant-loop-alloc : goal.invariant-loop-alloc
