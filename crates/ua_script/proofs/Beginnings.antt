@@ -10,7 +10,7 @@ use Rattle.ua_script.specs.declared.script.Provable.TheVariants as provables
 use Rattle.ua_script.specs.declared.script.Command.{Command}
 use Rattle.ua_script.specs.declared.script.Command.TheVariants as commands
 use Rattle.ua_script.specs.Grammar.{command}
-use Rattle.ua_script.specs.Reading.{begins_item, may_be_number}
+use Rattle.ua_operands.specs.Reading.{begins_item, may_be_number}
 
 -- it begins no command
 abbrev pub begins_other : List ℕ → Bool

@@ -9,13 +9,14 @@ use Rattle.ua_text.specs.Pieces.{Placed}
 use Rattle.ua_text.specs.Signs.{Wanted, sign, IsSign, IsAt, AreSpelled, Front}
 use Rattle.ua_text.specs.Reading.{begins_with}
 use Rattle.ua_text.proofs.SpelledLemmas.{spelled_left}
-use Rattle.ua_script.specs.declared.script.Mode.TheVariants as modes
+use Rattle.ua_operands.specs.declared.written.Mode.TheVariants as modes
 use Rattle.ua_script.specs.declared.script.Provable.{Provable}
 use Rattle.ua_script.specs.declared.script.Provable.TheVariants as provables
 use Rattle.ua_script.specs.declared.script.Command.{Command}
 use Rattle.ua_script.specs.declared.script.Command.TheVariants as commands
 use Rattle.ua_script.specs.declared.script.Item.TheVariants as items
-use Rattle.ua_script.specs.Grammar.{word, number, vector, cond_word, provable, command, HasMode, forms_built}
+use Rattle.ua_operands.specs.Written.{word, number, vector, cond_word}
+use Rattle.ua_script.specs.Grammar.{provable, command, HasMode, forms_built}
 use Rattle.ua_script.specs.Reading.{IsReadableItem, is_certified}
 use Rattle.ua_script.proofs.Beginnings.{begun, spelled_other}
 

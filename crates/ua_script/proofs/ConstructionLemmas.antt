@@ -5,12 +5,13 @@ use Rattle.ua_text.specs.declared.symbols.Role.TheVariants as roles
 use Rattle.ua_text.specs.Words.{same}
 use Rattle.ua_text.specs.Pieces.{Placed}
 use Rattle.ua_text.specs.Signs.{Wanted, sign, Front}
-use Rattle.ua_script.specs.declared.script.Word.{Word}
-use Rattle.ua_script.specs.declared.script.Items.{Items}
-use Rattle.ua_script.specs.declared.script.PartText.{PartText}
+use Rattle.ua_operands.specs.declared.written.Word.{Word}
+use Rattle.ua_operands.specs.declared.written.Items.{Items}
+use Rattle.ua_operands.specs.declared.written.PartText.{PartText}
 use Rattle.ua_script.specs.declared.script.MakeForm.{MakeForm}
 use Rattle.ua_script.specs.declared.script.MakeForm.TheVariants.{Product, Quotient, Sub, Reduct}
-use Rattle.ua_script.specs.Grammar.{word, vector, part, names, construction}
+use Rattle.ua_operands.specs.Written.{word, vector, part, names}
+use Rattle.ua_script.specs.Grammar.{construction}
 
 -- the word of a construction
 abbrev pub first_of : MakeForm → List ℕ

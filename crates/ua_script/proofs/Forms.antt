@@ -1,5 +1,5 @@
 -- The parts of commands in the forms that are built. A further form is a further case here.
-use Rattle.std.proofs.Common.{◌≡◌, ℕ, ◌<◌, true, false, Some, Option, List, [], ◌∷◌, ◌++◌, length, map, codes, refl, sym, ap, ◌∙◌, subst, append_assoc, arith}
+use Rattle.std.proofs.Common.{◌≡◌, ℕ, true, false, Some, Option, List, [], ◌∷◌, ◌++◌, codes, refl, sym, ap, ◌∙◌, subst, append_assoc}
 use Rattle.std.specs.List.{AllByRecursion, flat_map}
 use Rattle.std.proofs.lemmas.List.{append-nil}
 use Rattle.ua_table.specs.declared.limits.TheConstants.{NESTING}
@@ -13,31 +13,31 @@ use Rattle.ua_term.specs.Phrases.{Phrase, IsNested}
 use Rattle.ua_term.specs.Terms.{term}
 use Rattle.ua_term.proofs.TermReading.{spelled_alone}
 use Rattle.ua_script.specs.declared.script.Command.{Command}
-use Rattle.ua_script.specs.declared.script.Word.{Word}
-use Rattle.ua_script.specs.declared.script.Number.{Number}
-use Rattle.ua_script.specs.declared.script.Entry.{Entry}
-use Rattle.ua_script.specs.declared.script.Entry.TheVariants as entries
-use Rattle.ua_script.specs.declared.script.Items.{Items}
-use Rattle.ua_script.specs.declared.script.Mode.{Mode}
-use Rattle.ua_script.specs.declared.script.Mode.TheVariants as modes
-use Rattle.ua_script.specs.declared.script.PartText.{PartText}
-use Rattle.ua_script.specs.declared.script.CondWord.{CondWord}
-use Rattle.ua_script.specs.declared.script.IdentityText.{IdentityText}
-use Rattle.ua_script.specs.declared.script.CloneWord.{CloneWord}
-use Rattle.ua_script.specs.declared.script.PointsText.{PointsText}
-use Rattle.ua_script.specs.declared.script.PointsText.TheVariants.{Total, Partial}
-use Rattle.ua_script.specs.declared.script.SeriesWord.{SeriesWord}
+use Rattle.ua_operands.specs.declared.written.Word.{Word}
+use Rattle.ua_operands.specs.declared.written.Number.{Number}
+use Rattle.ua_operands.specs.declared.written.Items.{Items}
+use Rattle.ua_operands.specs.declared.written.Mode.{Mode}
+use Rattle.ua_operands.specs.declared.written.Mode.TheVariants as modes
+use Rattle.ua_operands.specs.declared.written.PartText.{PartText}
+use Rattle.ua_operands.specs.declared.written.CondWord.{CondWord}
+use Rattle.ua_operands.specs.declared.written.IdentityText.{IdentityText}
+use Rattle.ua_operands.specs.declared.written.CloneWord.{CloneWord}
+use Rattle.ua_operands.specs.declared.written.PointsText.{PointsText}
+use Rattle.ua_operands.specs.declared.written.SeriesWord.{SeriesWord}
 use Rattle.ua_script.specs.declared.script.MakeForm.{MakeForm}
-use Rattle.ua_script.specs.declared.script.MakeForm.TheVariants.{Product, Quotient, Sub, Reduct}
+use Rattle.ua_script.specs.declared.script.MakeForm.TheVariants.{Sub}
 use Rattle.ua_script.specs.declared.script.Provable.TheVariants as provables
 use Rattle.ua_script.specs.declared.script.Command.TheVariants as commands
 use Rattle.ua_script.specs.declared.script.Item.TheVariants as items
-use Rattle.ua_script.specs.Grammar.{word, further, number, entry, vector, part, part_blocks, identity, points, clone_word, cond_word, series_word, IsPart, names, mode, construction, IsConstruction, forms_built}
+use Rattle.ua_operands.specs.Written.{word, further, number, vector, part, identity, points, clone_word, cond_word, series_word, mode}
+use Rattle.ua_script.specs.Grammar.{construction, forms_built}
 use Rattle.ua_script.specs.declared.commands.FirstWord.{FirstWord}
 use Rattle.ua_script.specs.declared.commands.FirstWord.TheVariants as firsts
-use Rattle.ua_script.specs.Reading.{IsShort, IsShortEntry, IsShortVector, IsShortBlock, IsNamed, IsShortConstruction, ArePointsShort, IsReadableItem, is_certified, first_text, first_words, found_first}
-use Rattle.ua_script.proofs.ReadLemmas.{close_of}
+use Rattle.ua_operands.specs.Reading.{IsShort, IsShortVector, IsShortBlock, IsNamed, ArePointsShort}
+use Rattle.ua_script.specs.Reading.{IsShortConstruction, IsReadableItem, is_certified, first_text, first_words, found_first}
+use Rattle.ua_script.proofs.CommandLemmas.{close_of}
 use Rattle.ua_script.proofs.Beginnings.{begun}
+use Rattle.ua_script.proofs.Shortness.{short_vector, short_vectors, short_part, short_construction, short_points}
 
 -- the parts of a `close`, and the tokens behind its word
 pub record IsClose (c : Command) (rest : List Wanted) : Type 0 where
@@ -286,59 +286,6 @@ IsForm firsts.Condition c rest = IsCondition c rest
 IsForm firsts.Clone c rest = IsClone c rest
 IsForm firsts.Make c rest = IsMake c rest
 IsForm firsts.Check c rest = IsCheck c rest
-
-short_entries : (es : List Entry) → AreSpelled forms_built (map entry es) → AllByRecursion IsShortEntry es
-short_entries [] h = tt
-short_entries (entries.Number n ∷ es) h = (h.0, short_entries es h.1)
-short_entries (entries.Word w ∷ es) h = (h.0, short_entries es h.1)
-
-short_vector : (v : Items) → AreSpelled forms_built (vector v) → IsShortVector v
-short_vector v h = short_entries v.values (spelled_left forms_built (map entry v.values) (sign roles.Closes (codes "]") ∷ []) h.1)
-
-short_vectors : (vs : List Items) → AreSpelled forms_built (flat_map vector vs) → AllByRecursion IsShortVector vs
-short_vectors [] h = tt
-short_vectors (v ∷ vs) h = (short_vector v (spelled_left forms_built (vector v) (flat_map vector vs) h), short_vectors vs (spelled_right forms_built (vector v) (flat_map vector vs) h))
-
-short_names : (ns : List Word) → AreSpelled forms_built (map further ns) → AllByRecursion IsNamed ns
-short_names [] h = tt
-short_names (n ∷ ns) h = (h.0, short_names ns h.1)
-
-short_listed : (ns : List Word) → AreSpelled forms_built (names ns) → AllByRecursion IsNamed ns
-short_listed [] h = tt
-short_listed (n ∷ ns) h = (h.0, short_names ns h.1)
-
-short_numbers : (ns : List Number) → AreSpelled forms_built (map (number roles.Inner) ns) → AllByRecursion IsShort ns
-short_numbers [] h = tt
-short_numbers (n ∷ ns) h = (h.0, short_numbers ns h.1)
-
-short_further : (bs : List (List Number)) → AllByRecursion (λ (b : List Number). 0 < length b) bs → AreSpelled forms_built (part_blocks roles.More bs) → AllByRecursion IsShortBlock bs
-short_further [] some h = tt
-short_further ([] ∷ bs) some h = absurd (let no = some.0 in omega (arith, no))
-short_further ((n ∷ ns) ∷ bs) some h =
-    let bar = sign roles.Bar (codes "|") ∷ [] in
-    let inner = spelled_left forms_built (map (number roles.Inner) ns ++ bar) (part_blocks roles.More bs) h.1 in
-    ((some.0, (h.0, short_numbers ns (spelled_left forms_built (map (number roles.Inner) ns) bar inner))), short_further bs some.1 (spelled_right forms_built (map (number roles.Inner) ns ++ bar) (part_blocks roles.More bs) h.1))
-
-short_blocks : (bs : List (List Number)) → AllByRecursion (λ (b : List Number). 0 < length b) bs → AreSpelled forms_built (part_blocks roles.Inner bs) → AllByRecursion IsShortBlock bs
-short_blocks [] some h = tt
-short_blocks ([] ∷ bs) some h = absurd (let no = some.0 in omega (arith, no))
-short_blocks ((n ∷ ns) ∷ bs) some h =
-    let bar = sign roles.Bar (codes "|") ∷ [] in
-    let inner = spelled_left forms_built (map (number roles.Inner) ns ++ bar) (part_blocks roles.More bs) h.1 in
-    ((some.0, (h.0, short_numbers ns (spelled_left forms_built (map (number roles.Inner) ns) bar inner))), short_further bs some.1 (spelled_right forms_built (map (number roles.Inner) ns ++ bar) (part_blocks roles.More bs) h.1))
-
-short_part : (p : PartText) → IsPart p → AreSpelled forms_built (part p) → AllByRecursion IsShortBlock p.blocks
-short_part p i h = short_blocks p.blocks i.each h.1
-
-short_construction : (v : ℕ) (m : MakeForm) → IsConstruction v m → AreSpelled forms_built (construction m) → IsShortConstruction m
-short_construction v (Product a b) i h = (h.1.0, h.1.1.0)
-short_construction v (Quotient a p) i h = (h.1.0, short_part p i h.1.1)
-short_construction v (Sub a x) i h = (h.1.0, short_vector x h.1.1)
-short_construction v (Reduct a ops) i h = (h.1.0, short_listed ops (spelled_left forms_built (names ops) (sign roles.Closes (codes ")") ∷ []) h.1.1.1))
-
-short_points : (ps : PointsText) → AreSpelled forms_built (points ps) → ArePointsShort ps
-short_points (Total v) h = short_vector v h.1
-short_points (Partial v vs) h = (short_vector v (spelled_left forms_built (vector v) (flat_map vector vs) h.1), short_vectors vs (spelled_right forms_built (vector v) (flat_map vector vs) h.1))
 
 -- the word and the parts of a command
 pub record Formed (c : Command) : Type 0 where

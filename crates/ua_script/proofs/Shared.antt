@@ -12,28 +12,28 @@ use Rattle.ua_text.specs.contracts.tokens.Place as place
 use Rattle.ua_text.proofs.tokens.Place.TheSendSync as place_shared
 use Rattle.ua_term.specs.contracts.written.Written as written
 use Rattle.ua_term.proofs.written.Written.TheLaws.TheKnot.{sync-Written}
-use Rattle.ua_script.specs.contracts.script.Word as word
-use Rattle.ua_script.proofs.script.Word.TheSendSync as word_shared
-use Rattle.ua_script.specs.contracts.script.Number as number
-use Rattle.ua_script.proofs.script.Number.TheSendSync as number_shared
-use Rattle.ua_script.specs.contracts.script.Items as items
-use Rattle.ua_script.proofs.script.Items.TheSendSync as items_shared
-use Rattle.ua_script.specs.contracts.script.Mode as mode
-use Rattle.ua_script.proofs.script.Mode.TheSendSync as mode_shared
+use Rattle.ua_operands.specs.contracts.written.Word as word
+use Rattle.ua_operands.proofs.written.Word.TheSendSync as word_shared
+use Rattle.ua_operands.specs.contracts.written.Number as number
+use Rattle.ua_operands.proofs.written.Number.TheSendSync as number_shared
+use Rattle.ua_operands.specs.contracts.written.Items as items
+use Rattle.ua_operands.proofs.written.Items.TheSendSync as items_shared
+use Rattle.ua_operands.specs.contracts.written.Mode as mode
+use Rattle.ua_operands.proofs.written.Mode.TheSendSync as mode_shared
 use Rattle.ua_script.specs.contracts.script.Provable as provable
 use Rattle.ua_script.proofs.script.Provable.TheSendSync as provable_shared
-use Rattle.ua_script.specs.contracts.script.PartText as part
-use Rattle.ua_script.proofs.script.PartText.TheSendSync as part_shared
-use Rattle.ua_script.specs.contracts.script.SeriesWord as series
-use Rattle.ua_script.proofs.script.SeriesWord.TheSendSync as series_shared
-use Rattle.ua_script.specs.contracts.script.CloneWord as clone
-use Rattle.ua_script.proofs.script.CloneWord.TheSendSync as clone_shared
-use Rattle.ua_script.specs.contracts.script.PointsText as points
-use Rattle.ua_script.proofs.script.PointsText.TheSendSync as points_shared
+use Rattle.ua_operands.specs.contracts.written.PartText as part
+use Rattle.ua_operands.proofs.written.PartText.TheSendSync as part_shared
+use Rattle.ua_operands.specs.contracts.written.SeriesWord as series
+use Rattle.ua_operands.proofs.written.SeriesWord.TheSendSync as series_shared
+use Rattle.ua_operands.specs.contracts.written.CloneWord as clone
+use Rattle.ua_operands.proofs.written.CloneWord.TheSendSync as clone_shared
+use Rattle.ua_operands.specs.contracts.written.PointsText as points
+use Rattle.ua_operands.proofs.written.PointsText.TheSendSync as points_shared
 use Rattle.ua_script.specs.contracts.script.MakeForm as making
 use Rattle.ua_script.proofs.script.MakeForm.TheSendSync as making_shared
-use Rattle.ua_script.specs.contracts.script.IdentityText as identity
-use Rattle.ua_script.proofs.script.IdentityText.TheSendSync as identity_shared
+use Rattle.ua_operands.specs.contracts.written.IdentityText as identity
+use Rattle.ua_operands.proofs.written.IdentityText.TheSendSync as identity_shared
 use Rattle.ua_script.specs.contracts.script.Command as command
 
 word_sync : IsSync (as_row word.the_field)

@@ -6,11 +6,12 @@ ghost use Rattle.ua_script.specs.declared.script.Command.{Command};
 ghost use Rattle.ua_script.specs.declared.script.Provable.{Provable};
 ghost use Rattle.ua_script.specs.Grammar.{provable, command};
 
-use crate::printers::{
+use crate::script::Provable;
+use std::alloc::AllocError;
+use ua_operands::printers::{
     put_condition, put_mode, put_named, put_number, put_vector, put_vectors, put_word,
 };
-use crate::script::{CondWord, Items, Mode, Number, Provable, Word};
-use std::alloc::AllocError;
+use ua_operands::{CondWord, Items, Mode, Number, Word};
 use ua_text::{Printer, Role};
 
 /// Prints a `close`.

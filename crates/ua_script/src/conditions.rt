@@ -7,20 +7,21 @@ ghost use Rattle.ua_text.specs.declared.symbols.Role.{Role};
 ghost use Rattle.ua_text.specs.Signs.{Wanted, sign, Front};
 ghost use Rattle.ua_text.specs.Tokens.{tokens_left, source_of};
 ghost use Rattle.ua_text.specs.Reading.{Gives};
-ghost use Rattle.ua_script.specs.declared.script.Word.{Word};
-ghost use Rattle.ua_script.specs.declared.script.Number.{Number};
-ghost use Rattle.ua_script.specs.declared.script.Mode.{Mode};
-ghost use Rattle.ua_script.specs.declared.script.CondWord.{CondWord};
-ghost use Rattle.ua_script.specs.declared.script.IdentityText.{IdentityText};
+ghost use Rattle.ua_operands.specs.declared.written.Word.{Word};
+ghost use Rattle.ua_operands.specs.declared.written.Number.{Number};
+ghost use Rattle.ua_operands.specs.declared.written.Mode.{Mode};
+ghost use Rattle.ua_operands.specs.declared.written.CondWord.{CondWord};
+ghost use Rattle.ua_operands.specs.declared.written.IdentityText.{IdentityText};
 ghost use Rattle.ua_script.specs.declared.script.Provable.{Provable};
 ghost use Rattle.ua_script.specs.declared.script.Command.{Command};
-ghost use Rattle.ua_script.specs.Grammar.{word, number, identity, cond_word};
-ghost use Rattle.ua_script.specs.Reading.{IsNamed, IsShort, begins_item};
+ghost use Rattle.ua_operands.specs.Written.{word, number, identity, cond_word};
+ghost use Rattle.ua_operands.specs.Reading.{IsNamed, IsShort, begins_item};
 
-use crate::identities::identities;
-use crate::readers::{amount, condition as condition_word, word};
-use crate::script::{Command, Mode, Provable};
+use crate::script::{Command, Provable};
 use std::alloc::Global;
+use ua_operands::Mode;
+use ua_operands::identities::identities;
+use ua_operands::readers::{amount, condition as condition_word, word};
 use ua_text::{Miss, Tokens};
 
 /// The command that asks for an answer, without a certificate.

@@ -7,17 +7,17 @@ ghost use Rattle.ua_text.specs.declared.symbols.Role.{Role};
 ghost use Rattle.ua_text.specs.Signs.{Wanted, sign, Front};
 ghost use Rattle.ua_text.specs.Tokens.{tokens_left, source_of};
 ghost use Rattle.ua_text.specs.Reading.{Gives};
-ghost use Rattle.ua_script.specs.declared.script.Word.{Word};
-ghost use Rattle.ua_script.specs.declared.script.Items.{Items};
-ghost use Rattle.ua_script.specs.declared.script.PartText.{PartText};
-ghost use Rattle.ua_script.specs.declared.script.SeriesWord.{SeriesWord};
+ghost use Rattle.ua_operands.specs.declared.written.Word.{Word};
+ghost use Rattle.ua_operands.specs.declared.written.Items.{Items};
+ghost use Rattle.ua_operands.specs.declared.written.PartText.{PartText};
+ghost use Rattle.ua_operands.specs.declared.written.SeriesWord.{SeriesWord};
 ghost use Rattle.ua_script.specs.declared.script.Command.{Command};
-ghost use Rattle.ua_script.specs.Grammar.{word, vector, part, series_word};
-ghost use Rattle.ua_script.specs.Reading.{IsShortVector, IsShortBlock, IsNamed, begins_item, begins_number};
+ghost use Rattle.ua_operands.specs.Written.{word, vector, part, series_word};
+ghost use Rattle.ua_operands.specs.Reading.{IsShortVector, IsShortBlock, IsNamed, begins_item, begins_number};
 
-use crate::readers::{part, series, vectors, word};
 use crate::script::Command;
 use std::alloc::Global;
+use ua_operands::readers::{part, series, vectors, word};
 use ua_text::{Miss, Tokens};
 
 /// A `cg` behind its first word.

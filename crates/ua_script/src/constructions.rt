@@ -7,17 +7,19 @@ ghost use Rattle.ua_text.specs.declared.symbols.Role.{Role};
 ghost use Rattle.ua_text.specs.Signs.{Wanted, sign, Front};
 ghost use Rattle.ua_text.specs.Tokens.{tokens_left, source_of};
 ghost use Rattle.ua_text.specs.Reading.{Gives};
-ghost use Rattle.ua_script.specs.declared.script.Word.{Word};
-ghost use Rattle.ua_script.specs.declared.script.Items.{Items};
-ghost use Rattle.ua_script.specs.declared.script.PartText.{PartText};
+ghost use Rattle.ua_operands.specs.declared.written.Word.{Word};
+ghost use Rattle.ua_operands.specs.declared.written.Items.{Items};
+ghost use Rattle.ua_operands.specs.declared.written.PartText.{PartText};
 ghost use Rattle.ua_script.specs.declared.script.MakeForm.{MakeForm};
 ghost use Rattle.ua_script.specs.declared.script.Command.{Command};
-ghost use Rattle.ua_script.specs.Grammar.{word, vector, part, names, construction};
-ghost use Rattle.ua_script.specs.Reading.{IsShortVector, IsShortBlock, IsNamed, IsShortConstruction, begins_item, begins_number};
+ghost use Rattle.ua_operands.specs.Written.{word, vector, part, names};
+ghost use Rattle.ua_script.specs.Grammar.{construction};
+ghost use Rattle.ua_operands.specs.Reading.{IsShortVector, IsShortBlock, IsNamed, begins_item, begins_number};
+ghost use Rattle.ua_script.specs.Reading.{IsShortConstruction};
 
-use crate::readers::{is_word, names, part, vector, word};
 use crate::script::{Command, MakeForm};
 use std::alloc::Global;
+use ua_operands::readers::{is_word, names, part, vector, word};
 use ua_text::{Miss, Place, Tokens, next};
 
 /// A product behind its first word.

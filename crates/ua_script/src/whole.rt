@@ -9,7 +9,8 @@ ghost use Rattle.ua_text.specs.Reading.{Gives, begins_with};
 ghost use Rattle.ua_script.specs.declared.script.Script.{Script};
 ghost use Rattle.ua_script.specs.declared.script.Item.{Item};
 ghost use Rattle.ua_script.specs.Grammar.{item, written, IsOpening};
-ghost use Rattle.ua_script.specs.Reading.{begins_item, IsReadableItem, IsReadableScript};
+ghost use Rattle.ua_operands.specs.Reading.{begins_item};
+ghost use Rattle.ua_script.specs.Reading.{IsReadableItem, IsReadableScript};
 
 use crate::commands::command;
 use crate::script::{Item, Script};

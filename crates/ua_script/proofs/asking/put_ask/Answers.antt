@@ -1,6 +1,7 @@
 use Rattle.ua_text.specs.declared.symbols.Role.TheVariants as roles
 use Rattle.ua_text.proofs.Prints.{shows_both, on_ok}
-use Rattle.ua_script.specs.Grammar.{provable, mode}
+use Rattle.ua_operands.specs.Written.{mode}
+use Rattle.ua_script.specs.Grammar.{provable}
 use Rattle.ua_script.proofs.asking.put_ask.Goals as goal
 
 pub returns : goal.returns

@@ -2,7 +2,8 @@ use Rattle.std.proofs.Common.{◌∷◌, ◌++◌, [], codes}
 use Rattle.ua_text.specs.declared.symbols.Role.TheVariants as roles
 use Rattle.ua_text.specs.Signs.{sign}
 use Rattle.ua_text.proofs.Prints.{shows_both, on_ok}
-use Rattle.ua_script.specs.Grammar.{provable, mode}
+use Rattle.ua_operands.specs.Written.{mode}
+use Rattle.ua_script.specs.Grammar.{provable}
 use Rattle.ua_script.proofs.asking.put_certified.Goals as goal
 
 pub returns : goal.returns

@@ -1,7 +1,7 @@
 use Rattle.std.proofs.Common.{rules, ◌≡◌, ◌∷◌, ◌++◌, []}
 use Rattle.ua_text.specs.declared.symbols.Role.TheVariants as roles
 use Rattle.ua_text.specs.Signs.{sign}
-use Rattle.ua_script.specs.Grammar.{number, clone_word, points}
+use Rattle.ua_operands.specs.Written.{number, clone_word, points}
 use Rattle.ua_script.proofs.clones.clone_membership.Goals as goal
 
 pub returns-in_err-algebra-clause-only : goal.returns-in_err-algebra-clause-only

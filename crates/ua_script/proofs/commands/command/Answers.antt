@@ -4,7 +4,7 @@ use Rattle.ua_text.specs.declared.readers.Miss.TheVariants as misses
 use Rattle.ua_text.specs.Tokens.{tokens_left}
 use Rattle.ua_text.specs.Signs.{Front, sign}
 use Rattle.ua_text.specs.Reading.{Gives}
-use Rattle.ua_script.specs.declared.script.Mode.TheVariants as modes
+use Rattle.ua_operands.specs.declared.written.Mode.TheVariants as modes
 use Rattle.ua_script.specs.declared.script.Command.TheVariants as commands
 use Rattle.ua_script.specs.Grammar.{provable, command}
 use Rattle.ua_script.specs.Reading.{certified}

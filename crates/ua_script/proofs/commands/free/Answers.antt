@@ -1,6 +1,6 @@
 use Rattle.std.proofs.Common.{rules, ◌≡◌, ◌∷◌, ◌++◌, [], codes}
 use Rattle.ua_text.specs.declared.symbols.Role.TheVariants as roles
-use Rattle.ua_script.specs.Grammar.{number, mode}
+use Rattle.ua_operands.specs.Written.{number, mode}
 use Rattle.ua_script.proofs.commands.free.Goals as goal
 
 pub returns-in_err-algebra-clause-only : goal.returns-in_err-algebra-clause-only

@@ -2,7 +2,7 @@ use Rattle.std.proofs.Common.{rules, ◌≡◌, ◌∷◌, ◌++◌, [], codes, 
 use Rattle.ua_text.specs.declared.symbols.Role.TheVariants as roles
 use Rattle.ua_text.specs.Signs.{sign}
 use Rattle.ua_term.specs.Terms.{term}
-use Rattle.ua_script.proofs.ReadLemmas.{term_ends}
+use Rattle.ua_script.proofs.CommandLemmas.{term_ends}
 use Rattle.ua_script.proofs.commands.holds.Goals as goal
 
 pub returns-in_err-algebra-clause-only : goal.returns-in_err-algebra-clause-only

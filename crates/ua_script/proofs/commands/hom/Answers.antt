@@ -1,5 +1,5 @@
 use Rattle.std.proofs.Common.{rules, ◌≡◌, ◌∷◌, ◌++◌, [], codes}
-use Rattle.ua_script.specs.Grammar.{word, vector}
+use Rattle.ua_operands.specs.Written.{word, vector}
 use Rattle.ua_script.proofs.commands.hom.Goals as goal
 
 pub returns-in_err-first-clause-only : goal.returns-in_err-first-clause-only

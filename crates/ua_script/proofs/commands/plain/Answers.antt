@@ -7,7 +7,8 @@ use Rattle.ua_text.specs.Reading.{Gives}
 use Rattle.ua_script.specs.declared.script.Command.TheVariants as commands
 use Rattle.ua_script.specs.declared.commands.FirstWord.TheVariants as firsts
 use Rattle.ua_script.specs.Reading.{first_words, found_first}
-use Rattle.ua_script.specs.Grammar.{word, number, vector, mode, identity, points, clone_word, cond_word, series_word, construction}
+use Rattle.ua_operands.specs.Written.{word, number, vector, mode, identity, points, clone_word, cond_word, series_word}
+use Rattle.ua_script.specs.Grammar.{construction}
 use Rattle.ua_script.proofs.Beginnings.{begun, its_word, behind_word}
 use Rattle.ua_script.proofs.Forms.{form_of, form_found, close_front, member_front, eval_front, holds_front, hom_front, central_front, comm_front, plain_front}
 use Rattle.ua_script.proofs.commands.plain.Goals as goal

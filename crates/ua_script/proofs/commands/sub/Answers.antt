@@ -1,5 +1,5 @@
 use Rattle.std.proofs.Common.{rules, ◌≡◌, ◌∷◌, ◌++◌, [], codes}
-use Rattle.ua_script.specs.Grammar.{vector}
+use Rattle.ua_operands.specs.Written.{vector}
 use Rattle.ua_script.proofs.commands.sub.Goals as goal
 
 pub returns-in_err-algebra-clause-only : goal.returns-in_err-algebra-clause-only

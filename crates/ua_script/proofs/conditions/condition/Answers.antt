@@ -1,7 +1,7 @@
 use Rattle.std.proofs.Common.{rules, ◌≡◌, ◌∷◌, ◌++◌, [], codes}
 use Rattle.std.specs.List.{flat_map}
 use Rattle.ua_text.specs.declared.symbols.Role.TheVariants as roles
-use Rattle.ua_script.specs.Grammar.{number, identity}
+use Rattle.ua_operands.specs.Written.{number, identity}
 use Rattle.ua_script.proofs.conditions.condition.Goals as goal
 
 pub returns-in_err-algebra-clause-only : goal.returns-in_err-algebra-clause-only

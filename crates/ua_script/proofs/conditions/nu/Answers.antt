@@ -1,6 +1,6 @@
 use Rattle.std.proofs.Common.{rules, ◌≡◌, ◌∷◌, []}
 use Rattle.ua_text.specs.declared.symbols.Role.TheVariants as roles
-use Rattle.ua_script.specs.Grammar.{number}
+use Rattle.ua_operands.specs.Written.{number}
 use Rattle.ua_script.proofs.conditions.nu.Goals as goal
 
 pub returns-in_err-algebra-clause-only : goal.returns-in_err-algebra-clause-only

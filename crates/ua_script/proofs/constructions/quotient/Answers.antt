@@ -1,5 +1,5 @@
 use Rattle.std.proofs.Common.{rules, ◌≡◌, ◌∷◌, ◌++◌, [], codes}
-use Rattle.ua_script.specs.Grammar.{part}
+use Rattle.ua_operands.specs.Written.{part}
 use Rattle.ua_script.proofs.constructions.quotient.Goals as goal
 
 pub returns-in_err-algebra-clause-only : goal.returns-in_err-algebra-clause-only

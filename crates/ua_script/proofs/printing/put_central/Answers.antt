@@ -2,7 +2,7 @@ use Rattle.std.proofs.Common.{◌∷◌, ◌++◌, [], codes}
 use Rattle.ua_text.specs.declared.symbols.Role.TheVariants as roles
 use Rattle.ua_text.specs.Signs.{sign}
 use Rattle.ua_text.proofs.Prints.{shows_both, on_ok}
-use Rattle.ua_script.specs.Grammar.{word, part}
+use Rattle.ua_operands.specs.Written.{word, part}
 use Rattle.ua_script.proofs.printing.put_central.Goals as goal
 
 pub returns : goal.returns

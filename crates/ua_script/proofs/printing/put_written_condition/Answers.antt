@@ -3,7 +3,7 @@ use Rattle.std.specs.List.{flat_map}
 use Rattle.ua_text.specs.declared.symbols.Role.TheVariants as roles
 use Rattle.ua_text.specs.Signs.{sign}
 use Rattle.ua_text.proofs.Prints.{shows_both, on_ok}
-use Rattle.ua_script.specs.Grammar.{word, number, identity}
+use Rattle.ua_operands.specs.Written.{word, number, identity}
 use Rattle.ua_script.proofs.printing.put_written_condition.Goals as goal
 
 pub returns : goal.returns

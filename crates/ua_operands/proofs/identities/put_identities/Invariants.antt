@@ -1,0 +1,9 @@
+use Rattle.std.proofs.Common.{take}
+use Rattle.std.specs.List.{flat_map}
+use Rattle.ua_text.specs.Printing.{Shows}
+use Rattle.ua_operands.specs.Written.{identity}
+use Rattle.ua_operands.proofs.identities.put_identities.Given as goal
+
+-- the identities so far are printed
+abbrev pub invariant-loop-i : goal.invariant-loop-i
+invariant-loop-i l = Shows l.initial.printer l.printer (flat_map identity (take l.i-index l.identities))

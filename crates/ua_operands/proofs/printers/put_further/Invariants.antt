@@ -1,0 +1,8 @@
+use Rattle.std.proofs.Common.{map, take}
+use Rattle.ua_text.specs.Printing.{Shows}
+use Rattle.ua_operands.specs.Written.{further}
+use Rattle.ua_operands.proofs.printers.put_further.Given as goal
+
+-- the names so far are printed
+abbrev pub invariant-loop-w : goal.invariant-loop-w
+invariant-loop-w l = Shows l.initial.printer l.printer (map further (take l.w-index l.words))

@@ -1,0 +1,74 @@
+-- Operands whose tokens are spelled can be written.
+use Rattle.std.proofs.Common.{ℕ, ◌<◌, List, [], ◌∷◌, ◌++◌, length, map, codes, arith}
+use Rattle.std.specs.List.{AllByRecursion, flat_map}
+use Rattle.ua_text.specs.declared.symbols.Role.TheVariants as roles
+use Rattle.ua_text.specs.Signs.{sign, AreSpelled}
+use Rattle.ua_text.proofs.SpelledLemmas.{spelled_left, spelled_right}
+use Rattle.ua_operands.specs.declared.written.Word.{Word}
+use Rattle.ua_operands.specs.declared.written.Number.{Number}
+use Rattle.ua_operands.specs.declared.written.Entry.{Entry}
+use Rattle.ua_operands.specs.declared.written.Entry.TheVariants as entries
+use Rattle.ua_operands.specs.declared.written.Items.{Items}
+use Rattle.ua_operands.specs.declared.written.PartText.{PartText}
+use Rattle.ua_operands.specs.declared.written.PointsText.{PointsText}
+use Rattle.ua_operands.specs.declared.written.PointsText.TheVariants.{Total, Partial}
+use Rattle.ua_script.specs.declared.script.MakeForm.{MakeForm}
+use Rattle.ua_script.specs.declared.script.MakeForm.TheVariants.{Product, Quotient, Sub, Reduct}
+use Rattle.ua_script.specs.declared.script.Command.TheVariants as commands
+use Rattle.ua_operands.specs.Written.{further, number, entry, vector, part, part_blocks, points, names}
+use Rattle.ua_script.specs.Grammar.{IsPart, construction, IsConstruction, forms_built}
+use Rattle.ua_operands.specs.Reading.{IsShort, IsShortEntry, IsShortVector, IsShortBlock, IsNamed, ArePointsShort}
+use Rattle.ua_script.specs.Reading.{IsShortConstruction}
+
+short_entries : (es : List Entry) → AreSpelled forms_built (map entry es) → AllByRecursion IsShortEntry es
+short_entries [] h = tt
+short_entries (entries.Number n ∷ es) h = (h.0, short_entries es h.1)
+short_entries (entries.Word w ∷ es) h = (h.0, short_entries es h.1)
+
+pub short_vector : (v : Items) → AreSpelled forms_built (vector v) → IsShortVector v
+short_vector v h = short_entries v.values (spelled_left forms_built (map entry v.values) (sign roles.Closes (codes "]") ∷ []) h.1)
+
+pub short_vectors : (vs : List Items) → AreSpelled forms_built (flat_map vector vs) → AllByRecursion IsShortVector vs
+short_vectors [] h = tt
+short_vectors (v ∷ vs) h = (short_vector v (spelled_left forms_built (vector v) (flat_map vector vs) h), short_vectors vs (spelled_right forms_built (vector v) (flat_map vector vs) h))
+
+short_names : (ns : List Word) → AreSpelled forms_built (map further ns) → AllByRecursion IsNamed ns
+short_names [] h = tt
+short_names (n ∷ ns) h = (h.0, short_names ns h.1)
+
+short_listed : (ns : List Word) → AreSpelled forms_built (names ns) → AllByRecursion IsNamed ns
+short_listed [] h = tt
+short_listed (n ∷ ns) h = (h.0, short_names ns h.1)
+
+short_numbers : (ns : List Number) → AreSpelled forms_built (map (number roles.Inner) ns) → AllByRecursion IsShort ns
+short_numbers [] h = tt
+short_numbers (n ∷ ns) h = (h.0, short_numbers ns h.1)
+
+short_further : (bs : List (List Number)) → AllByRecursion (λ (b : List Number). 0 < length b) bs → AreSpelled forms_built (part_blocks roles.More bs) → AllByRecursion IsShortBlock bs
+short_further [] some h = tt
+short_further ([] ∷ bs) some h = absurd (let no = some.0 in omega (arith, no))
+short_further ((n ∷ ns) ∷ bs) some h =
+    let bar = sign roles.Bar (codes "|") ∷ [] in
+    let inner = spelled_left forms_built (map (number roles.Inner) ns ++ bar) (part_blocks roles.More bs) h.1 in
+    ((some.0, (h.0, short_numbers ns (spelled_left forms_built (map (number roles.Inner) ns) bar inner))), short_further bs some.1 (spelled_right forms_built (map (number roles.Inner) ns ++ bar) (part_blocks roles.More bs) h.1))
+
+short_blocks : (bs : List (List Number)) → AllByRecursion (λ (b : List Number). 0 < length b) bs → AreSpelled forms_built (part_blocks roles.Inner bs) → AllByRecursion IsShortBlock bs
+short_blocks [] some h = tt
+short_blocks ([] ∷ bs) some h = absurd (let no = some.0 in omega (arith, no))
+short_blocks ((n ∷ ns) ∷ bs) some h =
+    let bar = sign roles.Bar (codes "|") ∷ [] in
+    let inner = spelled_left forms_built (map (number roles.Inner) ns ++ bar) (part_blocks roles.More bs) h.1 in
+    ((some.0, (h.0, short_numbers ns (spelled_left forms_built (map (number roles.Inner) ns) bar inner))), short_further bs some.1 (spelled_right forms_built (map (number roles.Inner) ns ++ bar) (part_blocks roles.More bs) h.1))
+
+pub short_part : (p : PartText) → IsPart p → AreSpelled forms_built (part p) → AllByRecursion IsShortBlock p.blocks
+short_part p i h = short_blocks p.blocks i.each h.1
+
+pub short_construction : (v : ℕ) (m : MakeForm) → IsConstruction v m → AreSpelled forms_built (construction m) → IsShortConstruction m
+short_construction v (Product a b) i h = (h.1.0, h.1.1.0)
+short_construction v (Quotient a p) i h = (h.1.0, short_part p i h.1.1)
+short_construction v (Sub a x) i h = (h.1.0, short_vector x h.1.1)
+short_construction v (Reduct a ops) i h = (h.1.0, short_listed ops (spelled_left forms_built (names ops) (sign roles.Closes (codes ")") ∷ []) h.1.1.1))
+
+pub short_points : (ps : PointsText) → AreSpelled forms_built (points ps) → ArePointsShort ps
+short_points (Total v) h = short_vector v h.1
+short_points (Partial v vs) h = (short_vector v (spelled_left forms_built (vector v) (flat_map vector vs) h.1), short_vectors vs (spelled_right forms_built (vector v) (flat_map vector vs) h.1))

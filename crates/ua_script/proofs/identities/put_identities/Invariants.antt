@@ -1,9 +1,0 @@
-use Rattle.std.proofs.Common.{take}
-use Rattle.std.specs.List.{flat_map}
-use Rattle.ua_text.specs.Printing.{Shows}
-use Rattle.ua_script.specs.Grammar.{identity}
-use Rattle.ua_script.proofs.identities.put_identities.Given as goal
-
--- the identities so far are printed
-abbrev pub invariant-loop-i : goal.invariant-loop-i
-invariant-loop-i l = Shows l.initial.printer l.printer (flat_map identity (take l.i-index l.identities))
