@@ -32,10 +32,10 @@ use Rattle.ua_reply.specs.Sessions.{Bounds}
 use Rattle.ua_reply.specs.Checks.{Passes}
 use Rattle.ua_reply.specs.Closures.{cause_text}
 use Rattle.ua_reply.specs.Operands.{values_of, vectors_of, power_of}
-use Rattle.ua_answer.specs.CondCommand as words
-use Rattle.ua_answer.specs.CondCommand.{nu_checks}
+use Rattle.ua_reply.proofs.CheckLaws.{known_step}
+use Rattle.ua_answer_conditions.specs.CondCommand as words
+use Rattle.ua_answer_conditions.specs.CondCommand.{nu_checks}
 use Rattle.ua_answer.specs.CertCommand.{certificate_text, name_of, Certifies, CertifiedClosure, CertifiedMembership, CertifiedCondition, CertifiedChain}
-use Rattle.ua_answer.proofs.Reducts.{known_step}
 
 -- nothing was closed
 pub cause_certified : {A : Type 0} (a : FiniteAlgebra) (budget : ℕ) (May : Result A CloseError → Type 0) (certificate : A → Option Cert) (cause : CloseError) (bytes : List ℕ) → May (Err cause) → cause_text cause ≡ Some bytes → Certifies a budget May certificate bytes

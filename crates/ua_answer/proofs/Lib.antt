@@ -1,8 +1,4 @@
-mod Answering
 mod Refused
-pub mod OperandLaws
 mod Making
 mod Reducts
-mod WrittenConditions
-mod WrittenTables
 mod Certifying

@@ -31,10 +31,6 @@ told_step : (b : Bool) (place : Place) (rest : List Place) → (unless (not b) p
 told_step false place rest e = (refl, e)
 told_step true place rest e = cc
 
-pub known_step : (b : Bool) (place : Place) → unless b place ≡ [] → b ≡ true
-known_step true place e = refl
-known_step false place e = cc
-
 -- names that pass are those of operations
 pub numbers_below : (k : Block) (ws : List Word) → AllByRecursion (λ w. Passes (operation_in k w)) ws → AllByRecursion (λ f. f < length k.algebra.operations) (numbers_of k ws)
 numbers_below k [] h = tt

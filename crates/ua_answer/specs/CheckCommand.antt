@@ -16,8 +16,7 @@ use Rattle.ua_script.specs.declared.script.Word.{Word}
 use Rattle.ua_text.specs.declared.named.Block.{Block}
 use Rattle.ua_reply.specs.Checks.{passed}
 use Rattle.ua_reply.specs.Replies.{Says, AnsweredOn}
-use Rattle.ua_reply.specs.Texts.{line, counted, tuple_text}
-use Rattle.ua_answer.specs.Texts.{pair_text}
+use Rattle.ua_reply.specs.Texts.{line, counted, tuple_text, pair_text}
 
 abbrev pub list_word : ListName → List ℕ
 list_word Gens = codes "gens"

@@ -15,8 +15,7 @@ use Rattle.ua_reply.specs.Checks.{Checks, ◌and◌}
 use Rattle.ua_reply.specs.Operands.{values_of, elements_in, length_in}
 use Rattle.ua_reply.specs.Refusals.{refusal_text}
 use Rattle.ua_reply.specs.Replies.{Says, AnsweredOnBoth}
-use Rattle.ua_reply.specs.Texts.{line, lines, counted, element_text}
-use Rattle.ua_answer.specs.Texts.{steps_text}
+use Rattle.ua_reply.specs.Texts.{line, lines, counted, element_text, steps_text}
 
 -- hom NAME NAME [..] [..]: elements of the one algebra, and as many of the other
 abbrev pub hom_checks : Block → Block → Items → Items → Checks

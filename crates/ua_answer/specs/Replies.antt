@@ -12,6 +12,18 @@ use Rattle.ua_script.specs.declared.script.Command.TheVariants as commands
 use Rattle.ua_text.specs.declared.named.Block.{Block}
 use Rattle.ua_text.specs.Blocks.{unnamed}
 use Rattle.ua_reply.specs.Sessions.{Bounds}
+use Rattle.ua_answer_congruences.specs.CgCommand.{CgReply}
+use Rattle.ua_answer_congruences.specs.ConCommand.{ConReply}
+use Rattle.ua_answer_congruences.specs.TypesCommand.{TypesReply}
+use Rattle.ua_answer_congruences.specs.CentralCommand.{CentralReply}
+use Rattle.ua_answer_congruences.specs.CommCommand.{CommReply}
+use Rattle.ua_answer_congruences.specs.SeriesCommand.{SeriesReply}
+use Rattle.ua_answer_conditions.specs.CondCommand.{CondReply, NuReply}
+use Rattle.ua_answer_conditions.specs.ConditionCommand.{ConditionReply}
+use Rattle.ua_answer_conditions.specs.CloneCommand.{IsShortTable, CloneReply}
+use Rattle.ua_answer_conditions.specs.declared.chains.ChainWord.TheVariants as chains
+use Rattle.ua_answer_conditions.specs.ChainCommand.{ChainReply}
+use Rattle.ua_answer_conditions.specs.HoldsCommand.{HoldsReply}
 use Rattle.ua_answer.specs.declared.answered.Made.{Made}
 use Rattle.ua_answer.specs.CloseCommand.{CloseReply}
 use Rattle.ua_answer.specs.MemberCommand.{MemberReply}
@@ -19,19 +31,7 @@ use Rattle.ua_answer.specs.FreeCommand.{FreeReply}
 use Rattle.ua_answer.specs.SubCommand.{SubReply}
 use Rattle.ua_answer.specs.OnesCommand.{OnesReply}
 use Rattle.ua_answer.specs.EvalCommand.{EvalReply}
-use Rattle.ua_answer.specs.CgCommand.{CgReply}
-use Rattle.ua_answer.specs.ConCommand.{ConReply}
-use Rattle.ua_answer.specs.TypesCommand.{TypesReply}
-use Rattle.ua_answer.specs.CondCommand.{CondReply, NuReply}
-use Rattle.ua_answer.specs.ConditionCommand.{ConditionReply}
-use Rattle.ua_answer.specs.CloneCommand.{IsShortTable, CloneReply}
-use Rattle.ua_answer.specs.declared.chains.ChainWord.TheVariants as chains
-use Rattle.ua_answer.specs.ChainCommand.{ChainReply}
-use Rattle.ua_answer.specs.HoldsCommand.{HoldsReply}
 use Rattle.ua_answer.specs.HomCommand.{HomReply}
-use Rattle.ua_answer.specs.CentralCommand.{CentralReply}
-use Rattle.ua_answer.specs.CommCommand.{CommReply}
-use Rattle.ua_answer.specs.SeriesCommand.{SeriesReply}
 use Rattle.ua_answer.specs.CertCommand.{CertReply}
 use Rattle.ua_answer.specs.CheckCommand.{CheckReply}
 use Rattle.ua_answer.specs.MakeCommand.{MakeReply}

@@ -5,30 +5,25 @@ ghost use Rattle.ua_reply.specs.Sessions.{bounds_of};
 ghost use Rattle.ua_answer.specs.Replies.{IsProvableBuilt, IsPlainBuilt, IsBuilt, ProvableReply, PlainReply, Reply, left_by, IsNamedRight};
 
 use crate::answered::{Answered, said};
-use crate::central::answer_central;
 use crate::certificates::answer_cert;
-use crate::cg::answer_cg;
-use crate::chains::{ChainWord, answer_chain};
 use crate::check::answer_check;
-use crate::clone::answer_clone;
 use crate::close::answer_close;
-use crate::comm::answer_comm;
-use crate::con::answer_con;
-use crate::cond::{answer_cond, answer_nu};
-use crate::condition::answer_condition;
-use crate::context::Context;
 use crate::eval::answer_eval;
 use crate::free::answer_free;
-use crate::holds::answer_holds;
 use crate::hom::answer_hom;
 use crate::make::answer_make;
 use crate::member::answer_member;
 use crate::ones::answer_ones;
-use crate::series::answer_series;
 use crate::sub::answer_sub;
-use crate::types::answer_types;
 use std::alloc::AllocError;
 use std::thread::Threads;
+use ua_answer_conditions::{
+    ChainWord, answer_chain, answer_clone, answer_cond, answer_condition, answer_holds, answer_nu,
+};
+use ua_answer_congruences::{
+    answer_central, answer_cg, answer_comm, answer_con, answer_series, answer_types,
+};
+use ua_reply::Context;
 use ua_script::{Command, Mode, Provable};
 use ua_table::Gate;
 

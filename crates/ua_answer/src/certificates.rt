@@ -7,22 +7,20 @@ ghost use Rattle.ua_script.specs.declared.script.Mode.{Mode};
 ghost use Rattle.ua_reply.specs.Sessions.{bounds_of};
 ghost use Rattle.ua_reply.specs.Checks.{AreFirst, Passes};
 ghost use Rattle.ua_reply.specs.Operands.{positive, vector_in, vectors_in};
-ghost use Rattle.ua_answer.specs.ChainCommand.{kind_of};
-ghost use Rattle.ua_answer.specs.CondCommand.{nu_checks};
+ghost use Rattle.ua_answer_conditions.specs.ChainCommand.{kind_of};
+ghost use Rattle.ua_answer_conditions.specs.CondCommand.{nu_checks};
 ghost use Rattle.ua_answer.specs.CertCommand.{certificate_text, name_of, algebra_of, question_checks, CertifiedClosure, CertifiedMembership, CertifiedCondition, CertifiedNearUnanimity, CertifiedChain, Certified, CertReply};
 ghost use Rattle.ua_answer.specs.Replies.{IsProvableBuilt};
 
-use crate::chains::{ChainWord, chain};
-use crate::cond::{named, near_unanimous, variables_of};
-use crate::context::Context;
 use std::alloc::{AllocError, Global};
 use std::thread::Threads;
+use ua_answer_conditions::{ChainWord, chain, named, near_unanimous, variables_of};
 use ua_cert::{Cert, ChainName, CondName};
 use ua_certify::{certify_chain, certify_closure, certify_condition, certify_membership};
 use ua_close::{close_set, member};
 use ua_reply::{
-    FirstErrors, Known, Refusal, cause_reply, positive, power, push_counted, refusal_reply, vector,
-    vector_in, vectors, vectors_in,
+    Context, FirstErrors, Known, Refusal, cause_reply, positive, power, push_counted,
+    refusal_reply, vector, vector_in, vectors, vectors_in,
 };
 use ua_script::{CondWord, Items, Number, Provable, Word};
 use ua_table::Gate;

@@ -8,14 +8,12 @@ ghost use Rattle.ua_reply.specs.Replies.{Says};
 ghost use Rattle.ua_reply.specs.Texts.{counted};
 ghost use Rattle.ua_answer.specs.CheckCommand.{list_word, step_text, flaw_text, verdict_text, path_text, check_text, CheckReply};
 
-use crate::context::Context;
-use crate::texts::push_pair;
 use std::alloc::{AllocError, Global};
 use std::thread::Threads;
 use ua_cert::{CertError, read};
 use ua_check::{CheckError, Flaw, ListName, check};
 use ua_part::push_number;
-use ua_reply::{Refusal, push_more, refusal_reply};
+use ua_reply::{Context, Refusal, push_more, push_pair, refusal_reply};
 use ua_script::Word;
 use ua_table::{Algebra, Gate};
 

@@ -8,10 +8,11 @@ ghost use Rattle.ua_reply.specs.Operands.{vectors_of, power_of, positive, vector
 ghost use Rattle.ua_answer.specs.CloseCommand.{ClosureAnswer, CloseReply};
 
 use crate::closing::closing;
-use crate::context::Context;
 use std::alloc::AllocError;
 use std::thread::Threads;
-use ua_reply::{Known, Refusal, cause_reply, positive, power, refusal_reply, vectors, vectors_in};
+use ua_reply::{
+    Context, Known, Refusal, cause_reply, positive, power, refusal_reply, vectors, vectors_in,
+};
 use ua_script::{Items, Mode, Number, Word};
 use ua_table::Gate;
 

@@ -6,11 +6,10 @@ ghost use Rattle.ua_table.specs.Algebras.{IsVector};
 ghost use Rattle.ua_reply.specs.Sessions.{bounds_of};
 ghost use Rattle.ua_answer.specs.CloseCommand.{MayCloseLeast, ClosureAnswer};
 
-use crate::context::Context;
 use std::alloc::AllocError;
 use std::thread::Threads;
 use ua_close::{CloseError, Closure, close_set, least, subuniverse_size};
-use ua_reply::{Known, closure_reply, size_reply};
+use ua_reply::{Context, Known, closure_reply, size_reply};
 use ua_script::Mode;
 use ua_table::{Frame, Gate, Vectors};
 

@@ -8,10 +8,11 @@ ghost use Rattle.ua_reply.specs.Operands.{values_of, term_in, elements_in};
 ghost use Rattle.ua_reply.specs.Texts.{line, element_text};
 ghost use Rattle.ua_answer.specs.EvalCommand.{EvalReply};
 
-use crate::context::Context;
 use std::alloc::{AllocError, Global};
 use std::thread::Threads;
-use ua_reply::{Known, Refusal, elements, elements_in, push_element, refusal_reply, term_in};
+use ua_reply::{
+    Context, Known, Refusal, elements, elements_in, push_element, refusal_reply, term_in,
+};
 use ua_script::{Items, Word};
 use ua_table::{Elem, Gate};
 use ua_term::{TermFault, Written, eval};

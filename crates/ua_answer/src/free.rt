@@ -1,33 +1,20 @@
 //! The command `free`.
 
-ghost use Rattle.std.specs.Prelude.{IfOk, ◌≤◌};
-ghost use Rattle.ua_table.specs.declared.limits.TheConstants.{VARIABLES};
+ghost use Rattle.std.specs.Prelude.{IfOk};
 ghost use Rattle.ua_term.specs.Assignments.{projections, power_of_assignments};
 ghost use Rattle.ua_reply.specs.Sessions.{bounds_of};
-ghost use Rattle.ua_reply.specs.Checks.{Passes, AreFirst};
+ghost use Rattle.ua_reply.specs.Checks.{Passes};
+ghost use Rattle.ua_reply.specs.Operands.{free_checks};
 ghost use Rattle.ua_answer.specs.CloseCommand.{ClosureAnswer};
-ghost use Rattle.ua_answer.specs.FreeCommand.{free_checks, FreeReply};
+ghost use Rattle.ua_answer.specs.FreeCommand.{FreeReply};
 
 use crate::closing::closing;
-use crate::context::Context;
 use std::alloc::AllocError;
 use std::thread::Threads;
 use ua_free::generators;
-use ua_reply::{FirstErrors, Known, Refusal, cause_reply, refusal_reply};
+use ua_reply::{Context, Known, Refusal, cause_reply, refusal_reply, variables_in};
 use ua_script::{Mode, Number, Word};
 use ua_table::Gate;
-use ua_table::limits::VARIABLES;
-
-/// Whether there are no more variables than their limit.
-pub fn variables_in(count: Number) -> FirstErrors
-    ensures { AreFirst (free_checks count) result }
-{
-    let mut errors = FirstErrors::none();
-    if count.value > u32::from(VARIABLES) {
-        errors.range = Some(count.place);
-    }
-    errors
-}
 
 /// The reply where the operand does not fail.
 fn free_known<R: Threads + Sync, G: Gate>(

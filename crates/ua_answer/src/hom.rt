@@ -9,13 +9,11 @@ ghost use Rattle.ua_reply.specs.Operands.{values_of, elements_in};
 ghost use Rattle.ua_reply.specs.Texts.{lines};
 ghost use Rattle.ua_answer.specs.HomCommand.{hom_checks, image_text, hom_text, told_hom, HomReply};
 
-use crate::context::Context;
-use crate::texts::push_counted_steps;
 use std::alloc::{AllocError, Global};
 use std::thread::Threads;
 use ua_reply::{
-    FirstErrors, Known, Refusal, elements, elements_in, length_in, push_counted, push_element,
-    refusal_reply,
+    Context, FirstErrors, Known, Refusal, elements, elements_in, length_in, push_counted,
+    push_counted_steps, push_element, refusal_reply,
 };
 use ua_script::{Items, Word};
 use ua_sub::calls::hom;

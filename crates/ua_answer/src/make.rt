@@ -1,18 +1,17 @@
 //! The command `make`.
 
-ghost use Rattle.std.specs.Prelude.{◌≡◌, ◌≤◌, length, IfOk};
+ghost use Rattle.std.specs.Prelude.{◌≤◌, length, IfOk};
 ghost use Rattle.ua_table.specs.declared.limits.TheConstants.{SCRIPT};
 ghost use Rattle.ua_script.specs.declared.script.MakeForm.{MakeForm};
 ghost use Rattle.ua_answer.specs.MakeCommand.{MakeReply};
 ghost use Rattle.ua_answer.specs.Replies.{IsNamedRight, left_by, IsConstructionBuilt};
 
 use crate::answered::{Answered, introduced, refused, said};
-use crate::context::Context;
 use crate::reduct::{operations, operations_in};
 use std::alloc::AllocError;
 use std::thread::Threads;
 use ua_prod::{ProdError, product, quotient, reduct, subalgebra};
-use ua_reply::{Refusal, congruence_reply, elements, elements_in, part, part_in};
+use ua_reply::{Context, Refusal, congruence_reply, elements, elements_in, part, part_in};
 use ua_script::{Items, MakeForm, PartText, Place, Word};
 use ua_sub::{laws, sub};
 use ua_table::Gate;

@@ -8,13 +8,12 @@ ghost use Rattle.ua_reply.specs.Checks.{Passes};
 ghost use Rattle.ua_reply.specs.Operands.{values_of, vectors_of, power_of, positive, vector_in, vectors_in};
 ghost use Rattle.ua_answer.specs.MemberCommand.{MemberReply};
 
-use crate::context::Context;
 use std::alloc::AllocError;
 use std::thread::Threads;
 use ua_close::{Answer, CloseError, member};
 use ua_reply::{
-    Known, Refusal, member_reply, positive, power, refusal_reply, vector, vector_in, vectors,
-    vectors_in,
+    Context, Known, Refusal, member_reply, positive, power, refusal_reply, vector, vector_in,
+    vectors, vectors_in,
 };
 use ua_script::{Items, Number, Word};
 use ua_table::Gate;

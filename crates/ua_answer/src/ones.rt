@@ -4,10 +4,9 @@ ghost use Rattle.std.specs.Prelude.{◌≡◌, ◌≤◌, ◌++◌, length, IfOk
 ghost use Rattle.ua_sub.specs.Members.{contents};
 ghost use Rattle.ua_answer.specs.OnesCommand.{sets_text, ones_text, OnesReply};
 
-use crate::context::Context;
 use std::alloc::{AllocError, Global};
 use std::thread::Threads;
-use ua_reply::{Known, Refusal, push_counted, push_element, push_set, refusal_reply};
+use ua_reply::{Context, Known, Refusal, push_counted, push_element, push_set, refusal_reply};
 use ua_script::Word;
 use ua_sub::ones;
 use ua_table::{Elem, Gate};

@@ -5,10 +5,9 @@ ghost use Rattle.ua_table.specs.declared.limits.TheConstants.{SCRIPT};
 ghost use Rattle.ua_reply.specs.Texts.{line, set_text};
 ghost use Rattle.ua_answer.specs.SubCommand.{SubReply};
 
-use crate::context::Context;
 use std::alloc::{AllocError, Global};
 use std::thread::Threads;
-use ua_reply::{Known, Refusal, elements, elements_in, push_set, refusal_reply};
+use ua_reply::{Context, Known, Refusal, elements, elements_in, push_set, refusal_reply};
 use ua_script::{Items, Word};
 use ua_sub::sub;
 use ua_table::{Elem, Gate};

@@ -1,12 +1,12 @@
 -- The first places of joined checks, and what passes in them.
-use Rattle.std.proofs.Common.{◌≡◌, ℕ, zero, suc, ◌+◌, ◌<◌, List, [], ◌∷◌, ◌++◌, length, get_or, take, Option, refl, sym, ap, ◌∙◌, subst, append_assoc, append-nil, arith}
+use Rattle.std.proofs.Common.{◌≡◌, ℕ, zero, suc, ◌+◌, ◌<◌, Bool, true, false, List, [], ◌∷◌, ◌++◌, length, get_or, take, Option, refl, sym, ap, ◌∙◌, subst, append_assoc, append-nil, arith}
 use Rattle.std.proofs.Math.Seq.{take-suc}
 use Rattle.std.specs.List.{AllByRecursion}
 use Rattle.std.specs.Option.{option_or}
 use Rattle.ua_text.specs.declared.tokens.Place.{Place}
 use Rattle.ua_term.specs.Meanings.{first_place}
 use Rattle.ua_reply.specs.declared.checks.FirstErrors.{FirstErrors}
-use Rattle.ua_reply.specs.Checks.{Checks, passed, ◌and◌, all_in, Passes, AreFirst}
+use Rattle.ua_reply.specs.Checks.{Checks, passed, unless, ◌and◌, all_in, Passes, AreFirst}
 
 first_both : (xs ys : List Place) → option_or (first_place xs) (first_place ys) ≡ first_place (xs ++ ys)
 first_both [] ys = refl
@@ -49,6 +49,11 @@ and_passed a = λ i. record { unknown = append-nil a.unknown i; range = append-n
 pub passed_and : (a : Checks) → (passed and a) ≡ a
 unfolding ◌and◌
 passed_and a = refl
+
+-- a test of which nothing is told passes
+pub known_step : (b : Bool) (place : Place) → unless b place ≡ [] → b ≡ true
+known_step true place e = refl
+known_step false place e = cc
 
 -- ---- what fails in each
 

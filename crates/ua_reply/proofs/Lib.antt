@@ -1,5 +1,6 @@
 pub mod CheckLaws
 pub mod OperandLaws
+pub mod Answering
 mod PartLaws
 mod Rows
 mod SessionLaws

@@ -1,19 +1,18 @@
 -- Which lists of blocks make a partition.
-use Rattle.std.proofs.Common.{◌≡◌, ℕ, ◌<◌, ◌≤◌, ◌==◌, ◌&&◌, Bool, true, false, List, [], ◌∷◌, length, refl, sym, subst, inl, inr, arith}
+use Rattle.std.proofs.Common.{◌≡◌, ℕ, ◌<◌, ◌≤◌, ◌==◌, ◌&&◌, Bool, true, false, List, [], ◌∷◌, length, refl, subst, inl, inr, arith}
 use Rattle.std.specs.Prelude.{nat_lt, nat_le, find, cond, Some, Contains}
 use Rattle.std.specs.List.{AllByRecursion, concat, list_all}
-use Rattle.std.proofs.lemmas.Bool.{and_parts, false≢true, cases_lt}
+use Rattle.std.proofs.lemmas.Bool.{and_parts, cases_lt}
 use Rattle.std.proofs.lemmas.Bool.Decides.{nat_tests}
 use Rattle.ua_table.specs.Counting.{times, EachOnceBelow, numbers_below}
 use Rattle.ua_table.proofs.Lists.{all_at, all_from_contains}
 use Rattle.ua_table.proofs.Counts.{once_in, once_out, Contains-times, each_once-numbers_below, each_once-below}
 use Rattle.ua_part.specs.Blocks.{AreBlocks, first_beyond}
-use Rattle.ua_text.specs.declared.tokens.Place.{Place}
 use Rattle.ua_text.specs.declared.named.Block.{Block}
 use Rattle.ua_script.specs.declared.script.PartText.{PartText}
 use Rattle.ua_reply.specs.Checks.{unless, shape_at, all_in, Passes}
 use Rattle.ua_reply.specs.Parts.{is_each_once, are_blocks, blocks_of, block_in, part_in}
-use Rattle.ua_reply.proofs.CheckLaws.{parts_pass}
+use Rattle.ua_reply.proofs.CheckLaws.{parts_pass, known_step}
 
 module _ {X : Type 0} (p : X → Bool) where
   each_passes : (xs : List X) → list_all p xs ≡ true → AllByRecursion (λ x. p x ≡ true) xs
@@ -104,10 +103,6 @@ blocks_beyond n m blocks e = by (are_blocks n blocks) refl
         let once = and_parts (list_all (λ k. times k (concat blocks) == 1) (numbers_below n)) (list_all (λ m. nat_lt m n) (concat blocks)) both.1 in
         absurd (none_beyond n m (concat blocks) (each_passes (λ m. nat_lt m n) (concat blocks) once.1) e)
 
-shape_step : (b : Bool) (place : Place) → unless b place ≡ [] → b ≡ true
-shape_step true place e = refl
-shape_step false place e = cc
-
 -- what passes are the blocks of a partition
 pub part_blocks : (k : Block) (p : PartText) → Passes (part_in k p) → are_blocks k.algebra.size (blocks_of p) ≡ true
-part_blocks k p h = shape_step (are_blocks k.algebra.size (blocks_of p)) p.place (parts_pass (all_in (block_in k) p.blocks) (shape_at (unless (are_blocks k.algebra.size (blocks_of p)) p.place)) h).1.shape
+part_blocks k p h = known_step (are_blocks k.algebra.size (blocks_of p)) p.place (parts_pass (all_in (block_in k) p.blocks) (shape_at (unless (are_blocks k.algebra.size (blocks_of p)) p.place)) h).1.shape

@@ -1,6 +1,7 @@
 -- The operands that commands share: the values that are written, and the places where they fail.
-use Rattle.std.specs.Prelude.{ℕ, ◌<◌, ◌==◌, nat_lt, List, [], ◌∷◌, length, map, replicate, slice_index, Option, Some, None}
+use Rattle.std.specs.Prelude.{ℕ, ◌<◌, ◌==◌, nat_le, nat_lt, List, [], ◌∷◌, length, map, replicate, slice_index, Option, Some, None}
 use Rattle.std.specs.Option.{unwrap_or}
+use Rattle.ua_table.specs.declared.limits.TheConstants.{VARIABLES}
 use Rattle.ua_table.specs.Algebras.{Vector, Product}
 use Rattle.ua_text.specs.declared.tokens.Place.{Place}
 use Rattle.ua_text.specs.declared.named.Block.{Block}
@@ -53,6 +54,10 @@ power_of k width = replicate width k.algebra
 -- a width is above 0
 abbrev pub positive : Number → Checks
 positive n = range_at (unless (nat_lt 0 n.value) n.place)
+
+-- there are no more variables than their limit
+abbrev pub free_checks : Number → Checks
+free_checks count = range_at (unless (nat_le count.value VARIABLES) count.place)
 
 -- a word is a name, and a number is below the size
 abbrev pub known_in : Block → Place → Option ℕ → Checks

@@ -1,5 +1,5 @@
 -- The text of numbers, places, elements, vectors, rows and steps.
-use Rattle.std.specs.Prelude.{ℕ, suc, List, [], ◌∷◌, ◌++◌, Option, None, Some, codes, slice_get, slice_index, take}
+use Rattle.std.specs.Prelude.{ℕ, suc, List, [], ◌∷◌, ◌++◌, length, Option, None, Some, codes, slice_get, slice_index, take}
 use Rattle.std.specs.List.{flat_map}
 use Rattle.std.specs.Fmt.{decimal}
 use Rattle.std.specs.Option.{unwrap_or}
@@ -8,6 +8,7 @@ use Rattle.ua_table.specs.declared.origins.Origin.TheVariants.{Gen, Op}
 use Rattle.ua_table.specs.Algebras.{Vector, Operation, arities_of}
 use Rattle.ua_table.specs.Listings.{Row}
 use Rattle.ua_part.specs.Blocks.{more_numbers, spaced}
+use Rattle.ua_term.specs.Steps.{StepList}
 use Rattle.ua_text.specs.declared.tokens.Place.{Place}
 use Rattle.ua_text.specs.declared.named.Block.{Block}
 
@@ -27,6 +28,14 @@ numbered text n (x ∷ xs) = line (decimal n ++ 32 ∷ text x) ++ numbered text 
 -- a word and a number
 abbrev pub counted : List ℕ → ℕ → List ℕ
 counted word n = word ++ 32 ∷ decimal n
+
+-- 0 1
+abbrev pub pair_text : ℕ × ℕ → List ℕ
+pair_text x = decimal x.0 ++ 32 ∷ decimal x.1
+
+-- words, and numbers behind them, on a line
+abbrev pub listed_text : List ℕ → List ℕ → List ℕ
+listed_text words numbers = line (words ++ more_numbers numbers)
 
 -- 4:14
 abbrev pub place_text : Place → List ℕ
@@ -69,6 +78,10 @@ application_text k f places = name_of (slice_get k.algebra.operations f) ++ more
 abbrev pub origin_text : Block → Origin → List ℕ
 origin_text k (Gen index) = counted (codes "gen") index
 origin_text k (Op f places) = application_text k f places
+
+-- how many steps, and the steps
+abbrev pub steps_text : Block → StepList → List ℕ
+steps_text k steps = line (counted (codes "steps") (length steps.items)) ++ numbered (origin_text k) 0 steps.items
 
 -- [0 0] 2 meet 2 1, or [bot bot] 2 meet 2 1
 abbrev pub row_text : Block → Row → List ℕ

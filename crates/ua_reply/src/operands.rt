@@ -8,14 +8,14 @@ ghost use Rattle.ua_table.specs.Numbering.{records};
 ghost use Rattle.ua_term.specs.Meanings.{first_place};
 ghost use Rattle.ua_close.specs.Answers.{IsCause};
 ghost use Rattle.ua_reply.specs.Checks.{AreFirst, Passes};
-ghost use Rattle.ua_reply.specs.Operands.{element_of, place_of, value_of, values_of, vectors_of, power_of, positive, element_in, elements_in, length_in, vector_in, vectors_in, term_in, pair_of, pairs_of, IsPairIn};
+ghost use Rattle.ua_reply.specs.Operands.{element_of, place_of, value_of, values_of, vectors_of, power_of, positive, free_checks, element_in, elements_in, length_in, vector_in, vectors_in, term_in, pair_of, pairs_of, IsPairIn};
 
 use crate::checks::FirstErrors;
 use crate::known::Known;
 use std::alloc::{AllocError, Global};
 use ua_close::CloseError;
 use ua_script::{Entry, Items, Number};
-use ua_table::limits::BUDGET;
+use ua_table::limits::{BUDGET, VARIABLES};
 use ua_table::{Elem, Frame, Vectors};
 use ua_term::Written;
 use ua_text::Place;
@@ -27,6 +27,17 @@ pub fn positive(width: Number) -> FirstErrors
     let mut errors = FirstErrors::none();
     if width.value == 0 {
         errors.range = Some(width.place);
+    }
+    errors
+}
+
+/// Whether there are no more variables than their limit.
+pub fn variables_in(count: Number) -> FirstErrors
+    ensures { AreFirst (free_checks count) result }
+{
+    let mut errors = FirstErrors::none();
+    if count.value > u32::from(VARIABLES) {
+        errors.range = Some(count.place);
     }
     errors
 }

@@ -2,13 +2,14 @@
 
 ghost use Rattle.std.specs.Prelude.{◌≡◌, ◌++◌, OnOk};
 ghost use Rattle.ua_part.specs.Blocks.{more_numbers, partition_text};
-ghost use Rattle.ua_reply.specs.Texts.{line, lines, numbered, counted, element_text, more_elements, elements_text, vector_text, set_text, tuple_text, place_text, application_text, origin_text, row_text};
+ghost use Rattle.ua_reply.specs.Texts.{line, lines, numbered, counted, pair_text, listed_text, element_text, more_elements, elements_text, vector_text, set_text, tuple_text, place_text, application_text, origin_text, steps_text, row_text};
 
 use crate::known::Known;
 use std::alloc::AllocError;
 use ua_close::Listing;
 use ua_part::{Part, push_number};
 use ua_table::{Elem, Origin};
+use ua_term::Steps;
 use ua_text::Place;
 
 /// Appends a word and a number, on a line.
@@ -31,6 +32,25 @@ pub fn push_more(out: &mut Vec<u8>, ns: &[u32]) -> Result<(), AllocError>
         push_number(out, u128::from(*n))?;
     }
     Ok(())
+}
+
+/// Appends words and numbers behind them, on a line.
+pub fn push_listed(out: &mut Vec<u8>, words: &[u8], numbers: &[u32]) -> Result<(), AllocError>
+    ensures { OnOk result (out.new.items ≡ out.old.items ++ listed_text words.now numbers.now) }
+{
+    out.extend_from_slice(words)?;
+    push_more(out, numbers)?;
+    out.push(b'\n')?;
+    Ok(())
+}
+
+/// Appends two numbers with a blank between them.
+pub fn push_pair(out: &mut Vec<u8>, pair: (u32, u32)) -> Result<(), AllocError>
+    ensures { OnOk result (out.new.items ≡ out.old.items ++ pair_text pair) }
+{
+    push_number(out, u128::from(pair.0))?;
+    out.push(b' ')?;
+    push_number(out, u128::from(pair.1))
 }
 
 /// Appends the name of an element where it has one, else its number.
@@ -168,6 +188,15 @@ pub fn push_steps(out: &mut Vec<u8>, known: &Known, steps: &[Origin]) -> Result<
         out.push(b'\n')?;
     }
     Ok(())
+}
+
+/// Appends how many steps there are, and the steps.
+pub fn push_counted_steps(out: &mut Vec<u8>, known: &Known, steps: &Steps) -> Result<(), AllocError>
+    ensures { OnOk result (out.new.items ≡ out.old.items ++ steps_text known.now steps.now) }
+{
+    let list = steps.list();
+    push_counted(out, b"steps", list.len() as u128)?;
+    push_steps(out, known, list)
 }
 
 /// Appends a row, on a line of its own.

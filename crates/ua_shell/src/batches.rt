@@ -19,10 +19,10 @@ use crate::serve::{Served, serve};
 use std::alloc::{AllocError, Global};
 use std::sync::Wait;
 use std::thread::Threads;
-use ua_answer::{Context, answer_plain};
+use ua_answer::answer_plain;
 use ua_io::{Sink, WriteFault, write_all};
 use ua_jobs::{JOBS, batch_with};
-use ua_reply::{Scope, Session};
+use ua_reply::{Context, Scope, Session};
 use ua_script::Item;
 use ua_table::{FreeGate, Gate, Run};
 

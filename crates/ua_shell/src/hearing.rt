@@ -8,8 +8,8 @@ ghost use Rattle.ua_shell.specs.Outputs.{IsServed};
 
 use std::alloc::{AllocError, Global};
 use std::thread::Threads;
-use ua_answer::{Answered, Context, Made, answer};
-use ua_reply::{Scope, Session};
+use ua_answer::{Answered, Made, answer};
+use ua_reply::{Context, Scope, Session};
 use ua_script::{Command, Item};
 use ua_table::{Gate, Run};
 

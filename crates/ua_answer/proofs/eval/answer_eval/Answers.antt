@@ -5,8 +5,8 @@ use Rattle.ua_reply.specs.Sessions.{lookup}
 use Rattle.ua_reply.specs.Checks.{Passes, ◌and◌, first_error}
 use Rattle.ua_reply.specs.Operands.{term_in, elements_in}
 use Rattle.ua_reply.specs.Texts.{line, element_text}
+use Rattle.ua_reply.proofs.Answering.{known_answered}
 use Rattle.ua_answer.specs.EvalCommand.{eval_checks, EvalAnswer}
-use Rattle.ua_answer.proofs.Answering.{known_answered}
 use Rattle.ua_answer.proofs.eval.answer_eval.Goals as goal
 
 pub value-requires-clause-term : goal.value-requires-clause-term

@@ -1,4 +1,4 @@
-use Rattle.ua_answer.specs.FreeCommand.{free_checks}
+use Rattle.ua_reply.specs.Operands.{free_checks}
 use Rattle.ua_answer.proofs.free.answer_free.Goals as goal
 
 pub free_known-requires-after_bounds : goal.free_known-requires-after_bounds

@@ -3,8 +3,8 @@ use Rattle.std.proofs.lemmas.Result.{IfOk-weaker}
 use Rattle.ua_reply.specs.Sessions.{bounds_of, lookup}
 use Rattle.ua_reply.specs.Checks.{◌and◌}
 use Rattle.ua_reply.specs.Operands.{values_of, vectors_of, positive, vector_in, vectors_in}
+use Rattle.ua_reply.proofs.Answering.{known_answered}
 use Rattle.ua_answer.specs.MemberCommand.{member_checks, MemberAnswer}
-use Rattle.ua_answer.proofs.Answering.{known_answered}
 use Rattle.ua_answer.proofs.member.answer_member.Goals as goal
 
 pub membership-answer-requires-clause-width : goal.membership-answer-requires-clause-width

@@ -1,0 +1,2 @@
+mod WrittenConditions
+mod WrittenTables
