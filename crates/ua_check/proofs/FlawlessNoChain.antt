@@ -25,7 +25,8 @@ use Rattle.ua_flaws.specs.declared.flaws.ListName.TheVariants.{Rows}
 use Rattle.ua_flaws.specs.declared.flaws.Flaw.TheVariants as flaw
 use Rattle.ua_flaws.specs.Firsts.{first_bad, is_same}
 use Rattle.ua_flaws.specs.Shapes.{power}
-use Rattle.ua_check.specs.Answers.{AreExact, AreThose}
+use Rattle.ua_flaws.specs.Answers.{AreExact}
+use Rattle.ua_check.specs.Answers.{AreThose}
 use Rattle.ua_flaws.specs.Flaws.{vectors_flaw, closed_flaw}
 use Rattle.ua_flaws.specs.Laws.{VectorsAreFlawless, ExactIsFlawless}
 use Rattle.ua_check.specs.Chains.{kind_of, chain_width, HasNoChain}

@@ -28,7 +28,7 @@ use Rattle.ua_flaws.specs.declared.flaws.Flaw.TheVariants as flaw
 use Rattle.ua_flaws.specs.Firsts.{first_bad}
 use Rattle.ua_flaws.specs.Steps.{written_step, written_steps, written_term, last_term}
 use Rattle.ua_flaws.specs.Shapes.{power}
-use Rattle.ua_check.specs.Answers.{AreExact}
+use Rattle.ua_flaws.specs.Answers.{AreExact}
 use Rattle.ua_flaws.specs.Flaws.{steps_flaw, outside_lines}
 use Rattle.ua_flaws.specs.Laws.{WrittenIsFlawless, WrittenIsRead, VectorsAreFlawless, LackingIsFlawless}
 use Rattle.ua_check.specs.Conditions.{condition_of, has_places, is_no_condition, fails, identity_failure, failure_flaw, condition_lines, condition_flaw, width_of, no_condition_lines, no_condition_flaw}
