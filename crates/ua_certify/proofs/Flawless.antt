@@ -1,5 +1,5 @@
 -- The certificates of answers have no flaw.
-use Rattle.std.proofs.Common.{◌≡◌, ℕ, zero, suc, ◌+◌, ◌-◌, ◌*◌, ◌<◌, ◌≤◌, ◌&&◌, Bool, true, false, Some, None, Ok, Vec, List, [], ◌∷◌, map, length, replicate, inr, ⊎_elim, refl, sym, ap, ◌∙◌, subst, arith}
+use Rattle.std.proofs.Common.{◌≡◌, ℕ, zero, suc, ◌-◌, ◌*◌, ◌<◌, ◌≤◌, ◌&&◌, Bool, true, false, Some, None, Ok, Vec, List, [], ◌∷◌, map, length, replicate, inr, ⊎_elim, refl, sym, ap, ◌∙◌, subst, arith}
 use Rattle.std.specs.Prelude.{Contains, slice_get, nat_le, ◌==◌}
 use Rattle.std.specs.declared.alloc.Global.{Global}
 use Rattle.std.specs.List.{AllByRecursion}
@@ -10,7 +10,7 @@ use Rattle.std.proofs.lemmas.List.{length-map, length-replicate}
 use Rattle.std.proofs.lemmas.List.FromFn.{length-map-range_with_len}
 use Rattle.ua_table.specs.declared.limits.TheConstants.{WIDTH, CELLS}
 use Rattle.ua_table.specs.declared.origins.Origin.{Origin}
-use Rattle.ua_table.specs.Algebras.{Vector, FiniteAlgebra, IsAlgebra, Product, IsProduct, IsVector, IsIncreasing, signature, arities, arities_of}
+use Rattle.ua_table.specs.Algebras.{Vector, FiniteAlgebra, IsAlgebra, Product, IsProduct, IsVector, IsIncreasing, signature, arities_of}
 use Rattle.ua_table.specs.Tables.{IsAlgebraTable}
 use Rattle.ua_table.specs.Frames.{IsWidth}
 use Rattle.ua_table.specs.Terms.{Tree}
