@@ -19,7 +19,7 @@ use Rattle.ua_cert.specs.declared.certs.Cert.{Cert}
 use Rattle.ua_cert.specs.declared.certs.CondName.{CondName}
 use Rattle.ua_cert.specs.declared.certs.CondName.TheVariants as conditions
 use Rattle.ua_cert.specs.declared.certs.ChainName.{ChainName}
-use Rattle.ua_check.specs.Shapes.{power}
+use Rattle.ua_flaws.specs.Shapes.{power}
 use Rattle.ua_check.specs.Conditions.{condition_of, has_places}
 use Rattle.ua_check.specs.Chains.{kind_of}
 use Rattle.ua_certify.specs.Certified.{closure_certificate, member_certificate, condition_certificate, chain_certificate, HasNoFlaw}

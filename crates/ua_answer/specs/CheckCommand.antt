@@ -7,10 +7,10 @@ use Rattle.ua_cert.specs.declared.certs.Cert.{Cert}
 use Rattle.ua_cert.specs.declared.faults.CertError.{CertError}
 use Rattle.ua_cert.specs.declared.faults.CertError.TheVariants as errors
 use Rattle.ua_cert.specs.Certificates.{TellsCert}
-use Rattle.ua_check.specs.declared.flaws.ListName.{ListName}
-use Rattle.ua_check.specs.declared.flaws.ListName.TheVariants.{Gens, Rows, Target}
-use Rattle.ua_check.specs.declared.flaws.Flaw.{Flaw}
-use Rattle.ua_check.specs.declared.flaws.Flaw.TheVariants as flaws
+use Rattle.ua_flaws.specs.declared.flaws.ListName.{ListName}
+use Rattle.ua_flaws.specs.declared.flaws.ListName.TheVariants.{Gens, Rows, Target}
+use Rattle.ua_flaws.specs.declared.flaws.Flaw.{Flaw}
+use Rattle.ua_flaws.specs.declared.flaws.Flaw.TheVariants as flaws
 use Rattle.ua_check.specs.Checking.{flaw_of}
 use Rattle.ua_script.specs.declared.script.Word.{Word}
 use Rattle.ua_text.specs.declared.named.Block.{Block}

@@ -3,7 +3,7 @@
 ghost use Rattle.std.specs.Prelude.{◌≡◌, ◌++◌, Some, Err, IfOk, OnOk};
 ghost use Rattle.ua_table.specs.Algebras.{FiniteAlgebra};
 ghost use Rattle.ua_cert.specs.Certificates.{TellsCert};
-ghost use Rattle.ua_check.specs.declared.flaws.Flaw.{Flaw};
+ghost use Rattle.ua_flaws.specs.declared.flaws.Flaw.{Flaw};
 ghost use Rattle.ua_reply.specs.Replies.{Says};
 ghost use Rattle.ua_reply.specs.Texts.{counted};
 ghost use Rattle.ua_answer.specs.CheckCommand.{list_word, step_text, flaw_text, verdict_text, path_text, check_text, CheckReply};

@@ -1,5 +1,5 @@
 -- The certificates of answers have no flaw.
-use Rattle.std.proofs.Common.{◌≡◌, ℕ, zero, suc, ◌+◌, ◌-◌, ◌*◌, ◌<◌, ◌≤◌, ◌&&◌, Bool, true, false, Some, None, Ok, Vec, List, [], ◌∷◌, map, length, replicate, inr, ⊎_elim, refl, sym, ap, ◌∙◌, subst, arith}
+use Rattle.std.proofs.Common.{◌≡◌, ℕ, zero, suc, ◌-◌, ◌*◌, ◌<◌, ◌≤◌, ◌&&◌, Bool, true, false, Some, None, Ok, Vec, List, [], ◌∷◌, map, length, replicate, inr, ⊎_elim, refl, sym, ap, ◌∙◌, subst, arith}
 use Rattle.std.specs.Prelude.{Contains, slice_get, nat_le, ◌==◌}
 use Rattle.std.specs.declared.alloc.Global.{Global}
 use Rattle.std.specs.List.{AllByRecursion}
@@ -10,7 +10,7 @@ use Rattle.std.proofs.lemmas.List.{length-map, length-replicate}
 use Rattle.std.proofs.lemmas.List.FromFn.{length-map-range_with_len}
 use Rattle.ua_table.specs.declared.limits.TheConstants.{WIDTH, CELLS}
 use Rattle.ua_table.specs.declared.origins.Origin.{Origin}
-use Rattle.ua_table.specs.Algebras.{Vector, FiniteAlgebra, IsAlgebra, Product, IsProduct, IsVector, IsIncreasing, signature, arities, arities_of}
+use Rattle.ua_table.specs.Algebras.{Vector, FiniteAlgebra, IsAlgebra, Product, IsProduct, IsVector, IsIncreasing, signature, arities_of}
 use Rattle.ua_table.specs.Tables.{IsAlgebraTable}
 use Rattle.ua_table.specs.Frames.{IsWidth}
 use Rattle.ua_table.specs.Terms.{Tree}
@@ -37,13 +37,15 @@ use Rattle.ua_cert.specs.declared.certs.CondName.{CondName}
 use Rattle.ua_cert.specs.declared.certs.CondName.TheVariants.{Maltsev, Majority, Minority, Pixley, Nu}
 use Rattle.ua_cert.specs.declared.certs.ChainName.{ChainName}
 use Rattle.ua_cert.specs.declared.certs.ChainName.TheVariants.{Jonsson, Hm}
-use Rattle.ua_check.specs.Shapes.{power}
-use Rattle.ua_check.specs.Answers.{AreExact, IsPowerListing, AreThose}
-use Rattle.ua_check.specs.Steps.{written_steps, row_steps, written_term}
-use Rattle.ua_check.specs.Flaws.{member_flaw, not_member_flaw, listing_flaw}
+use Rattle.ua_flaws.specs.Shapes.{power}
+use Rattle.ua_flaws.specs.Answers.{AreExact, IsPowerListing}
+use Rattle.ua_flaws.specs.Steps.{written_steps, row_steps, written_term}
+use Rattle.ua_flaws.specs.Flaws.{member_flaw, not_member_flaw, listing_flaw}
+use Rattle.ua_check.specs.Answers.{AreThose}
 use Rattle.ua_check.specs.Conditions.{condition_of, has_places, width_of, condition_flaw, no_condition_flaw}
 use Rattle.ua_check.specs.Chains.{kind_of, chain_width, chain_flaw, HasNoChain}
 use Rattle.ua_check.specs.Reached.{places_of, no_chain_flaw}
+use Rattle.ua_flaws.proofs.Powers.{arities_power}
 use Rattle.ua_certify.specs.Certified.{closure_certificate, HasNoFlaw}
 
 -- ---- laws of the crates below, as their functions state them
@@ -75,10 +77,6 @@ power_product a (suc n) h some = record {
   algebras = all_replicate IsAlgebra (suc n) a h;
   similar = all_replicate (λ b. signature b ≡ signature a) (suc n) a refl;
 }
-
-pub arities_power : (a : FiniteAlgebra) (width : ℕ) → 0 < width → arities (power a width) ≡ arities_of a
-arities_power a zero h = absurd (omega (arith, h))
-arities_power a (suc n) h = refl
 
 pub closed_power : (a : FiniteAlgebra) (width b : ℕ) (gens : List Vector) (rows : List Row) → MemberLaw → IsAlgebraTable a → IsWidth width → AllByRecursion (IsVector (power a width)) gens → IsClosedListing (power a width) gens b rows → IsPowerListing a width gens rows
 closed_power a width b gens rows law table wide admitted closed = record {

@@ -7,7 +7,7 @@ use Rattle.ua_cert.specs.declared.certs.CondName.{CondName}
 use Rattle.ua_cert.specs.declared.certs.ChainName.{ChainName}
 use Rattle.ua_cert.specs.declared.certs.Cert.{Cert}
 use Rattle.ua_cert.specs.declared.certs.Cert.TheVariants as certs
-use Rattle.ua_check.specs.Steps.{written_steps, row_steps}
+use Rattle.ua_flaws.specs.Steps.{written_steps, row_steps}
 use Rattle.ua_check.specs.Checking.{flaw_of}
 use Rattle.ua_close.specs.declared.close.Closure.{Closure}
 use Rattle.ua_close.specs.declared.close.Closure.TheVariants as closures

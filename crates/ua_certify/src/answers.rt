@@ -9,7 +9,7 @@ ghost use Rattle.ua_close.specs.Answers.{Answers};
 ghost use Rattle.ua_close.specs.Memberships.{Tells};
 ghost use Rattle.ua_cond.specs.Permitted.{MayDecide};
 ghost use Rattle.ua_chain.specs.Permitted.{MayChain};
-ghost use Rattle.ua_check.specs.Shapes.{power};
+ghost use Rattle.ua_flaws.specs.Shapes.{power};
 ghost use Rattle.ua_check.specs.Conditions.{condition_of, has_places};
 ghost use Rattle.ua_check.specs.Chains.{kind_of};
 ghost use Rattle.ua_certify.specs.Certified as certified;
@@ -18,9 +18,10 @@ use crate::parts::{numbers, ranks, row_steps, rows, vectors, written_steps, writ
 use std::alloc::{AllocError, Global};
 use ua_cert::{Cert, ChainName, CondName};
 use ua_chain::Chain;
-use ua_check::laws::flawless;
+use ua_check::laws as term_laws;
 use ua_close::laws::kinds;
 use ua_close::{Answer, Closure, Listing};
+use ua_flaws::laws as vector_laws;
 use ua_identity::laws::{conditions, named, patterns};
 use ua_table::{Algebra, Elem, Listed, Vectors};
 
@@ -54,7 +55,7 @@ pub fn certify_closure(
     ensures certificate { IfOk result (λ cert. cert ≡ certified.closure_certificate a.now width gens.now.items closure.now) }
     ensures flawless { (b : ℕ) → IsWidth width → AllByRecursion (IsVector (power a.now width)) gens.now.items → Answers (power a.now width) gens.now.items b closure.now → IfOk result (certified.HasNoFlaw a.now) }
 {
-    flawless();
+    vector_laws::flawless();
     kinds();
     // What this call ensures is that the algebra is one: its operations have different names.
     let _size = a.size();
@@ -76,7 +77,7 @@ pub fn certify_membership(
     ensures certificate { IfOk result (λ cert. cert ≡ certified.member_certificate a.now width gens.now.items target.now answer.now) }
     ensures flawless { (b : ℕ) → IsWidth width → AllByRecursion (IsVector (power a.now width)) gens.now.items → IsVector (power a.now width) target.now → Tells (power a.now width) gens.now.items target.now b answer.now → IfOk result (certified.HasNoFlaw a.now) }
 {
-    flawless();
+    vector_laws::flawless();
     kinds();
     let _size = a.size();
     match answer {
@@ -107,7 +108,7 @@ pub fn certify_condition(
     ensures certificate { IfOk result (λ cert. cert ≡ certified.condition_certificate a.now name k answer.now) }
     ensures flawless { (b w : ℕ) → 1 ≤ b → has_places name k ≡ true → MayDecide a.now (condition_of name k) b w (Ok answer.now) → IfOk result (certified.HasNoFlaw a.now) }
 {
-    flawless();
+    term_laws::flawless();
     kinds();
     patterns();
     conditions();
@@ -136,7 +137,7 @@ pub fn certify_chain(
     ensures certificate { IfOk result (λ cert. cert ≡ certified.chain_certificate a.now name answer.now) }
     ensures flawless { (b w : ℕ) → 1 ≤ b → MayChain a.now (kind_of name) b w (Ok answer.now) → IfOk result (certified.HasNoFlaw a.now) }
 {
-    flawless();
+    term_laws::flawless();
     kinds();
     patterns();
     let _size = a.size();

@@ -4,7 +4,7 @@ ghost use Rattle.std.specs.Prelude.{◌≡◌, map, IfOk};
 ghost use Rattle.ua_table.specs.Listings.{vectors_of, ranks_of};
 ghost use Rattle.std.specs.List.{AllByRecursion};
 ghost use Rattle.ua_term.specs.Steps.{AreSteps};
-ghost use Rattle.ua_check.specs.Steps as written;
+ghost use Rattle.ua_flaws.specs.Steps as written;
 
 use std::alloc::{AllocError, Global};
 use ua_cert::{CertStep, Text};

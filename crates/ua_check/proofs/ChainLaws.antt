@@ -16,14 +16,14 @@ use Rattle.ua_identity.specs.Patterns.{all_fillings}
 use Rattle.ua_cert.specs.declared.certs.CertStep.{CertStep}
 use Rattle.ua_cert.specs.declared.certs.ChainName.{ChainName}
 use Rattle.ua_cert.specs.declared.certs.ChainName.TheVariants.{Jonsson, Hm}
-use Rattle.ua_check.specs.declared.flaws.Flaw.TheVariants as flaw
-use Rattle.ua_check.specs.Firsts.{first_bad}
-use Rattle.ua_check.specs.Steps.{origin_of, origins_of, written_term, last_term}
-use Rattle.ua_check.specs.Flaws.{steps_flaw}
+use Rattle.ua_flaws.specs.declared.flaws.Flaw.TheVariants as flaw
+use Rattle.ua_flaws.specs.Firsts.{first_bad}
+use Rattle.ua_flaws.specs.Steps.{origin_of, origins_of, written_term, last_term}
+use Rattle.ua_flaws.specs.Flaws.{steps_flaw}
+use Rattle.ua_flaws.specs.Laws.{StepsAreSteps, LastIsTerm}
 use Rattle.ua_check.specs.Chains.{kind_of, chain_width, WritesChain, place_identity, satisfies, satisfies_all, is_fit, link_at, are_linked, is_in_chain, links_flaw, term_flaw, terms_flaw, is_without_term, AreTermSteps, chain_lines, chain_flaw}
-use Rattle.ua_check.proofs.FirstLaws.{both, neither, refusal_none, option_none, first_none, none_of, alone, skipped, each_good, all_from_places}
+use Rattle.ua_flaws.proofs.FirstLaws.{both, neither, some_length, refusal_none, option_none, first_none, none_of, alone, skipped, each_good, all_from_places}
 use Rattle.ua_check.proofs.SatisfyLaws.{satisfied_all, linked, place}
-use Rattle.ua_check.proofs.SoundLaws.{some_length, steps_written, written}
 use Rattle.ua_identity.proofs.PatternLaws.{map_twice}
 
 -- ---- lists by their places
@@ -123,28 +123,28 @@ module _ (a : FiniteAlgebra) (kind : ChainKind) (terms : List Tree) (good : (i :
 
 -- ---- their steps
 
-written_all : (a : FiniteAlgebra) (places n : ℕ) (terms : List (List CertStep)) → list_any (λ (steps : List CertStep). length steps == 0) terms ≡ false → first_refusal (map (term_flaw a places) (enumerate_from n terms)) ≡ None
+written_all : LastIsTerm → (a : FiniteAlgebra) (places n : ℕ) (terms : List (List CertStep)) → list_any (λ (steps : List CertStep). length steps == 0) terms ≡ false → first_refusal (map (term_flaw a places) (enumerate_from n terms)) ≡ None
     → AllByRecursion (IsTerm (arities_of a) places) (map (last_term a) terms)
-written_all a places n [] some none = tt
-written_all a places n (steps ∷ terms) some none =
+written_all term a places n [] some none = tt
+written_all term a places n (steps ∷ terms) some none =
     let s = neither (length steps == 0) (list_any (λ (steps : List CertStep). length steps == 0) terms) some in
     let h = first_none (steps_flaw a places (Some n) steps) (map (term_flaw a places) (enumerate_from (n + 1) terms)) none in
-    ((written a places (Some n) steps s.0 h.0).is_term, written_all a places (n + 1) terms s.1 h.1)
+    (term a places (Some n) steps (some_length (length steps) s.0) h.0, written_all term a places (n + 1) terms s.1 h.1)
 
 -- steps without a flaw, of which there are some, and at most so many
-terms_written : (a : FiniteAlgebra) (most n : ℕ) (terms : List (List CertStep)) → list_any (λ (steps : List CertStep). length steps == 0) terms ≡ false → AllByRecursion (λ (steps : List CertStep). length steps ≤ most) terms → first_refusal (map (term_flaw a 3) (enumerate_from n terms)) ≡ None
+terms_written : StepsAreSteps → (a : FiniteAlgebra) (most n : ℕ) (terms : List (List CertStep)) → list_any (λ (steps : List CertStep). length steps == 0) terms ≡ false → AllByRecursion (λ (steps : List CertStep). length steps ≤ most) terms → first_refusal (map (term_flaw a 3) (enumerate_from n terms)) ≡ None
     → AllByRecursion (AreTermSteps a most) (map (origins_of a) terms)
-terms_written a most n [] some few none = tt
-terms_written a most n (steps ∷ terms) some few none =
+terms_written are a most n [] some few none = tt
+terms_written are a most n (steps ∷ terms) some few none =
     let s = neither (length steps == 0) (list_any (λ (steps : List CertStep). length steps == 0) terms) some in
     let h = first_none (steps_flaw a 3 (Some n) steps) (map (term_flaw a 3) (enumerate_from (n + 1) terms)) none in
     let long = some_length (length steps) s.0 in
     let count = length-map steps (origin_of a) in
     let low = few.0 in
-    (record { some = omega (arith, long, count); few = omega (arith, low, count); steps = steps_written a 3 (Some n) steps h.0 }, terms_written a most (n + 1) terms s.1 few.1 h.1)
+    (record { some = omega (arith, long, count); few = omega (arith, low, count); steps = are a 3 (Some n) steps h.0 }, terms_written are a most (n + 1) terms s.1 few.1 h.1)
 
-pub are_term_steps : (a : FiniteAlgebra) (most : ℕ) (terms : List (List CertStep)) → is_without_term terms ≡ false → AllByRecursion (λ (steps : List CertStep). length steps ≤ most) terms → terms_flaw a 3 terms ≡ None → AllByRecursion (AreTermSteps a most) (map (origins_of a) terms)
-are_term_steps a most terms some few none = terms_written a most 0 terms (neither (length terms == 0) (list_any (λ (steps : List CertStep). length steps == 0) terms) some).1 few none
+pub are_term_steps : StepsAreSteps → (a : FiniteAlgebra) (most : ℕ) (terms : List (List CertStep)) → is_without_term terms ≡ false → AllByRecursion (λ (steps : List CertStep). length steps ≤ most) terms → terms_flaw a 3 terms ≡ None → AllByRecursion (AreTermSteps a most) (map (origins_of a) terms)
+are_term_steps are a most terms some few none = terms_written are a most 0 terms (neither (length terms == 0) (list_any (λ (steps : List CertStep). length steps == 0) terms) some).1 few none
 
 three_places : (name : ChainName) → (kind_of name).places ≡ 3
 three_places Jonsson = refl
@@ -169,8 +169,8 @@ chain_told a name terms list fits fine read =
     ∙ sym (skipped _ (links ∷ []) steps)
     ∙ sym (skipped _ (terms_flaw a (kind_of name).places terms ∷ links ∷ []) (ap (λ b. refusal_if b flaw.Width) fits))
 
-pub chain_holds : (a : FiniteAlgebra) (name : ChainName) (terms : List (List CertStep)) → chain_flaw a name terms ≡ None → WritesChain a name terms
-chain_holds a name terms none =
+pub chain_holds : LastIsTerm → (a : FiniteAlgebra) (name : ChainName) (terms : List (List CertStep)) → chain_flaw a name terms ≡ None → WritesChain a name terms
+chain_holds term a name terms none =
     let kind = kind_of name in
     let trees = map (last_term a) terms in
     let l = none_of (chain_lines a name terms) none in
@@ -179,4 +179,4 @@ chain_holds a name terms none =
     let long = some_length (length terms) some.0 in
     let count = length-map terms (last_term a) in
     let good = λ (i : ℕ) (t : Tree) (at : slice_get trees i ≡ Some t). (let z : 0 + i ≡ i = omega arith in ap (λ k. is_in_chain a kind trees k t) (sym z) ∙ each_good (is_in_chain a kind trees) 0 trees (option_none flaw.Link (first_bad (is_in_chain a kind trees) 0 trees) l.1.1.0) i t at) in
-    are_chain a kind trees good (omega (arith, long, count)) (written_all a kind.places 0 terms some.1 l.1.0)
+    are_chain a kind trees good (omega (arith, long, count)) (written_all term a kind.places 0 terms some.1 l.1.0)

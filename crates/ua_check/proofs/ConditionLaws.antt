@@ -19,15 +19,15 @@ use Rattle.ua_identity.specs.Patterns.{all_fillings, patterns_of, condition_powe
 use Rattle.ua_cert.specs.declared.certs.CertStep.{CertStep}
 use Rattle.ua_cert.specs.declared.certs.CondName.{CondName}
 use Rattle.ua_cert.specs.declared.certs.CondName.TheVariants.{Maltsev, Majority, Minority, Pixley, Nu}
-use Rattle.ua_check.specs.declared.flaws.ListName.TheVariants.{Rows}
-use Rattle.ua_check.specs.declared.flaws.Flaw.TheVariants as flaw
-use Rattle.ua_check.specs.Steps.{origins_of, written_term, last_term}
-use Rattle.ua_check.specs.Shapes.{power}
-use Rattle.ua_check.specs.Flaws.{vectors_flaw, steps_flaw, outside_lines}
+use Rattle.ua_flaws.specs.declared.flaws.ListName.TheVariants.{Rows}
+use Rattle.ua_flaws.specs.declared.flaws.Flaw.TheVariants as flaw
+use Rattle.ua_flaws.specs.Steps.{origins_of, written_term, last_term}
+use Rattle.ua_flaws.specs.Shapes.{power}
+use Rattle.ua_flaws.specs.Flaws.{vectors_flaw, steps_flaw, outside_lines}
+use Rattle.ua_flaws.specs.Laws.{StepsAreSteps, LastIsTerm, LackedIsOutside}
 use Rattle.ua_check.specs.Conditions.{condition_of, has_places, is_no_condition, WritesTerm, HasNoTerm, identities_flaw, condition_lines, condition_flaw, width_of, no_condition_flaw}
-use Rattle.ua_check.proofs.FirstLaws.{both, neither, not_false, refusal_none, none_of, behind_none, alone, skipped}
+use Rattle.ua_flaws.proofs.FirstLaws.{both, neither, not_false, some_length, refusal_none, none_of, behind_none, alone, skipped}
 use Rattle.ua_check.proofs.SatisfyLaws.{satisfied_from}
-use Rattle.ua_check.proofs.SoundLaws.{written, outside_holds}
 
 three : (k : ℕ) → (k == 3) ≡ true → 3 ≡ k
 three k e = grind (arith, nat_tests)
@@ -75,15 +75,14 @@ condition_told a name k c steps os same read fits some fine =
     ∙ sym (skipped _ (identities_flaw a (condition_of name k).identities (last_term a steps) ∷ []) fine)
     ∙ sym (skipped _ (steps_flaw a k None steps ∷ identities_flaw a (condition_of name k).identities (last_term a steps) ∷ []) width)
 
-pub condition_holds : (a : FiniteAlgebra) (name : CondName) (k : ℕ) (steps : List CertStep) → condition_flaw a name k steps ≡ None → WritesTerm a name k steps
-condition_holds a name k steps none =
+pub condition_holds : StepsAreSteps → LastIsTerm → (a : FiniteAlgebra) (name : CondName) (k : ℕ) (steps : List CertStep) → condition_flaw a name k steps ≡ None → WritesTerm a name k steps
+condition_holds are term a name k steps none =
     let l = none_of (condition_lines a name k steps) none in
     let shape = neither (is_no_condition a name k) (length steps == 0) (refusal_none (is_no_condition a name k || (length steps == 0)) flaw.Width l.0) in
     let places = places_fit a name k (ap (λ b. refusal_if b flaw.Width) shape.0) in
-    let are = written a k None steps shape.1 l.1.0 in
     record {
-      steps_are = are.steps_are;
-      is_term = subst (λ n. IsTerm (arities_of a) n (last_term a steps)) (sym (arity_is name k places)) are.is_term;
+      steps_are = are a k None steps l.1.0;
+      is_term = subst (λ n. IsTerm (arities_of a) n (last_term a steps)) (sym (arity_is name k places)) (term a k None steps (some_length (length steps) shape.1) l.1.0);
       meets = satisfied_from a (last_term a steps) 0 (condition_of name k).identities l.1.1.0;
     }
 
@@ -91,9 +90,9 @@ condition_holds a name k steps none =
 pub power_is : (a : FiniteAlgebra) (name : CondName) (k : ℕ) → power a (width_of a name k) ≡ condition_power a (condition_of name k)
 power_is a name k = ap (λ n. replicate n a) (length-replicate (length (all_fillings a.size (patterns_of (condition_of name k)))) a)
 
-pub no_condition_holds : (a : FiniteAlgebra) (name : CondName) (k : ℕ) (rows : List Vector) → (Sg (condition_power a (condition_of name k)) (argument_vectors a (condition_of name k)) (value_vector a (condition_of name k)) ↔ IsMet a (condition_of name k)) → no_condition_flaw a name k rows ≡ None → HasNoTerm a name k
-no_condition_holds a name k rows law none met =
+pub no_condition_holds : LackedIsOutside → (a : FiniteAlgebra) (name : CondName) (k : ℕ) (rows : List Vector) → (Sg (condition_power a (condition_of name k)) (argument_vectors a (condition_of name k)) (value_vector a (condition_of name k)) ↔ IsMet a (condition_of name k)) → no_condition_flaw a name k rows ≡ None → HasNoTerm a name k
+no_condition_holds outside a name k rows law none met =
     let c = condition_of name k in
-    outside_holds a (width_of a name k) (argument_vectors a c) rows (value_vector a c)
+    outside a (width_of a name k) (argument_vectors a c) rows (value_vector a c)
     (behind_none (refusal_if (is_no_condition a name k) flaw.Width ∷ vectors_flaw a.size (width_of a name k) Rows rows ∷ []) (outside_lines a (width_of a name k) (argument_vectors a c) rows (value_vector a c)) none)
     (subst (λ p. Sg p (argument_vectors a c) (value_vector a c)) (sym (power_is a name k)) (law.1 met))

@@ -3,7 +3,7 @@ use Rattle.std.proofs.Common.{◌≡◌, ℕ, suc, ◌+◌, ◌<◌, ◌≤◌, 
 use Rattle.std.specs.List.{enumerate_from}
 use Rattle.std.proofs.Math.Seq.{drop-cons}
 use Rattle.ua_table.specs.Refusals.{first_refusal}
-use Rattle.ua_check.proofs.FirstLaws.{past}
+use Rattle.ua_flaws.proofs.FirstLaws.{past}
 
 module _ {X E : Type 0} (f : ℕ × X → Option E) where
   -- what is left from item i on

@@ -21,19 +21,21 @@ use Rattle.ua_identity.specs.Kinds.{alike}
 use Rattle.ua_identity.proofs.PatternLaws.{part_is, linked_from_parts, satisfied_from_part}
 use Rattle.ua_cert.specs.declared.certs.ChainName.{ChainName}
 use Rattle.ua_cert.specs.declared.certs.ChainName.TheVariants.{Jonsson, Hm}
-use Rattle.ua_check.specs.declared.flaws.ListName.TheVariants.{Rows}
-use Rattle.ua_check.specs.declared.flaws.Flaw.TheVariants as flaw
-use Rattle.ua_check.specs.Firsts.{first_bad, is_same}
-use Rattle.ua_check.specs.Shapes.{power}
-use Rattle.ua_check.specs.Answers.{AreExact, AreThose}
-use Rattle.ua_check.specs.Flaws.{vectors_flaw, closed_flaw}
+use Rattle.ua_flaws.specs.declared.flaws.ListName.TheVariants.{Rows}
+use Rattle.ua_flaws.specs.declared.flaws.Flaw.TheVariants as flaw
+use Rattle.ua_flaws.specs.Firsts.{first_bad, is_same}
+use Rattle.ua_flaws.specs.Shapes.{power}
+use Rattle.ua_flaws.specs.Answers.{AreExact}
+use Rattle.ua_check.specs.Answers.{AreThose}
+use Rattle.ua_flaws.specs.Flaws.{vectors_flaw, closed_flaw}
+use Rattle.ua_flaws.specs.Laws.{VectorsAreFlawless, ExactIsFlawless}
 use Rattle.ua_check.specs.Chains.{kind_of, chain_width, HasNoChain}
 use Rattle.ua_check.specs.Reached.{even_parts, odd_parts, leads, is_own_row, holds_position, odd_positions, is_position, positions_flaw, parity_flaw, is_led_to, is_started, is_followed, is_not_end, places_of, place_of, row_flaw, reached_lines, no_chain_lines, no_chain_flaw}
-use Rattle.ua_check.proofs.FirstLaws.{same_is}
-use Rattle.ua_check.proofs.StepLaws.{arities_power}
+use Rattle.ua_flaws.proofs.FirstLaws.{same_is}
+use Rattle.ua_flaws.proofs.PassLaws.{is_below, all_true, no_line, no_refusal, no_option, none_bad}
+use Rattle.ua_flaws.proofs.Powers.{arities_power}
 use Rattle.ua_check.proofs.NoChainLaws.{VectorLaw, three_long, three, vec, even_leads, odd_leads, start_is}
 use Rattle.ua_check.proofs.ReachedLaws.{some_wide}
-use Rattle.ua_check.proofs.FlawlessLaws.{is_below, all_true, no_line, no_refusal, no_option, none_bad, no_vector_flaw, no_closed_flaw}
 
 -- ---- positions
 
@@ -440,14 +442,14 @@ follows_fine a Hm rows even odd law some exact evens odds none i v at = followed
 each_row : (good : ℕ → Vector → Bool) (rows : List Vector) → ((i : ℕ) (v : Vector) → slice_get rows i ≡ Some v → good i v ≡ true) → row_flaw good rows ≡ None
 each_row good rows h = no_option flaw.Reached (first_bad good 0 rows) (none_bad good 0 rows (λ i v at. (let z : 0 + i ≡ i = omega arith in ap (λ k. good k v) z ∙ h i v at)))
 
-pub flawless_no_chain : (a : FiniteAlgebra) (name : ChainName) (rows : List Vector) (even odd : List ℕ) → VectorLaw → 0 < a.size → chain_width a name ≤ WIDTH → IsIncreasing rows → AllByRecursion (IsVector (power a (chain_width a name))) rows → AreExact a (chain_width a name) (places_of a name) rows
+pub flawless_no_chain : (a : FiniteAlgebra) (name : ChainName) (rows : List Vector) (even odd : List ℕ) → VectorLaw → VectorsAreFlawless → ExactIsFlawless → 0 < a.size → chain_width a name ≤ WIDTH → IsIncreasing rows → AllByRecursion (IsVector (power a (chain_width a name))) rows → AreExact a (chain_width a name) (places_of a name) rows
     → AreThose a name true rows even → AreThose a name false rows odd → HasNoChain a name → no_chain_flaw a name rows even odd ≡ None
-flawless_no_chain a name rows even odd law size narrow inc vectors exact evens odds none =
+flawless_no_chain a name rows even odd law fine closed size narrow inc vectors exact evens odds none =
     let some = some_wide a.size name size in
     no_line (no_chain_lines a name rows even odd) (
       no_line (refusal_if (nat_lt WIDTH (chain_width a name)) flaw.Width ∷ vectors_flaw a.size (chain_width a name) Rows rows ∷ closed_flaw a (chain_width a name) (places_of a name) rows ∷ []) (
         no_refusal (nat_lt WIDTH (chain_width a name)) flaw.Width (within (chain_width a name) narrow),
-        (no_vector_flaw a (chain_width a name) Rows rows vectors, (no_closed_flaw a (chain_width a name) (places_of a name) rows inc exact, tt)),
+        (fine a (chain_width a name) Rows rows vectors, (closed a (chain_width a name) (places_of a name) rows inc exact, tt)),
       ),
       (
         no_line (positions_flaw (length rows) even ∷ positions_flaw (length rows) odd ∷ parity_flaw name odd ∷ []) (no_position_flaw a name true rows even evens, (no_position_flaw a name false rows odd odds, (no_parity_flaw a name rows odd odds, tt))),

@@ -23,18 +23,19 @@ use Rattle.ua_identity.specs.Patterns.{condition_power, argument_vectors, value_
 use Rattle.ua_cert.specs.declared.certs.CertStep.{CertStep}
 use Rattle.ua_cert.specs.declared.certs.CondName.{CondName}
 use Rattle.ua_cert.specs.declared.certs.ChainName.{ChainName}
-use Rattle.ua_check.specs.declared.flaws.ListName.TheVariants.{Rows}
-use Rattle.ua_check.specs.declared.flaws.Flaw.TheVariants as flaw
-use Rattle.ua_check.specs.Firsts.{first_bad}
-use Rattle.ua_check.specs.Steps.{written_step, written_steps, written_term, last_term}
-use Rattle.ua_check.specs.Shapes.{power}
-use Rattle.ua_check.specs.Answers.{AreExact}
-use Rattle.ua_check.specs.Flaws.{steps_flaw}
+use Rattle.ua_flaws.specs.declared.flaws.ListName.TheVariants.{Rows}
+use Rattle.ua_flaws.specs.declared.flaws.Flaw.TheVariants as flaw
+use Rattle.ua_flaws.specs.Firsts.{first_bad}
+use Rattle.ua_flaws.specs.Steps.{written_step, written_steps, written_term, last_term}
+use Rattle.ua_flaws.specs.Shapes.{power}
+use Rattle.ua_flaws.specs.Answers.{AreExact}
+use Rattle.ua_flaws.specs.Flaws.{steps_flaw, outside_lines}
+use Rattle.ua_flaws.specs.Laws.{WrittenIsFlawless, WrittenIsRead, VectorsAreFlawless, LackingIsFlawless}
 use Rattle.ua_check.specs.Conditions.{condition_of, has_places, is_no_condition, fails, identity_failure, failure_flaw, condition_lines, condition_flaw, width_of, no_condition_lines, no_condition_flaw}
 use Rattle.ua_check.specs.Chains.{kind_of, chain_width, place_identity, satisfies, satisfies_all, is_fit, link_at, is_unlinked, are_linked, is_in_chain, links_flaw, term_flaw, is_without_term, chain_lines, chain_flaw}
-use Rattle.ua_check.proofs.FirstLaws.{skipped}
+use Rattle.ua_flaws.proofs.FirstLaws.{none_of, skipped}
+use Rattle.ua_flaws.proofs.PassLaws.{is_equal, all_true, not_either, no_line, no_refusal, no_option, none_bad, none_found}
 use Rattle.ua_check.proofs.SatisfyLaws.{read_all}
-use Rattle.ua_check.proofs.FlawlessLaws.{is_equal, all_true, not_either, no_line, no_refusal, no_option, none_bad, none_found, no_vector_flaw, steps_again, no_step_flaw, no_outside_flaw}
 
 -- ---- identities
 
@@ -48,8 +49,8 @@ no_identity_flaw a t n (i ∷ is) h =
     ∙ no_identity_flaw a t (n + 1) is h.1
 
 -- the steps write this term
-last_written : (a : FiniteAlgebra) → IsAlgebraTable a → (gens : ℕ) (os : List Origin) → AreSteps (arities_of a) gens os → last_term a (written_steps a os) ≡ written_term (arities_of a) os
-last_written a table gens os steps = ap (λ zs. written_term (arities_of a) zs) (steps_again a table gens 0 os steps)
+last_written : WrittenIsRead → (a : FiniteAlgebra) → IsAlgebraTable a → (gens : ℕ) (os : List Origin) → AreSteps (arities_of a) gens os → last_term a (written_steps a os) ≡ written_term (arities_of a) os
+last_written read a table gens os steps = ap (λ zs. written_term (arities_of a) zs) (read a gens os table steps)
 
 some_steps : (a : FiniteAlgebra) (os : List Origin) → 0 < length os → (length (written_steps a os) == 0) ≡ false
 some_steps a os some = let count = length-map os (written_step a) in positive (length (written_steps a os)) (omega (arith, some, count))
@@ -65,43 +66,46 @@ fits a name k places few = not_either (not (has_places name k)) (nat_lt WIDTH (l
     within : (n : ℕ) → n ≤ WIDTH → nat_lt WIDTH n ≡ false
     within n l = grind (arith, nat_tests)
 
-pub flawless_condition : (a : FiniteAlgebra) → IsAlgebraTable a → (name : CondName) (k : ℕ) (os : List Origin) → has_places name k ≡ true → length (condition_power a (condition_of name k)) ≤ WIDTH → 0 < length os → AreSteps (arities_of a) k os
+pub flawless_condition : WrittenIsFlawless → WrittenIsRead → (a : FiniteAlgebra) → IsAlgebraTable a → (name : CondName) (k : ℕ) (os : List Origin) → has_places name k ≡ true → length (condition_power a (condition_of name k)) ≤ WIDTH → 0 < length os → AreSteps (arities_of a) k os
     → Meets a (written_term (arities_of a) os) (condition_of name k) → condition_flaw a name k (written_steps a os) ≡ None
-flawless_condition a table name k os places few some steps meets =
+flawless_condition fine read a table name k os places few some steps meets =
     no_line (condition_lines a name k (written_steps a os)) (
       no_refusal (is_no_condition a name k || (length (written_steps a os) == 0)) flaw.Width (not_either (is_no_condition a name k) (length (written_steps a os) == 0) (fits a name k places few) (some_steps a os some)),
       (
-        no_step_flaw a table k None os steps,
-        (no_identity_flaw a (last_term a (written_steps a os)) 0 (condition_of name k).identities (subst (λ t. Meets a t (condition_of name k)) (sym (last_written a table k os steps)) meets), tt),
+        fine a k None os table steps,
+        (no_identity_flaw a (last_term a (written_steps a os)) 0 (condition_of name k).identities (subst (λ t. Meets a t (condition_of name k)) (sym (last_written read a table k os steps)) meets), tt),
       ),
     )
 
-pub flawless_no_condition : (a : FiniteAlgebra) (name : CondName) (k : ℕ) (rows : List Vector) → has_places name k ≡ true → length (condition_power a (condition_of name k)) ≤ WIDTH → IsIncreasing rows → AllByRecursion (IsVector (power a (width_of a name k))) rows
+pub flawless_no_condition : VectorsAreFlawless → LackingIsFlawless → (a : FiniteAlgebra) (name : CondName) (k : ℕ) (rows : List Vector) → has_places name k ≡ true → length (condition_power a (condition_of name k)) ≤ WIDTH → IsIncreasing rows → AllByRecursion (IsVector (power a (width_of a name k))) rows
     → AreExact a (width_of a name k) (argument_vectors a (condition_of name k)) rows → (Contains rows (value_vector a (condition_of name k)) → ⊥) → no_condition_flaw a name k rows ≡ None
-flawless_no_condition a name k rows places few inc vectors exact absent =
+flawless_no_condition fine lacking a name k rows places few inc vectors exact absent =
     no_line (no_condition_lines a name k rows) (
       no_refusal (is_no_condition a name k) flaw.Width (fits a name k places few),
-      (no_vector_flaw a (width_of a name k) Rows rows vectors, no_outside_flaw a (width_of a name k) (argument_vectors a (condition_of name k)) rows (value_vector a (condition_of name k)) inc exact absent),
+      (
+        fine a (width_of a name k) Rows rows vectors,
+        none_of (outside_lines a (width_of a name k) (argument_vectors a (condition_of name k)) rows (value_vector a (condition_of name k))) (lacking a (width_of a name k) (argument_vectors a (condition_of name k)) rows (value_vector a (condition_of name k)) inc exact absent),
+      ),
     )
 
 -- ---- chains
 
-no_term_flaw : (a : FiniteAlgebra) → IsAlgebraTable a → (places n : ℕ) (lists : List (List Origin)) → AllByRecursion (AreSteps (arities_of a) places) lists → first_refusal (map (term_flaw a places) (enumerate_from n (map (written_steps a) lists))) ≡ None
-no_term_flaw a table places n [] h = refl
-no_term_flaw a table places n (os ∷ lists) h =
-    skipped (steps_flaw a places (Some n) (written_steps a os)) (map (term_flaw a places) (enumerate_from (n + 1) (map (written_steps a) lists))) (no_step_flaw a table places (Some n) os h.0)
-    ∙ no_term_flaw a table places (n + 1) lists h.1
+no_term_flaw : WrittenIsFlawless → (a : FiniteAlgebra) → IsAlgebraTable a → (places n : ℕ) (lists : List (List Origin)) → AllByRecursion (AreSteps (arities_of a) places) lists → first_refusal (map (term_flaw a places) (enumerate_from n (map (written_steps a) lists))) ≡ None
+no_term_flaw fine a table places n [] h = refl
+no_term_flaw fine a table places n (os ∷ lists) h =
+    skipped (steps_flaw a places (Some n) (written_steps a os)) (map (term_flaw a places) (enumerate_from (n + 1) (map (written_steps a) lists))) (fine a places (Some n) os table h.0)
+    ∙ no_term_flaw fine a table places (n + 1) lists h.1
 
 -- each term has steps
 none_empty : (a : FiniteAlgebra) (lists : List (List Origin)) → AllByRecursion (λ (os : List Origin). 0 < length os) lists → list_any (λ (steps : List CertStep). length steps == 0) (map (written_steps a) lists) ≡ false
 none_empty a [] h = refl
 none_empty a (os ∷ lists) h = not_either (length (written_steps a os) == 0) (list_any (λ (steps : List CertStep). length steps == 0) (map (written_steps a) lists)) (some_steps a os h.0) (none_empty a lists h.1)
 
-terms_written : (a : FiniteAlgebra) → IsAlgebraTable a → (places : ℕ) (lists : List (List Origin)) → AllByRecursion (AreSteps (arities_of a) places) lists → map (last_term a) (map (written_steps a) lists) ≡ map (written_term (arities_of a)) lists
-terms_written a table places [] h = refl
-terms_written a table places (os ∷ lists) h =
-    let here = last_written a table places os h.0 in
-    let rest = terms_written a table places lists h.1 in
+terms_written : WrittenIsRead → (a : FiniteAlgebra) → IsAlgebraTable a → (places : ℕ) (lists : List (List Origin)) → AllByRecursion (AreSteps (arities_of a) places) lists → map (last_term a) (map (written_steps a) lists) ≡ map (written_term (arities_of a)) lists
+terms_written read a table places [] h = refl
+terms_written read a table places (os ∷ lists) h =
+    let here = last_written read a table places os h.0 in
+    let rest = terms_written read a table places lists h.1 in
     λ i. here i ∷ rest i
 
 -- the first of a list, and the last
@@ -203,17 +207,17 @@ module _ (a : FiniteAlgebra) (kind : ChainKind) (terms : List Tree) (chain : IsC
   no_link_flaw : links_flaw a kind terms ≡ None
   no_link_flaw = no_option flaw.Link (first_bad (is_in_chain a kind terms) 0 terms) (none_bad (is_in_chain a kind terms) 0 terms (λ i t at. (let z : 0 + i ≡ i = omega arith in ap (λ k. is_in_chain a kind terms k t) z ∙ in_chain i t at)))
 
-pub flawless_chain : (a : FiniteAlgebra) → IsAlgebraTable a → (name : ChainName) (lists : List (List Origin)) → chain_width a name ≤ WIDTH → AllByRecursion (λ (os : List Origin). 0 < length os) lists → AllByRecursion (AreSteps (arities_of a) (kind_of name).places) lists
+pub flawless_chain : WrittenIsFlawless → WrittenIsRead → (a : FiniteAlgebra) → IsAlgebraTable a → (name : ChainName) (lists : List (List Origin)) → chain_width a name ≤ WIDTH → AllByRecursion (λ (os : List Origin). 0 < length os) lists → AllByRecursion (AreSteps (arities_of a) (kind_of name).places) lists
     → IsChain a (kind_of name) (map (written_term (arities_of a)) lists) → chain_flaw a name (map (written_steps a) lists) ≡ None
-flawless_chain a table name lists narrow some steps chain =
+flawless_chain fine read a table name lists narrow some steps chain =
     let terms : List (List CertStep) = map (written_steps a) lists in
     let count : length terms ≡ length lists = length-map lists (written_steps a) in
-    let is = terms_written a table (kind_of name).places lists steps in
+    let is = terms_written read a table (kind_of name).places lists steps in
     no_line (chain_lines a name terms) (
       no_refusal (nat_lt WIDTH (chain_width a name) || is_without_term terms) flaw.Width (not_either (nat_lt WIDTH (chain_width a name)) (is_without_term terms) (within (chain_width a name) narrow)
           (not_either (length terms == 0) (list_any (λ (steps : List CertStep). length steps == 0) terms) (nonempty lists chain) (none_empty a lists some))),
       (
-        no_term_flaw a table (kind_of name).places 0 lists steps,
+        no_term_flaw fine a table (kind_of name).places 0 lists steps,
         (subst (λ ts. links_flaw a (kind_of name) ts ≡ None) (sym is) (no_link_flaw a (kind_of name) (map (written_term (arities_of a)) lists) chain), tt),
       ),
     )

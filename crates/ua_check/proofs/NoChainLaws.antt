@@ -2,7 +2,6 @@
 use Rattle.std.proofs.Common.{◌≡◌, ℕ, ◌+◌, ◌<◌, Bool, true, false, not, ◌&&◌, ◌||◌, Some, None, List, [], ◌∷◌, length, map, get_or, refl, sym, ap, ◌∙◌, subst, arith}
 use Rattle.std.specs.Prelude.{Contains, slice_get, slice_index, ◌==◌, nat_lt, replicate}
 use Rattle.std.specs.List.{AllByRecursion, list_any}
-use Rattle.std.specs.Cmp.Lexicographic.{bytes_decides}
 use Rattle.std.proofs.lemmas.Bool.Decides.{nat_tests}
 use Rattle.std.proofs.lemmas.List.{length-map, length-replicate}
 use Rattle.std.proofs.lemmas.List.FromFn.{length-map-range_with_len}
@@ -23,16 +22,17 @@ use Rattle.ua_identity.specs.Patterns.{fillings, all_fillings, vector_of, place_
 use Rattle.ua_identity.proofs.PatternLaws.{maps_agree, part_is, parts_from_linked, part_from_satisfied}
 use Rattle.ua_cert.specs.declared.certs.ChainName.{ChainName}
 use Rattle.ua_cert.specs.declared.certs.ChainName.TheVariants.{Jonsson, Hm}
-use Rattle.ua_check.specs.declared.flaws.ListName.TheVariants.{Rows}
-use Rattle.ua_check.specs.declared.flaws.Flaw.TheVariants as flaw
-use Rattle.ua_check.specs.Firsts.{first_bad, is_same}
-use Rattle.ua_check.specs.Flaws.{vectors_flaw, closed_flaw}
+use Rattle.ua_flaws.specs.declared.flaws.ListName.TheVariants.{Rows}
+use Rattle.ua_flaws.specs.declared.flaws.Flaw.TheVariants as flaw
+use Rattle.ua_flaws.specs.Firsts.{first_bad, is_same}
+use Rattle.ua_flaws.specs.Flaws.{vectors_flaw, closed_flaw}
+use Rattle.ua_flaws.specs.Laws.{RowsHoldAll}
 use Rattle.ua_check.specs.Chains.{kind_of, chain_width, HasNoChain}
 use Rattle.ua_check.specs.Reached.{even_parts, odd_parts, leads, is_own_row, holds_position, is_led_to, is_started, is_followed, is_not_end, places_of, place_of, row_flaw, reached_lines, reached_flaw, odd_positions, no_chain_lines, no_chain_flaw}
-use Rattle.ua_check.proofs.FirstLaws.{both, not_true, option_none, none_of, each_good}
-use Rattle.ua_check.proofs.SoundLaws.{closed_holds}
+use Rattle.ua_flaws.proofs.FirstLaws.{both, not_true, option_none, none_of, each_good}
+use Rattle.ua_flaws.proofs.PassLaws.{is_same_vector}
+use Rattle.ua_flaws.proofs.Powers.{arities_power}
 use Rattle.ua_check.proofs.ReachedLaws.{some_wide}
-use Rattle.ua_check.proofs.StepLaws.{arities_power}
 
 -- ---- the patterns of the chains
 
@@ -70,9 +70,6 @@ filling_is n name xs c =
 
 -- ---- tests
 
-same_true : (v w : Vector) → v ≡ w → is_same v w ≡ true
-same_true v w e = (bytes_decides v w).1 e
-
 -- one that stands among the positions leads where it does
 any_at : (f : ℕ → Bool) (ps : List ℕ) (p : ℕ) → holds_position ps p ≡ true → f p ≡ true → list_any f ps ≡ true
 any_at f [] p h e = cc
@@ -106,17 +103,17 @@ module _ (a : FiniteAlgebra) where
 
   pub even_leads : (name : ChainName) (d e : Tree) → AreLinked a (kind_of name).even d e → leads a.size name (even_parts name) (vec name d) (vec name e) ≡ true
   unfolding vec
-  even_leads Jonsson d e h = same_true _ _ (part_is a.size (kind_of Jonsson).patterns 1 xxy (λ xs. eval a xs d) refl ∙ parts_from_linked a (kind_of Jonsson).even d e refl h ∙ sym (part_is a.size (kind_of Jonsson).patterns 1 xxy (λ xs. eval a xs e) refl))
-  even_leads Hm d e h = same_true _ _ (part_is a.size (kind_of Hm).patterns 0 xxy (λ xs. eval a xs d) refl ∙ parts_from_linked a (kind_of Hm).even d e refl h ∙ sym (part_is a.size (kind_of Hm).patterns 1 xyy (λ xs. eval a xs e) refl))
+  even_leads Jonsson d e h = is_same_vector _ _ (part_is a.size (kind_of Jonsson).patterns 1 xxy (λ xs. eval a xs d) refl ∙ parts_from_linked a (kind_of Jonsson).even d e refl h ∙ sym (part_is a.size (kind_of Jonsson).patterns 1 xxy (λ xs. eval a xs e) refl))
+  even_leads Hm d e h = is_same_vector _ _ (part_is a.size (kind_of Hm).patterns 0 xxy (λ xs. eval a xs d) refl ∙ parts_from_linked a (kind_of Hm).even d e refl h ∙ sym (part_is a.size (kind_of Hm).patterns 1 xyy (λ xs. eval a xs e) refl))
 
   pub odd_leads : (name : ChainName) (d e : Tree) → AreLinked a (kind_of name).odd d e → leads a.size name (odd_parts name) (vec name d) (vec name e) ≡ true
   unfolding vec
-  odd_leads Jonsson d e h = same_true _ _ (part_is a.size (kind_of Jonsson).patterns 2 xyy (λ xs. eval a xs d) refl ∙ parts_from_linked a (kind_of Jonsson).odd d e refl h ∙ sym (part_is a.size (kind_of Jonsson).patterns 2 xyy (λ xs. eval a xs e) refl))
-  odd_leads Hm d e h = same_true _ _ (part_is a.size (kind_of Hm).patterns 0 xxy (λ xs. eval a xs d) refl ∙ parts_from_linked a (kind_of Hm).odd d e refl h ∙ sym (part_is a.size (kind_of Hm).patterns 1 xyy (λ xs. eval a xs e) refl))
+  odd_leads Jonsson d e h = is_same_vector _ _ (part_is a.size (kind_of Jonsson).patterns 2 xyy (λ xs. eval a xs d) refl ∙ parts_from_linked a (kind_of Jonsson).odd d e refl h ∙ sym (part_is a.size (kind_of Jonsson).patterns 2 xyy (λ xs. eval a xs e) refl))
+  odd_leads Hm d e h = is_same_vector _ _ (part_is a.size (kind_of Hm).patterns 0 xxy (λ xs. eval a xs d) refl ∙ parts_from_linked a (kind_of Hm).odd d e refl h ∙ sym (part_is a.size (kind_of Hm).patterns 1 xyy (λ xs. eval a xs e) refl))
 
   own_row : (name : ChainName) (t : Tree) → IsOwn a (kind_of name) t → is_own_row a.size name (vec name t) ≡ true
   unfolding vec
-  own_row Jonsson t h = same_true _ _ (part_is a.size (kind_of Jonsson).patterns 0 xyx (λ xs. eval a xs t) refl ∙ part_from_satisfied a (record { pattern = xyx; value = 0 }) t h.0)
+  own_row Jonsson t h = is_same_vector _ _ (part_is a.size (kind_of Jonsson).patterns 0 xyx (λ xs. eval a xs t) refl ∙ part_from_satisfied a (record { pattern = xyx; value = 0 }) t h.0)
   own_row Hm t h = refl
 
   place_is : (name : ChainName) (j : ℕ) (t : Tree) → IsPlace a 3 j t → vec name t ≡ place_vector (all_fillings a.size (kind_of name).patterns) j
@@ -148,7 +145,7 @@ record IsGood (a : FiniteAlgebra) (name : ChainName) (t : Tree) : Type 0 where
 abbrev pub VectorLaw : Type 0
 VectorLaw = (a : FiniteAlgebra) (ps : List VariablePattern) (places : ℕ) (t : Tree) → AllByRecursion (λ (p : VariablePattern). length p.places ≡ places) ps → IsTerm (arities_of a) places t → term_value (power a ps) (generators a ps places) t ≡ vector_of a ps t
 
-module _ (a : FiniteAlgebra) (name : ChainName) (rows : List Vector) (even odd : List ℕ) (law : VectorLaw) (some : 0 < length (all_fillings a.size (kind_of name).patterns)) (closed : closed_flaw a (chain_width a name) (places_of a name) rows ≡ None) (reached : reached_flaw a name rows even odd ≡ None) where
+module _ (a : FiniteAlgebra) (name : ChainName) (rows : List Vector) (even odd : List ℕ) (law : VectorLaw) (hold : RowsHoldAll) (some : 0 < length (all_fillings a.size (kind_of name).patterns)) (closed : closed_flaw a (chain_width a name) (places_of a name) rows ≡ None) (reached : reached_flaw a name rows even odd ≡ None) where
   wide : ℕ
   wide = length (all_fillings a.size (kind_of name).patterns)
 
@@ -168,7 +165,7 @@ module _ (a : FiniteAlgebra) (name : ChainName) (rows : List Vector) (even odd :
         is_term = subst (λ ks. IsTerm ks (length gens) t) (sym (arities_power a wide some)) (subst (λ n. IsTerm (arities_of a) n t) count h);
         value = law a ps (kind_of name).places t (subst (λ n. AllByRecursion (λ (p : VariablePattern). length p.places ≡ n) ps) (sym (three name)) (three_long name)) h;
       } in
-      let there = closed_holds a (chain_width a name) gens rows closed (vector_of a ps t) (subst (λ n. Sg (replicate n a) gens (vector_of a ps t)) (sym (length-replicate wide a)) member) in
+      let there = hold a (chain_width a name) gens rows closed (vector_of a ps t) (subst (λ n. Sg (replicate n a) gens (vector_of a ps t)) (sym (length-replicate wide a)) member) in
       let at = found rows there.0 there.1 in
       let same : at.0 ≡ vector_of a ps t = sym (get_or-slice_get rows there.0 at.0 (vector_of a ps t) at.1) ∙ there.2 in
       record { place = there.0; stands = at.1 ∙ ap (λ v. Some v) same }
@@ -186,7 +183,7 @@ module _ (a : FiniteAlgebra) (name : ChainName) (rows : List Vector) (even odd :
   begins t good h =
       let r = row_of t good.is_term in
       let test = row_fine (is_started (place_of a name 0) even) rows tests.0 r.place (vec a name t) r.stands in
-      record { place = r.place; stands = r.stands; held = after_not (is_same (vec a name t) (place_of a name 0)) (holds_position even r.place) test (same_true (vec a name t) (place_of a name 0) (start_is a name t h)) }
+      record { place = r.place; stands = r.stands; held = after_not (is_same (vec a name t) (place_of a name 0)) (holds_position even r.place) test (is_same_vector (vec a name t) (place_of a name 0) (start_is a name t h)) }
 
   led : (link : ℕ × ℕ) (ps : List ℕ) (d e : Tree) → Stands ps d → leads a.size name link (vec a name d) (vec a name e) ≡ true → is_led_to a.size name link rows ps (vec a name e) ≡ true
   led link ps d e s h = any_at (λ p. leads a.size name link (get_or rows p []) (vec a name e)) ps s.place s.held (ap (λ v. leads a.size name link v (vec a name e)) (get_or-slice_get rows s.place (vec a name d) [] s.stands) ∙ h)
@@ -224,7 +221,7 @@ module _ (a : FiniteAlgebra) (name : ChainName) (rows : List Vector) (even odd :
       let end = place_of a name (kind_of name).end in
       let v = vec a name t in
       let test = row_fine (is_not_end end even odd) rows tests.1.1.0 i v at in
-      let sides = both (not (holds_position even i)) (not (holds_position odd i)) (after_not (is_same v end) (not (holds_position even i) && not (holds_position odd i)) test (same_true v end (end_is a name t h))) in
+      let sides = both (not (holds_position even i)) (not (holds_position odd i)) (after_not (is_same v end) (not (holds_position even i) && not (holds_position odd i)) test (is_same_vector v end (end_is a name t h))) in
       record { even_not = not_true (holds_position even i) sides.0; odd_not = not_true (holds_position odd i) sides.1 }
 
   goods : (ts : List Tree) → AllByRecursion (IsTerm (arities_of a) (kind_of name).places) ts → AllByRecursion (IsOwn a (kind_of name)) ts → AllByRecursion (IsGood a name) ts
@@ -240,8 +237,8 @@ module _ (a : FiniteAlgebra) (name : ChainName) (rows : List Vector) (even odd :
       (λ u s h. (let n = (no_end s.place u s.stands h).odd_not in let k = s.held in cc))
       t ts (begins t all.0 chain.beginning.first) all.1 chain.beginning.linked chain.last
 
-pub no_chain_holds : (a : FiniteAlgebra) (name : ChainName) (rows : List Vector) (even odd : List ℕ) → VectorLaw → 0 < a.size → no_chain_flaw a name rows even odd ≡ None → HasNoChain a name
-no_chain_holds a name rows even odd law some none =
+pub no_chain_holds : (a : FiniteAlgebra) (name : ChainName) (rows : List Vector) (even odd : List ℕ) → VectorLaw → RowsHoldAll → 0 < a.size → no_chain_flaw a name rows even odd ≡ None → HasNoChain a name
+no_chain_holds a name rows even odd law hold some none =
     let l = none_of (no_chain_lines a name rows even odd) none in
     let r = none_of (refusal_if (nat_lt WIDTH (chain_width a name)) flaw.Width ∷ vectors_flaw a.size (chain_width a name) Rows rows ∷ closed_flaw a (chain_width a name) (places_of a name) rows ∷ []) l.0 in
-    no_chain a name rows even (odd_positions name even odd) law (some_wide a.size name some) r.1.1.0 l.1.1.0
+    no_chain a name rows even (odd_positions name even odd) law hold (some_wide a.size name some) r.1.1.0 l.1.1.0

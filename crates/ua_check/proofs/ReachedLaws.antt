@@ -15,11 +15,11 @@ use Rattle.ua_identity.specs.Patterns.{fillings, all_fillings, start_of}
 use Rattle.ua_identity.proofs.FillingLaws.{length_fillings, width_more, start_narrow}
 use Rattle.ua_cert.specs.declared.certs.ChainName.{ChainName}
 use Rattle.ua_cert.specs.declared.certs.ChainName.TheVariants.{Jonsson, Hm}
-use Rattle.ua_check.specs.declared.flaws.Flaw.TheVariants as flaw
-use Rattle.ua_check.specs.Firsts.{first_bad}
+use Rattle.ua_flaws.specs.declared.flaws.Flaw.TheVariants as flaw
+use Rattle.ua_flaws.specs.Firsts.{first_bad}
 use Rattle.ua_check.specs.Chains.{kind_of}
 use Rattle.ua_check.specs.Reached.{pattern_at, part, holds_position, odd_positions, places_of, place_of, row_flaw, sides_flaw, reached_lines, reached_flaw}
-use Rattle.ua_check.proofs.FirstLaws.{alone, skipped, bad_here, bad_later}
+use Rattle.ua_flaws.proofs.FirstLaws.{alone, skipped, bad_here, bad_later}
 
 -- ---- row by row
 

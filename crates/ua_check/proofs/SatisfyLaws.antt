@@ -13,10 +13,10 @@ use Rattle.ua_term.specs.Assignments.{assignments}
 use Rattle.ua_term.proofs.AssignmentLaws.{assignment_in}
 use Rattle.ua_identity.specs.Identities.{TermIdentity, at_pattern, Satisfies}
 use Rattle.ua_identity.specs.Chains.{Link, AreLinked, IsPlace}
-use Rattle.ua_check.specs.declared.flaws.Flaw.TheVariants as flaw
+use Rattle.ua_flaws.specs.declared.flaws.Flaw.TheVariants as flaw
 use Rattle.ua_check.specs.Conditions.{fails, identity_failure, failure_flaw}
 use Rattle.ua_check.specs.Chains.{place_identity, satisfies, satisfies_all, is_unlinked, are_linked}
-use Rattle.ua_check.proofs.FirstLaws.{both, not_false, option_none, first_none, find_none}
+use Rattle.ua_flaws.proofs.FirstLaws.{both, not_false, option_none, first_none, find_none}
 
 equal : (m n : ℕ) → (m == n) ≡ true → m ≡ n
 equal m n e = grind (arith, nat_tests)

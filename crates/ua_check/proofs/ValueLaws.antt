@@ -13,7 +13,7 @@ use Rattle.ua_table.specs.Origins.{IsOrigin}
 use Rattle.ua_term.specs.Steps.{AreSteps, terms_at, term_after, terms_from, unfolded}
 use Rattle.ua_term.proofs.StepLaws.{step_at, take_push, length_taken, all_more}
 use Rattle.ua_term.proofs.TreeLemmas.{operation_facts}
-use Rattle.ua_check.specs.Steps.{written_term}
+use Rattle.ua_flaws.specs.Steps.{written_term}
 use Rattle.ua_check.specs.Equations.{element_of}
 
 -- ---- the terms of steps, one more

@@ -16,11 +16,11 @@ use Rattle.ua_identity.specs.Patterns.{power}
 use Rattle.ua_cert.specs.declared.certs.CertStep.{CertStep}
 use Rattle.ua_cert.specs.declared.certs.ChainName.{ChainName}
 use Rattle.ua_cert.specs.declared.certs.ChainName.TheVariants.{Jonsson, Hm}
-use Rattle.ua_check.specs.declared.flaws.Flaw.{Flaw}
-use Rattle.ua_check.specs.declared.flaws.Flaw.TheVariants as flaw
-use Rattle.ua_check.specs.Firsts.{first_bad}
-use Rattle.ua_check.specs.Steps.{last_term}
-use Rattle.ua_check.specs.Flaws.{steps_flaw}
+use Rattle.ua_flaws.specs.declared.flaws.Flaw.{Flaw}
+use Rattle.ua_flaws.specs.declared.flaws.Flaw.TheVariants as flaw
+use Rattle.ua_flaws.specs.Firsts.{first_bad}
+use Rattle.ua_flaws.specs.Steps.{last_term}
+use Rattle.ua_flaws.specs.Flaws.{steps_flaw}
 use Rattle.ua_check.specs.Conditions.{identity_failure}
 
 -- the kind of chain of this name

@@ -3,9 +3,9 @@ use Rattle.std.specs.Prelude.{Option}
 use Rattle.ua_table.specs.Algebras.{FiniteAlgebra}
 use Rattle.ua_cert.specs.declared.certs.Cert.{Cert}
 use Rattle.ua_cert.specs.declared.certs.Cert.TheVariants.{Member, NotMember, Listing, Condition, NoCondition, Chain, NoChain}
-use Rattle.ua_check.specs.declared.flaws.Flaw.{Flaw}
-use Rattle.ua_check.specs.Flaws.{member_flaw, not_member_flaw, listing_flaw}
-use Rattle.ua_check.specs.Properties.{WritesMember, IsNoMember, ListsAll}
+use Rattle.ua_flaws.specs.declared.flaws.Flaw.{Flaw}
+use Rattle.ua_flaws.specs.Flaws.{member_flaw, not_member_flaw, listing_flaw}
+use Rattle.ua_flaws.specs.Properties.{WritesMember, IsNoMember, ListsAll}
 use Rattle.ua_check.specs.Conditions.{condition_flaw, no_condition_flaw, WritesTerm, HasNoTerm}
 use Rattle.ua_check.specs.Chains.{chain_flaw, WritesChain, HasNoChain}
 use Rattle.ua_check.specs.Reached.{no_chain_flaw}

@@ -15,11 +15,11 @@ use Rattle.ua_identity.specs.Patterns.{condition_power, argument_vectors, value_
 use Rattle.ua_cert.specs.declared.certs.CertStep.{CertStep}
 use Rattle.ua_cert.specs.declared.certs.CondName.{CondName}
 use Rattle.ua_cert.specs.declared.certs.CondName.TheVariants.{Maltsev, Majority, Minority, Pixley, Nu}
-use Rattle.ua_check.specs.declared.flaws.ListName.TheVariants.{Rows}
-use Rattle.ua_check.specs.declared.flaws.Flaw.{Flaw}
-use Rattle.ua_check.specs.declared.flaws.Flaw.TheVariants as flaw
-use Rattle.ua_check.specs.Steps.{origins_of, last_term}
-use Rattle.ua_check.specs.Flaws.{vectors_flaw, steps_flaw, outside_lines}
+use Rattle.ua_flaws.specs.declared.flaws.ListName.TheVariants.{Rows}
+use Rattle.ua_flaws.specs.declared.flaws.Flaw.{Flaw}
+use Rattle.ua_flaws.specs.declared.flaws.Flaw.TheVariants as flaw
+use Rattle.ua_flaws.specs.Steps.{origins_of, last_term}
+use Rattle.ua_flaws.specs.Flaws.{vectors_flaw, steps_flaw, outside_lines}
 
 -- the condition of this name on terms of k places
 abbrev pub condition_of : CondName → ℕ → TermCondition

@@ -7,7 +7,7 @@ use Rattle.ua_table.specs.Algebras.{FiniteAlgebra, arities_of, value_at}
 use Rattle.ua_table.specs.Terms.{eval}
 use Rattle.ua_term.specs.Steps.{AreSteps}
 use Rattle.ua_check.specs.declared.equations.Side.{Side}
-use Rattle.ua_check.specs.Steps.{written_term}
+use Rattle.ua_flaws.specs.Steps.{written_term}
 
 -- the element that an origin gives, by those of the generators and of the steps before it
 abbrev pub element_of : FiniteAlgebra → List ℕ → List ℕ → Origin → ℕ

@@ -1,9 +1,3 @@
-pub mod Firsts
-pub mod Steps
-pub mod Shapes
-pub mod Closing
-pub mod Flaws
-pub mod Properties
 pub mod Equations
 pub mod Conditions
 pub mod Chains

@@ -10,11 +10,11 @@ use Rattle.ua_identity.specs.Identities.{VariablePattern, xxy}
 use Rattle.ua_identity.specs.Patterns.{generators, part_of}
 use Rattle.ua_cert.specs.declared.certs.ChainName.{ChainName}
 use Rattle.ua_cert.specs.declared.certs.ChainName.TheVariants.{Jonsson, Hm}
-use Rattle.ua_check.specs.declared.flaws.ListName.TheVariants.{Rows}
-use Rattle.ua_check.specs.declared.flaws.Flaw.{Flaw}
-use Rattle.ua_check.specs.declared.flaws.Flaw.TheVariants as flaw
-use Rattle.ua_check.specs.Firsts.{first_bad, is_same}
-use Rattle.ua_check.specs.Flaws.{vectors_flaw, closed_flaw}
+use Rattle.ua_flaws.specs.declared.flaws.ListName.TheVariants.{Rows}
+use Rattle.ua_flaws.specs.declared.flaws.Flaw.{Flaw}
+use Rattle.ua_flaws.specs.declared.flaws.Flaw.TheVariants as flaw
+use Rattle.ua_flaws.specs.Firsts.{first_bad, is_same}
+use Rattle.ua_flaws.specs.Flaws.{vectors_flaw, closed_flaw}
 use Rattle.ua_check.specs.Chains.{kind_of, chain_width}
 
 -- ---- rows by their parts

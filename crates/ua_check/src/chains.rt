@@ -5,16 +5,17 @@ ghost use Rattle.std.specs.List.{AllByRecursion, list_any};
 ghost use Rattle.ua_table.specs.Algebras.{arities_of};
 ghost use Rattle.ua_term.specs.Steps.{AreSteps};
 ghost use Rattle.ua_cert.specs.declared.certs.CertStep.{CertStep};
-ghost use Rattle.ua_check.specs.Steps.{written_term, origins_of};
-ghost use Rattle.ua_check.specs.Flaws.{Tells};
+ghost use Rattle.ua_flaws.specs.Steps.{written_term, origins_of};
+ghost use Rattle.ua_flaws.specs.Flaws.{Tells};
 ghost use Rattle.ua_check.specs.Chains as chains;
 
 use crate::equations::{Side, first_failure, identity_failure};
-use crate::flaws::{CheckError, Flaw};
 use crate::patterns::{XXY, XYX, XYY, XYZ, patterns};
-use crate::steps::read_steps;
 use std::alloc::{AllocError, Global};
 use ua_cert::{CertStep, ChainName};
+use ua_flaws::laws::written;
+use ua_flaws::steps::read_steps;
+use ua_flaws::{CheckError, Flaw};
 use ua_identity::width_of;
 use ua_table::limits::WIDTH;
 use ua_table::{Algebra, Elem, Listed, Origin};
@@ -204,6 +205,7 @@ fn chain_flaws(
     requires each { AllByRecursion (λ (steps : List CertStep). length steps < 2 ^ 32) terms.now }
     ensures { Tells (chains.chain_flaw a.now name terms.now) result }
 {
+    written();
     let patterns = patterns(alloc, name)?;
     if width_of(a.size(), patterns.as_slice()) > u128::from(WIDTH) || is_without_term(terms) {
         return Err(CheckError::Flaw(Flaw::Width));
@@ -225,5 +227,6 @@ pub(crate) fn chain(
     ensures told { Tells (chains.chain_flaw a.now name terms.now) result }
     ensures holds { IsOk result → chains.WritesChain a.now name terms.now }
 {
+    written();
     chain_flaws(alloc, a, name, terms)
 }

@@ -2,17 +2,17 @@
 
 ghost use Rattle.std.specs.Prelude.{IsOk};
 ghost use Rattle.ua_cert.specs.Lengths.{HasShortLists};
-ghost use Rattle.ua_check.specs.Flaws.{Tells};
+ghost use Rattle.ua_flaws.specs.Flaws.{Tells};
 ghost use Rattle.ua_check.specs.Checking.{Holds, flaw_of};
 
 use crate::chains::chain;
 use crate::conditions::{condition, no_condition};
-use crate::flaws::CheckError;
-use crate::listings::listing;
-use crate::members::{member, not_member};
 use crate::no_chains::no_chain;
 use std::alloc::Global;
 use ua_cert::Cert;
+use ua_flaws::CheckError;
+use ua_flaws::listings::listing;
+use ua_flaws::members::{member, not_member};
 use ua_table::Algebra;
 
 /// Checks a certificate by itself, without any search: Ok exactly where it has no flaw, and then what it says

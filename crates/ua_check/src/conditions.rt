@@ -9,19 +9,20 @@ ghost use Rattle.ua_term.specs.Steps.{AreSteps};
 ghost use Rattle.ua_identity.specs.Identities.{TermIdentity};
 ghost use Rattle.ua_identity.specs.Conditions.{IsCondition};
 ghost use Rattle.ua_identity.specs.Patterns.{condition_power};
-ghost use Rattle.ua_check.specs.declared.flaws.Flaw.TheVariants as flaw;
-ghost use Rattle.ua_check.specs.Steps.{written_term};
-ghost use Rattle.ua_check.specs.Flaws.{Tells};
+ghost use Rattle.ua_flaws.specs.declared.flaws.Flaw.TheVariants as flaw;
+ghost use Rattle.ua_flaws.specs.Steps.{written_term};
+ghost use Rattle.ua_flaws.specs.Flaws.{Tells};
 ghost use Rattle.ua_check.specs.Conditions as conditions;
 
 use crate::equations::identity_failure;
-use crate::flaws::{CheckError, Flaw, ListName};
-use crate::frames::frame_of;
-use crate::outside::outside;
-use crate::steps::read_steps;
-use crate::vectors::vectors;
 use std::alloc::{AllocError, Global};
 use ua_cert::{CertStep, CondName};
+use ua_flaws::frames::frame_of;
+use ua_flaws::laws::{generated, written};
+use ua_flaws::outside::outside;
+use ua_flaws::steps::read_steps;
+use ua_flaws::vectors::vectors;
+use ua_flaws::{CheckError, Flaw, ListName};
 use ua_identity::limits::PLACES;
 use ua_identity::{Condition, laws};
 use ua_table::limits::WIDTH;
@@ -113,6 +114,7 @@ fn condition_flaws(
     requires { length steps.now < 2 ^ 32 }
     ensures { Tells (conditions.condition_flaw a.now name k steps.now) result }
 {
+    written();
     let condition = condition_of(alloc, a, name, k)?;
     if steps.is_empty() {
         return Err(CheckError::Flaw(Flaw::Width));
@@ -134,6 +136,7 @@ pub(crate) fn condition(
     ensures told { Tells (conditions.condition_flaw a.now name k steps.now) result }
     ensures holds { IsOk result → conditions.WritesTerm a.now name k steps.now }
 {
+    written();
     condition_flaws(alloc, a, name, k, steps)
 }
 
@@ -173,6 +176,7 @@ pub(crate) fn no_condition(
     ensures told { Tells (conditions.no_condition_flaw a.now name k rows.now) result }
     ensures holds { IsOk result → conditions.HasNoTerm a.now name k }
 {
+    generated();
     laws::conditions();
     // What this call ensures is that the algebra has an element.
     let _size = a.size();

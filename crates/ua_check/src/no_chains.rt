@@ -6,20 +6,21 @@ ghost use Rattle.ua_table.specs.declared.limits.TheConstants.{SIZE, WIDTH};
 ghost use Rattle.ua_table.specs.Refusals.{first_refusal};
 ghost use Rattle.ua_term.specs.Assignments.{projection};
 ghost use Rattle.ua_identity.specs.Patterns.{all_fillings};
-ghost use Rattle.ua_check.specs.Flaws.{Tells};
+ghost use Rattle.ua_flaws.specs.Flaws.{Tells};
 ghost use Rattle.ua_check.specs.Chains.{kind_of, chain_width, HasNoChain};
 ghost use Rattle.ua_check.specs.Reached as reached;
 ghost use Rattle.ua_check.specs.ChartsOf.{IsChartOf};
 
 use crate::charts::Chart;
-use crate::flaws::{CheckError, Flaw, ListName};
-use crate::outside::closed_rows;
 use crate::patterns::patterns;
 use crate::positions::Positions;
 use crate::reached::{ended, followed, marks, odd_positions, parity, positions, started};
-use crate::vectors::vectors;
 use std::alloc::{AllocError, Global};
 use ua_cert::ChainName;
+use ua_flaws::laws::generated;
+use ua_flaws::outside::closed_rows;
+use ua_flaws::vectors::vectors;
+use ua_flaws::{CheckError, Flaw, ListName};
 use ua_identity::{Pattern, append_values, laws, place_vectors, width_of};
 use ua_rows::Rows;
 use ua_table::limits::WIDTH;
@@ -182,6 +183,7 @@ pub(crate) fn no_chain(
     ensures told { Tells (reached.no_chain_flaw a.now name rows.now even.now odd.now) result }
     ensures holds { IsOk result → HasNoChain a.now name }
 {
+    generated();
     laws::patterns();
     // What this call ensures is that the algebra has an element.
     let _size = a.size();

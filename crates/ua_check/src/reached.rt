@@ -7,10 +7,10 @@ ghost use Rattle.ua_check.specs.Reached as reached;
 ghost use Rattle.ua_check.specs.ChartsOf.{IsChartOf, AreMarks, row_at};
 
 use crate::charts::{Chart, is_led_to, is_own};
-use crate::flaws::Flaw;
 use crate::positions::Positions;
 use std::alloc::{AllocError, Global};
 use ua_cert::ChainName;
+use ua_flaws::Flaw;
 use ua_rows::Rows;
 use ua_table::Elem;
 

@@ -2,7 +2,7 @@ use Rattle.std.proofs.Common.{◌≡◌, Ok, List, map, ap, ◌∙◌, subst}
 use Rattle.ua_chain.specs.declared.chains.Chain.TheVariants as chains
 use Rattle.ua_chain.specs.Permitted.{MayChain}
 use Rattle.ua_term.specs.Steps.{StepList}
-use Rattle.ua_check.specs.Steps.{written_steps}
+use Rattle.ua_flaws.specs.Steps.{written_steps}
 use Rattle.ua_check.specs.Chains.{kind_of, chain_flaw}
 use Rattle.ua_check.specs.Reached.{no_chain_flaw}
 use Rattle.ua_certify.proofs.Flawless.{AreStepLists, chain_flawless, no_chain_flawless}

@@ -1,7 +1,7 @@
 use Rattle.std.proofs.Common.{◌≡◌, Ok, ap, ◌∙◌, subst}
 use Rattle.ua_close.specs.declared.memberships.Answer.TheVariants as answers
 use Rattle.ua_cond.specs.Permitted.{MayDecide}
-use Rattle.ua_check.specs.Steps.{written_steps}
+use Rattle.ua_flaws.specs.Steps.{written_steps}
 use Rattle.ua_check.specs.Conditions.{condition_of, condition_flaw, no_condition_flaw}
 use Rattle.ua_certify.proofs.Flawless.{NamedConditions, term_flawless, no_term_flawless}
 use Rattle.ua_certify.proofs.answers.certify_condition.Goals as goal

@@ -1,7 +1,7 @@
 use Rattle.std.proofs.Common.{◌∷◌, ◌++◌, [], Some, ap, ◌∙◌, sym}
 use Rattle.ua_table.specs.Listings.{Row}
 use Rattle.ua_table.proofs.Lists.{mapped_at, mapped_from}
-use Rattle.ua_check.specs.Steps.{written_step, row_steps}
+use Rattle.ua_flaws.specs.Steps.{written_step, row_steps}
 use Rattle.ua_certify.proofs.Loops.{taken_more}
 use Rattle.ua_certify.proofs.parts.row_steps.Goals as goal
 

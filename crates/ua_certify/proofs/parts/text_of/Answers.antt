@@ -1,4 +1,4 @@
-use Rattle.std.proofs.Common.{ℕ, List, subst, sym}
+use Rattle.std.proofs.Common.{subst, sym}
 use Rattle.std.specs.Str.{IsUtf8}
 use Rattle.ua_certify.proofs.Words.{name_utf8}
 use Rattle.ua_certify.proofs.parts.text_of.Goals as goal

@@ -1,5 +1,5 @@
 use Rattle.std.proofs.Common.{◌≡◌, map, take}
-use Rattle.ua_check.specs.Steps.{written_step}
+use Rattle.ua_flaws.specs.Steps.{written_step}
 use Rattle.ua_certify.proofs.parts.written_steps.Given as goal
 
 abbrev pub invariant-loop-origin : goal.invariant-loop-origin

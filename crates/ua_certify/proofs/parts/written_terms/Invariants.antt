@@ -1,7 +1,7 @@
 use Rattle.std.proofs.Common.{◌≡◌, map, take}
 use Rattle.std.specs.List.{AllByRecursion}
 use Rattle.ua_term.specs.Steps.{AreSteps}
-use Rattle.ua_check.specs.Steps.{written_steps}
+use Rattle.ua_flaws.specs.Steps.{written_steps}
 use Rattle.ua_certify.proofs.parts.written_terms.Given as goal
 
 -- the terms so far are written, and their steps are steps

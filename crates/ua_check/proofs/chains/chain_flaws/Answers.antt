@@ -1,6 +1,6 @@
 use Rattle.std.proofs.Common.{◌≡◌, ◌||◌, List, length, sym, ap, ◌∙◌, subst, arith}
 use Rattle.std.specs.List.{AllByRecursion}
-use Rattle.ua_check.specs.Flaws.{Tells}
+use Rattle.ua_flaws.specs.Flaws.{Tells}
 use Rattle.ua_identity.specs.Identities.{VariablePattern}
 use Rattle.ua_identity.specs.Patterns.{all_fillings}
 use Rattle.ua_check.specs.Chains.{kind_of, is_without_term, AreTermSteps}
@@ -13,7 +13,7 @@ links-requires-clause-terms c =
     let room : length c.as_mut_slice.result.now ≡ c.most_steps.result = c.as_mut_slice.ensures.len ∙ c.in_ok-values.ensures.len in
     subst (λ n. AllByRecursion (AreTermSteps c.args.a.now n) c.as_slice-2.result.now) (sym room)
     (subst (AllByRecursion (AreTermSteps c.args.a.now c.most_steps.result)) (sym (c.as_slice-2.ensures.value ∙ c.in_ok-list.ensures.read))
-    (are_term_steps c.args.a.now c.most_steps.result c.args.terms.now without c.most_steps.ensures c.in_ok-list.ensures.told))
+    (are_term_steps c.written.ensures.steps c.args.a.now c.most_steps.result c.args.terms.now without c.most_steps.ensures c.in_ok-list.ensures.told))
 
 pub returns : goal.returns
 returns c =

@@ -3,10 +3,10 @@ use Rattle.std.specs.Option.{option_map}
 use Rattle.std.proofs.lemmas.List.{length-map, get_or-map}
 use Rattle.ua_table.specs.Algebras.{arities_of}
 use Rattle.ua_table.specs.Terms.{Generator}
-use Rattle.ua_check.specs.declared.flaws.Flaw.TheVariants as flaw
-use Rattle.ua_check.specs.Steps.{written_term}
+use Rattle.ua_flaws.specs.declared.flaws.Flaw.TheVariants as flaw
+use Rattle.ua_flaws.specs.Steps.{written_term}
 use Rattle.ua_check.specs.Chains.{kind_of, is_in_chain}
-use Rattle.ua_check.proofs.FirstLaws.{bad_here, bad_later}
+use Rattle.ua_flaws.proofs.FirstLaws.{bad_here, bad_later}
 use Rattle.ua_check.proofs.chains.links.Goals as goal
 
 pub returns-then-not-is_in_chain : goal.returns-then-not-is_in_chain

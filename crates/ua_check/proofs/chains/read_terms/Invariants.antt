@@ -1,7 +1,7 @@
 use Rattle.std.proofs.Common.{◌≡◌, take, drop, map}
 use Rattle.std.specs.List.{enumerate_from}
 use Rattle.ua_table.specs.Refusals.{first_refusal}
-use Rattle.ua_check.specs.Steps.{origins_of}
+use Rattle.ua_flaws.specs.Steps.{origins_of}
 use Rattle.ua_check.specs.Chains.{terms_flaw, term_flaw}
 use Rattle.ua_check.proofs.chains.read_terms.Given as goal
 

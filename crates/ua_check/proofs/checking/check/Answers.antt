@@ -1,5 +1,5 @@
 use Rattle.std.proofs.Common.{sym, ap, ◌∙◌, subst}
-use Rattle.ua_check.specs.Flaws.{Tells, not_member_flaw, listing_flaw}
+use Rattle.ua_flaws.specs.Flaws.{Tells, not_member_flaw, listing_flaw}
 use Rattle.ua_check.specs.Conditions.{condition_flaw, no_condition_flaw, WritesTerm}
 use Rattle.ua_check.specs.Reached.{no_chain_flaw}
 use Rattle.ua_check.specs.Checking.{flaw_of, Holds}

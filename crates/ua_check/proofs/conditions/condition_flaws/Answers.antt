@@ -4,9 +4,8 @@ use Rattle.ua_table.specs.Algebras.{arities_of}
 use Rattle.ua_term.specs.Steps.{AreSteps}
 use Rattle.ua_identity.specs.Identities.{TermIdentity}
 use Rattle.ua_identity.specs.Conditions.{TermCondition}
-use Rattle.ua_check.specs.Flaws.{Tells}
+use Rattle.ua_flaws.specs.Flaws.{Tells}
 use Rattle.ua_check.proofs.ConditionLaws.{arity_is, places_fit, few_identities, over_x_y, condition_told}
-use Rattle.ua_check.proofs.SoundLaws.{steps_written}
 use Rattle.ua_check.proofs.conditions.condition_flaws.Goals as goal
 
 pub identities-requires-clause-steps : goal.identities-requires-clause-steps
@@ -14,7 +13,7 @@ identities-requires-clause-steps c =
     let fit = places_fit c.args.a.now c.args.name c.args.k c.in_ok-condition.ensures.told in
     let arity : c.in_ok-condition.condition.arity ≡ c.args.k = ap (λ (t : TermCondition). t.arity) c.in_ok-condition.ensures.condition ∙ arity_is c.args.name c.args.k fit in
     subst (λ n. AreSteps (arities_of c.args.a.now) n c.as_slice.result.now) (sym arity)
-    (subst (AreSteps (arities_of c.args.a.now) c.args.k) (sym (c.as_slice.ensures.value ∙ c.in_ok-steps.ensures.read)) (steps_written c.args.a.now c.args.k _ c.args.steps.now c.in_ok-steps.ensures.told))
+    (subst (AreSteps (arities_of c.args.a.now) c.args.k) (sym (c.as_slice.ensures.value ∙ c.in_ok-steps.ensures.read)) (c.written.ensures.steps c.args.a.now c.args.k _ c.args.steps.now c.in_ok-steps.ensures.told))
 
 pub identities-requires-clause-few : goal.identities-requires-clause-few
 identities-requires-clause-few c =

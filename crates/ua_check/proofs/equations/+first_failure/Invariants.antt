@@ -1,7 +1,7 @@
 use Rattle.std.proofs.Common.{◌≡◌, ◌-◌, ◌+◌, length, take}
-use Rattle.ua_check.specs.Firsts.{first_behind}
+use Rattle.ua_flaws.specs.Firsts.{first_behind}
 use Rattle.ua_check.specs.Equations.{differ}
-use Rattle.ua_check.proofs.WalkLaws.{from}
+use Rattle.ua_flaws.proofs.WalkLaws.{from}
 use Rattle.ua_check.proofs.equations.+first_failure.Given as goal
 
 abbrev pub decreases-first_failure : goal.decreases-first_failure

@@ -1,6 +1,6 @@
 use Rattle.std.proofs.Common.{◌<◌, length, refl, sym, subst}
 use Rattle.std.specs.List.{AllByRecursion}
-use Rattle.ua_check.specs.Flaws.{Tells}
+use Rattle.ua_flaws.specs.Flaws.{Tells}
 use Rattle.ua_check.proofs.ReachedLaws.{odd_low, reached_told}
 use Rattle.ua_check.proofs.no_chains.positions_flaws.Goals as goal
 

@@ -1,5 +1,5 @@
 use Rattle.std.proofs.Common.{◌≡◌, drop}
-use Rattle.ua_check.specs.Firsts.{first_bad}
+use Rattle.ua_flaws.specs.Firsts.{first_bad}
 use Rattle.ua_check.specs.Reached.{is_followed}
 use Rattle.ua_check.proofs.reached.followed.Given as goal
 

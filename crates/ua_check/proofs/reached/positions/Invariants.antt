@@ -1,6 +1,6 @@
 use Rattle.std.proofs.Common.{◌≡◌, ◌<◌, take, drop}
 use Rattle.std.specs.List.{AllByRecursion}
-use Rattle.ua_check.specs.Firsts.{first_bad}
+use Rattle.ua_flaws.specs.Firsts.{first_bad}
 use Rattle.ua_check.specs.Reached.{is_position}
 use Rattle.ua_check.proofs.reached.positions.Given as goal
 

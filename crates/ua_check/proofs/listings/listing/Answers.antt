@@ -1,9 +1,0 @@
-use Rattle.ua_check.specs.Flaws.{listing_flaw}
-use Rattle.ua_check.proofs.ShapeLaws.{told_none}
-use Rattle.ua_check.proofs.SoundLaws.{listing_holds}
-use Rattle.ua_check.proofs.listings.listing.Goals as goal
-
-pub returns-clause-holds : goal.returns-clause-holds
-returns-clause-holds c ok =
-    listing_holds c.args.a.now c.args.gens.now c.args.made.now c.args.ranking.now c.args.rows.now c.args.width
-    (told_none (listing_flaw c.args.a.now c.args.gens.now c.args.made.now c.args.ranking.now c.args.rows.now c.args.width) c.listing_flaws.result c.listing_flaws.ensures ok)

@@ -1,7 +1,0 @@
-use Rattle.std.proofs.Common.{◌≡◌, drop}
-use Rattle.ua_check.specs.Firsts.{first_bad}
-use Rattle.ua_check.specs.Flaws.{follows}
-use Rattle.ua_check.proofs.orders.order.Given as goal
-
-abbrev pub invariant-loop-i : goal.invariant-loop-i
-invariant-loop-i l = first_bad (follows l.rows) 0 l.rows ≡ first_bad (follows l.rows) l.i (drop l.i l.rows)

@@ -1,0 +1,14 @@
+pub mod FirstLaws
+pub mod PassLaws
+pub mod Powers
+pub mod ClosingLaws
+pub mod OrderLaws
+pub mod RankLaws
+pub mod StepLaws
+pub mod SoundLaws
+pub mod NameLaws
+pub mod ShapeLaws
+pub mod WalkLaws
+pub mod ResultLaws
+pub mod OriginLaws
+pub mod FlawlessLaws
