@@ -23,10 +23,10 @@ use Rattle.ua_flaws.specs.Shapes.{power}
 use Rattle.ua_check.specs.Conditions.{condition_of, has_places}
 use Rattle.ua_check.specs.Chains.{kind_of}
 use Rattle.ua_certify.specs.Certified.{closure_certificate, member_certificate, condition_certificate, chain_certificate, HasNoFlaw}
-use Rattle.ua_script.specs.declared.script.Number.{Number}
-use Rattle.ua_script.specs.declared.script.Items.{Items}
-use Rattle.ua_script.specs.declared.script.CondWord.{CondWord}
-use Rattle.ua_script.specs.declared.script.CondWord.TheVariants.{Maltsev, Majority, Minority, Pixley}
+use Rattle.ua_operands.specs.declared.written.Number.{Number}
+use Rattle.ua_operands.specs.declared.written.Items.{Items}
+use Rattle.ua_operands.specs.declared.written.CondWord.{CondWord}
+use Rattle.ua_operands.specs.declared.written.CondWord.TheVariants.{Maltsev, Majority, Minority, Pixley}
 use Rattle.ua_text.specs.declared.named.Block.{Block}
 use Rattle.ua_reply.specs.Sessions.{Bounds}
 use Rattle.ua_reply.specs.Checks.{Passes}

@@ -6,7 +6,7 @@ use Rattle.ua_table.specs.Algebras.{FiniteAlgebra}
 use Rattle.ua_prod.specs.declared.errors.ProdError.{ProdError}
 use Rattle.ua_text.specs.declared.tokens.Place.{Place}
 use Rattle.ua_text.specs.declared.named.Block.{Block}
-use Rattle.ua_script.specs.declared.script.Word.{Word}
+use Rattle.ua_operands.specs.declared.written.Word.{Word}
 use Rattle.ua_script.specs.declared.script.MakeForm.{MakeForm}
 use Rattle.ua_reply.specs.Checks.{Checks, checks_in, first_error}
 use Rattle.ua_reply.specs.Refusals.{refusal_text}

@@ -12,7 +12,7 @@ use Rattle.ua_text.proofs.WordLemmas.{same-true}
 use Rattle.ua_text.specs.declared.tokens.Place.{Place}
 use Rattle.ua_text.specs.declared.named.Block.{Block}
 use Rattle.ua_term.specs.Meanings.{operation_number, has_operation, first_place}
-use Rattle.ua_script.specs.declared.script.Word.{Word}
+use Rattle.ua_operands.specs.declared.written.Word.{Word}
 use Rattle.ua_reply.specs.Checks.{unless, Passes}
 use Rattle.ua_answer.specs.MakeCommand.{operation_in, number_of, numbers_of, repeated}
 

@@ -1,8 +1,8 @@
 -- What is said where a closure is refused.
 use Rattle.std.proofs.Common.{◌≡◌, ℕ, List, Some, Err}
 use Rattle.ua_table.specs.Algebras.{Vector, Product}
-use Rattle.ua_script.specs.declared.script.Mode.{Mode}
-use Rattle.ua_script.specs.declared.script.Mode.TheVariants.{Plain, Least, Count}
+use Rattle.ua_operands.specs.declared.written.Mode.{Mode}
+use Rattle.ua_operands.specs.declared.written.Mode.TheVariants.{Plain, Least, Count}
 use Rattle.ua_close.specs.declared.close.CloseError.{CloseError}
 use Rattle.ua_close.specs.Answers.{IsCause}
 use Rattle.ua_text.specs.declared.named.Block.{Block}

@@ -14,11 +14,11 @@ use Rattle.ua_cert.specs.declared.certs.ChainName.TheVariants as chains
 use Rattle.ua_cert.specs.Writing.{written}
 use Rattle.ua_check.specs.Chains.{kind_of}
 use Rattle.ua_certify.specs.Certified.{closure_certificate, member_certificate, condition_certificate, chain_certificate, HasNoFlaw}
-use Rattle.ua_script.specs.declared.script.Word.{Word}
-use Rattle.ua_script.specs.declared.script.Number.{Number}
-use Rattle.ua_script.specs.declared.script.Items.{Items}
-use Rattle.ua_script.specs.declared.script.CondWord.{CondWord}
-use Rattle.ua_script.specs.declared.script.CondWord.TheVariants.{Maltsev, Majority, Minority, Pixley}
+use Rattle.ua_operands.specs.declared.written.Word.{Word}
+use Rattle.ua_operands.specs.declared.written.Number.{Number}
+use Rattle.ua_operands.specs.declared.written.Items.{Items}
+use Rattle.ua_operands.specs.declared.written.CondWord.{CondWord}
+use Rattle.ua_operands.specs.declared.written.CondWord.TheVariants.{Maltsev, Majority, Minority, Pixley}
 use Rattle.ua_script.specs.declared.script.Provable.{Provable}
 use Rattle.ua_script.specs.declared.script.Provable.TheVariants.{Close, Member, Cond, Nu, Jonsson, Hm}
 use Rattle.ua_text.specs.declared.named.Block.{Block}

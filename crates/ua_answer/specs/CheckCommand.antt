@@ -12,7 +12,7 @@ use Rattle.ua_flaws.specs.declared.flaws.ListName.TheVariants.{Gens, Rows, Targe
 use Rattle.ua_flaws.specs.declared.flaws.Flaw.{Flaw}
 use Rattle.ua_flaws.specs.declared.flaws.Flaw.TheVariants as flaws
 use Rattle.ua_check.specs.Checking.{flaw_of}
-use Rattle.ua_script.specs.declared.script.Word.{Word}
+use Rattle.ua_operands.specs.declared.written.Word.{Word}
 use Rattle.ua_text.specs.declared.named.Block.{Block}
 use Rattle.ua_reply.specs.Checks.{passed}
 use Rattle.ua_reply.specs.Replies.{Says, AnsweredOn}

@@ -2,11 +2,11 @@
 use Rattle.std.specs.Prelude.{ℕ, List, Result, Ok}
 use Rattle.ua_table.specs.Algebras.{Vector, Product}
 use Rattle.ua_table.specs.Orders.{IsLeast}
-use Rattle.ua_script.specs.declared.script.Word.{Word}
-use Rattle.ua_script.specs.declared.script.Number.{Number}
-use Rattle.ua_script.specs.declared.script.Items.{Items}
-use Rattle.ua_script.specs.declared.script.Mode.{Mode}
-use Rattle.ua_script.specs.declared.script.Mode.TheVariants.{Plain, Least, Count}
+use Rattle.ua_operands.specs.declared.written.Word.{Word}
+use Rattle.ua_operands.specs.declared.written.Number.{Number}
+use Rattle.ua_operands.specs.declared.written.Items.{Items}
+use Rattle.ua_operands.specs.declared.written.Mode.{Mode}
+use Rattle.ua_operands.specs.declared.written.Mode.TheVariants.{Plain, Least, Count}
 use Rattle.ua_close.specs.declared.close.Closure.{Closure}
 use Rattle.ua_close.specs.declared.close.Closure.TheVariants.{Closed}
 use Rattle.ua_close.specs.declared.close.CloseError.{CloseError}

@@ -3,8 +3,8 @@ use Rattle.std.specs.Prelude.{◌≡◌, ℕ, List, ◌++◌, length, codes}
 use Rattle.ua_table.specs.Terms.{eval}
 use Rattle.ua_term.specs.Phrases.{Phrase}
 use Rattle.ua_term.specs.Meanings.{tree_in}
-use Rattle.ua_script.specs.declared.script.Word.{Word}
-use Rattle.ua_script.specs.declared.script.Items.{Items}
+use Rattle.ua_operands.specs.declared.written.Word.{Word}
+use Rattle.ua_operands.specs.declared.written.Items.{Items}
 use Rattle.ua_text.specs.declared.named.Block.{Block}
 use Rattle.ua_reply.specs.Checks.{Checks, ◌and◌}
 use Rattle.ua_reply.specs.Operands.{values_of, term_in, elements_in}

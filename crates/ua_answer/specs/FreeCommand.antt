@@ -1,9 +1,9 @@
 -- The command `free`: where its operand fails, and what it is answered, which is what `close` is.
 use Rattle.std.specs.Prelude.{ℕ, List}
 use Rattle.ua_term.specs.Assignments.{projections, power_of_assignments}
-use Rattle.ua_script.specs.declared.script.Word.{Word}
-use Rattle.ua_script.specs.declared.script.Number.{Number}
-use Rattle.ua_script.specs.declared.script.Mode.{Mode}
+use Rattle.ua_operands.specs.declared.written.Word.{Word}
+use Rattle.ua_operands.specs.declared.written.Number.{Number}
+use Rattle.ua_operands.specs.declared.written.Mode.{Mode}
 use Rattle.ua_text.specs.declared.named.Block.{Block}
 use Rattle.ua_reply.specs.Sessions.{Bounds}
 use Rattle.ua_reply.specs.Operands.{free_checks}

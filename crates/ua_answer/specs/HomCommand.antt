@@ -7,8 +7,8 @@ use Rattle.ua_sub.specs.declared.homs.HomError.{HomError}
 use Rattle.ua_sub.specs.declared.homs.HomError.TheVariants as causes
 use Rattle.ua_text.specs.declared.tokens.Place.{Place}
 use Rattle.ua_text.specs.declared.named.Block.{Block}
-use Rattle.ua_script.specs.declared.script.Word.{Word}
-use Rattle.ua_script.specs.declared.script.Items.{Items}
+use Rattle.ua_operands.specs.declared.written.Word.{Word}
+use Rattle.ua_operands.specs.declared.written.Items.{Items}
 use Rattle.ua_reply.specs.Sessions.{Bounds}
 use Rattle.ua_reply.specs.declared.refusals.Refusal.TheVariants.{Signature, Wide}
 use Rattle.ua_reply.specs.Checks.{Checks, ◌and◌}

@@ -1,9 +1,9 @@
 -- The command `member`: where its operands fail, and what it is answered.
 use Rattle.std.specs.Prelude.{ℕ, List}
 use Rattle.ua_table.specs.Algebras.{Vector}
-use Rattle.ua_script.specs.declared.script.Word.{Word}
-use Rattle.ua_script.specs.declared.script.Number.{Number}
-use Rattle.ua_script.specs.declared.script.Items.{Items}
+use Rattle.ua_operands.specs.declared.written.Word.{Word}
+use Rattle.ua_operands.specs.declared.written.Number.{Number}
+use Rattle.ua_operands.specs.declared.written.Items.{Items}
 use Rattle.ua_close.specs.Permitted.{MayMember}
 use Rattle.ua_text.specs.declared.named.Block.{Block}
 use Rattle.ua_reply.specs.Sessions.{Bounds}

@@ -1,8 +1,8 @@
 -- What a command may be answered: a case for each form that is built, in tables as those of the grammar.
 use Rattle.std.specs.Prelude.{◌≡◌, ℕ, ◌<◌, ◌≤◌, true, false, List, [], ◌∷◌, ◌++◌, length, Option, None, Some, IfSome}
 use Rattle.ua_table.specs.declared.limits.TheConstants.{SCRIPT}
-use Rattle.ua_script.specs.declared.script.Mode.{Mode}
-use Rattle.ua_script.specs.declared.script.Mode.TheVariants.{Plain}
+use Rattle.ua_operands.specs.declared.written.Mode.{Mode}
+use Rattle.ua_operands.specs.declared.written.Mode.TheVariants.{Plain}
 use Rattle.ua_script.specs.declared.script.Provable.{Provable}
 use Rattle.ua_script.specs.declared.script.Provable.TheVariants.{Close, Member, Cond, Nu, Jonsson, Hm}
 use Rattle.ua_script.specs.declared.script.MakeForm.{MakeForm}

@@ -1,8 +1,8 @@
 -- The command `sub`: where its operand fails, and what it is answered.
 use Rattle.std.specs.Prelude.{ℕ, List, Some}
 use Rattle.ua_sub.specs.Members.{AreMembers}
-use Rattle.ua_script.specs.declared.script.Word.{Word}
-use Rattle.ua_script.specs.declared.script.Items.{Items}
+use Rattle.ua_operands.specs.declared.written.Word.{Word}
+use Rattle.ua_operands.specs.declared.written.Items.{Items}
 use Rattle.ua_text.specs.declared.named.Block.{Block}
 use Rattle.ua_reply.specs.Operands.{values_of, elements_in}
 use Rattle.ua_reply.specs.Replies.{Says, AnsweredOn}

@@ -3,7 +3,7 @@
 ghost use Rattle.std.specs.Prelude.{◌≡◌, ◌≤◌, length, IfOk};
 ghost use Rattle.ua_table.specs.declared.limits.TheConstants.{SCRIPT};
 ghost use Rattle.ua_check.specs.Chains as certified;
-ghost use Rattle.ua_script.specs.declared.script.Mode.{Mode};
+ghost use Rattle.ua_operands.specs.declared.written.Mode.{Mode};
 ghost use Rattle.ua_reply.specs.Sessions.{bounds_of};
 ghost use Rattle.ua_reply.specs.Checks.{AreFirst, Passes};
 ghost use Rattle.ua_reply.specs.Operands.{positive, vector_in, vectors_in};

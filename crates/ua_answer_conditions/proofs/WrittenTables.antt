@@ -8,9 +8,9 @@ use Rattle.ua_table.specs.declared.limits.TheConstants.{VARIABLES}
 use Rattle.ua_table.specs.Algebras.{Vector}
 use Rattle.ua_text.specs.Words.{among}
 use Rattle.ua_text.specs.declared.named.Block.{Block}
-use Rattle.ua_script.specs.declared.script.Number.{Number}
-use Rattle.ua_script.specs.declared.script.Items.{Items}
-use Rattle.ua_script.specs.declared.script.PointsText.{PointsText}
+use Rattle.ua_operands.specs.declared.written.Number.{Number}
+use Rattle.ua_operands.specs.declared.written.Items.{Items}
+use Rattle.ua_operands.specs.declared.written.PointsText.{PointsText}
 use Rattle.ua_reply.specs.declared.checks.FirstErrors.{FirstErrors}
 use Rattle.ua_reply.specs.Checks.{Checks, unless, shape_at, ◌and◌, Passes, AreFirst}
 use Rattle.ua_reply.specs.Operands.{value_of, values_of, vectors_of, elements_in, length_in, vector_in, free_checks}

@@ -3,13 +3,13 @@ use Rattle.std.specs.Prelude.{ℕ, ◌+◌, ◌^◌, ◌≤◌, not, List, [], �
 use Rattle.ua_table.specs.declared.limits.TheConstants.{SCRIPT}
 use Rattle.ua_text.specs.Words.{among}
 use Rattle.ua_text.specs.declared.named.Block.{Block}
-use Rattle.ua_script.specs.declared.script.Word.{Word}
-use Rattle.ua_script.specs.declared.script.Number.{Number}
-use Rattle.ua_script.specs.declared.script.Items.{Items}
-use Rattle.ua_script.specs.declared.script.CloneWord.{CloneWord}
-use Rattle.ua_script.specs.declared.script.CloneWord.TheVariants.{Term, Polynomial}
-use Rattle.ua_script.specs.declared.script.PointsText.{PointsText}
-use Rattle.ua_script.specs.declared.script.PointsText.TheVariants.{Total, Partial}
+use Rattle.ua_operands.specs.declared.written.Word.{Word}
+use Rattle.ua_operands.specs.declared.written.Number.{Number}
+use Rattle.ua_operands.specs.declared.written.Items.{Items}
+use Rattle.ua_operands.specs.declared.written.CloneWord.{CloneWord}
+use Rattle.ua_operands.specs.declared.written.CloneWord.TheVariants.{Term, Polynomial}
+use Rattle.ua_operands.specs.declared.written.PointsText.{PointsText}
+use Rattle.ua_operands.specs.declared.written.PointsText.TheVariants.{Total, Partial}
 use Rattle.ua_clone.specs.declared.kinds.CloneKind.{CloneKind}
 use Rattle.ua_clone.specs.declared.kinds.CloneKind.TheVariants.{TermOps, Polynomials}
 use Rattle.ua_clone.specs.Points.{Point, total_points, partial_points}

@@ -3,10 +3,10 @@ use Rattle.std.specs.Prelude.{ℕ, nat_le, ◌&&◌, List}
 use Rattle.ua_identity.specs.Conditions.{TermCondition, maltsev, majority, minority, pixley, near_unanimity}
 use Rattle.ua_cond.specs.Permitted.{MayDecide}
 use Rattle.ua_text.specs.declared.named.Block.{Block}
-use Rattle.ua_script.specs.declared.script.Word.{Word}
-use Rattle.ua_script.specs.declared.script.Number.{Number}
-use Rattle.ua_script.specs.declared.script.CondWord.{CondWord}
-use Rattle.ua_script.specs.declared.script.CondWord.TheVariants.{Maltsev, Majority, Minority, Pixley}
+use Rattle.ua_operands.specs.declared.written.Word.{Word}
+use Rattle.ua_operands.specs.declared.written.Number.{Number}
+use Rattle.ua_operands.specs.declared.written.CondWord.{CondWord}
+use Rattle.ua_operands.specs.declared.written.CondWord.TheVariants.{Maltsev, Majority, Minority, Pixley}
 use Rattle.ua_reply.specs.Sessions.{Bounds}
 use Rattle.ua_reply.specs.Checks.{Checks, passed, range_at, unless}
 use Rattle.ua_reply.specs.Closures.{member_text, told}

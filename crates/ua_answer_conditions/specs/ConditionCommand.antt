@@ -6,11 +6,11 @@ use Rattle.ua_identity.specs.declared.limits.TheConstants.{PLACES}
 use Rattle.ua_identity.specs.Identities.{TermIdentity}
 use Rattle.ua_identity.specs.Conditions.{TermCondition}
 use Rattle.ua_text.specs.declared.named.Block.{Block}
-use Rattle.ua_script.specs.declared.script.Word.{Word}
-use Rattle.ua_script.specs.declared.script.Number.{Number}
-use Rattle.ua_script.specs.declared.script.Variable.{Variable}
-use Rattle.ua_script.specs.declared.script.Variable.TheVariants.{X, Y, Z, W}
-use Rattle.ua_script.specs.declared.script.IdentityText.{IdentityText}
+use Rattle.ua_operands.specs.declared.written.Word.{Word}
+use Rattle.ua_operands.specs.declared.written.Number.{Number}
+use Rattle.ua_operands.specs.declared.written.Variable.{Variable}
+use Rattle.ua_operands.specs.declared.written.Variable.TheVariants.{X, Y, Z, W}
+use Rattle.ua_operands.specs.declared.written.IdentityText.{IdentityText}
 use Rattle.ua_reply.specs.Sessions.{Bounds}
 use Rattle.ua_reply.specs.Checks.{Checks, range_at, shape_at, unless, ◌and◌, all_in}
 use Rattle.ua_reply.specs.Replies.{AnsweredOn}

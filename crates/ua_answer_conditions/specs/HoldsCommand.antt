@@ -8,7 +8,7 @@ use Rattle.ua_term.specs.Meanings.{tree_in}
 use Rattle.ua_free.specs.Permitted.{MayHold}
 use Rattle.ua_free.specs.declared.identities.HoldsError.{HoldsError}
 use Rattle.ua_free.specs.declared.identities.HoldsError.TheVariants as causes
-use Rattle.ua_script.specs.declared.script.Word.{Word}
+use Rattle.ua_operands.specs.declared.written.Word.{Word}
 use Rattle.ua_text.specs.declared.named.Block.{Block}
 use Rattle.ua_reply.specs.declared.refusals.Refusal.TheVariants.{Wide}
 use Rattle.ua_reply.specs.Checks.{Checks, ◌and◌}

@@ -2,7 +2,7 @@
 
 ghost use Rattle.std.specs.Prelude.{◌≡◌, ◌<◌, ◌≤◌, ◌∷◌, [], ℕ, List, length, IfOk, OnOk};
 ghost use Rattle.ua_table.specs.declared.limits.TheConstants.{SCRIPT};
-ghost use Rattle.ua_script.specs.declared.script.PointsText.TheVariants as PointsText;
+ghost use Rattle.ua_operands.specs.declared.written.PointsText.TheVariants as PointsText;
 ghost use Rattle.ua_clone.specs.Points.{points_of, ArePoints};
 ghost use Rattle.ua_clone.specs.Permitted.{MayClone};
 ghost use Rattle.ua_reply.specs.Sessions.{bounds_of};

@@ -5,8 +5,8 @@ use Rattle.ua_matrix.specs.declared.centrality.Central.{Central}
 use Rattle.ua_matrix.specs.declared.centrality.Central.TheVariants.{Yes, No, Exceeds}
 use Rattle.ua_matrix.specs.Permitted.{MayBeCentral}
 use Rattle.ua_text.specs.declared.named.Block.{Block}
-use Rattle.ua_script.specs.declared.script.Word.{Word}
-use Rattle.ua_script.specs.declared.script.PartText.{PartText}
+use Rattle.ua_operands.specs.declared.written.Word.{Word}
+use Rattle.ua_operands.specs.declared.written.PartText.{PartText}
 use Rattle.ua_reply.specs.Sessions.{Bounds}
 use Rattle.ua_reply.specs.Checks.{Checks, ◌and◌}
 use Rattle.ua_reply.specs.Parts.{part_in}

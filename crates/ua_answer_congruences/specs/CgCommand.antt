@@ -2,8 +2,8 @@
 use Rattle.std.specs.Prelude.{ℕ, List, Some}
 use Rattle.ua_part.specs.Blocks.{partition_text}
 use Rattle.ua_prod.specs.Congruences.{IsCg}
-use Rattle.ua_script.specs.declared.script.Word.{Word}
-use Rattle.ua_script.specs.declared.script.Items.{Items}
+use Rattle.ua_operands.specs.declared.written.Word.{Word}
+use Rattle.ua_operands.specs.declared.written.Items.{Items}
 use Rattle.ua_text.specs.declared.named.Block.{Block}
 use Rattle.ua_reply.specs.Operands.{vectors_in, pairs_of}
 use Rattle.ua_reply.specs.Replies.{Says, AnsweredOn}

@@ -6,8 +6,8 @@ use Rattle.ua_comm.specs.declared.commutators.Comm.{Comm}
 use Rattle.ua_comm.specs.declared.commutators.Comm.TheVariants.{Whole, Exceeds}
 use Rattle.ua_comm.specs.Permitted.{MayCommute}
 use Rattle.ua_text.specs.declared.named.Block.{Block}
-use Rattle.ua_script.specs.declared.script.Word.{Word}
-use Rattle.ua_script.specs.declared.script.PartText.{PartText}
+use Rattle.ua_operands.specs.declared.written.Word.{Word}
+use Rattle.ua_operands.specs.declared.written.PartText.{PartText}
 use Rattle.ua_reply.specs.Sessions.{Bounds}
 use Rattle.ua_reply.specs.Checks.{Checks, ◌and◌}
 use Rattle.ua_reply.specs.Parts.{part_in}

@@ -4,7 +4,7 @@ use Rattle.ua_part.specs.Blocks.{partition_text}
 use Rattle.ua_lattice.specs.declared.lattice.Lattice.{Lattice}
 use Rattle.ua_lattice.specs.declared.lattice.Lattice.TheVariants.{Whole, Exceeds}
 use Rattle.ua_lattice.specs.Answers.{IsLatticeOf}
-use Rattle.ua_script.specs.declared.script.Word.{Word}
+use Rattle.ua_operands.specs.declared.written.Word.{Word}
 use Rattle.ua_text.specs.declared.named.Block.{Block}
 use Rattle.ua_reply.specs.Sessions.{Bounds}
 use Rattle.ua_reply.specs.Checks.{passed}

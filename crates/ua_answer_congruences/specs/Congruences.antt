@@ -6,7 +6,7 @@ use Rattle.ua_prod.specs.declared.clashes.Clash.{Clash}
 use Rattle.ua_prod.specs.Congruences.{IsCongruence}
 use Rattle.ua_prod.specs.Clashes.{IsFirstClash}
 use Rattle.ua_text.specs.declared.named.Block.{Block}
-use Rattle.ua_script.specs.declared.script.PartText.{PartText}
+use Rattle.ua_operands.specs.declared.written.PartText.{PartText}
 use Rattle.ua_reply.specs.Parts.{blocks_of}
 use Rattle.ua_reply.specs.Refusals.{congruence_text}
 

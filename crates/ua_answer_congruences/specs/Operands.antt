@@ -4,7 +4,7 @@ use Rattle.ua_part.specs.Partitions.{Partition}
 use Rattle.ua_part.specs.Blocks.{HasBlocks}
 use Rattle.ua_prod.specs.Congruences.{IsCongruence}
 use Rattle.ua_text.specs.declared.named.Block.{Block}
-use Rattle.ua_script.specs.declared.script.PartText.{PartText}
+use Rattle.ua_operands.specs.declared.written.PartText.{PartText}
 use Rattle.ua_reply.specs.Parts.{blocks_of}
 use Rattle.ua_answer_congruences.specs.declared.congruences.Operand.{Operand}
 use Rattle.ua_answer_congruences.specs.declared.congruences.Operand.TheVariants as operands

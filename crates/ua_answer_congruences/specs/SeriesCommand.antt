@@ -7,9 +7,9 @@ use Rattle.ua_comm.specs.declared.members.Series.{Series}
 use Rattle.ua_comm.specs.declared.members.Series.TheVariants.{Whole, Exceeds}
 use Rattle.ua_comm.specs.Permitted.{MayDescend}
 use Rattle.ua_text.specs.declared.named.Block.{Block}
-use Rattle.ua_script.specs.declared.script.Word.{Word}
-use Rattle.ua_script.specs.declared.script.SeriesWord.{SeriesWord}
-use Rattle.ua_script.specs.declared.script.SeriesWord.TheVariants.{Derived, Lower}
+use Rattle.ua_operands.specs.declared.written.Word.{Word}
+use Rattle.ua_operands.specs.declared.written.SeriesWord.{SeriesWord}
+use Rattle.ua_operands.specs.declared.written.SeriesWord.TheVariants.{Derived, Lower}
 use Rattle.ua_reply.specs.Sessions.{Bounds}
 use Rattle.ua_reply.specs.Checks.{passed}
 use Rattle.ua_reply.specs.Closures.{told}

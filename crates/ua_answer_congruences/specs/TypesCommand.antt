@@ -7,7 +7,7 @@ use Rattle.ua_type.specs.declared.tables.Types.{Types}
 use Rattle.ua_type.specs.declared.tables.Types.TheVariants.{Table, Exceeds}
 use Rattle.ua_type.specs.Permitted.{MayTypes}
 use Rattle.ua_text.specs.declared.named.Block.{Block}
-use Rattle.ua_script.specs.declared.script.Word.{Word}
+use Rattle.ua_operands.specs.declared.written.Word.{Word}
 use Rattle.ua_reply.specs.Sessions.{Bounds}
 use Rattle.ua_reply.specs.Checks.{passed}
 use Rattle.ua_reply.specs.Closures.{told}

@@ -1,7 +1,7 @@
 -- A reply, where the session knows the name and nothing fails.
 use Rattle.std.proofs.Common.{◌≡◌, ℕ, List, Option, Some, None, sym, subst}
 use Rattle.std.specs.Option.{MatchOption}
-use Rattle.ua_script.specs.declared.script.Word.{Word}
+use Rattle.ua_operands.specs.declared.written.Word.{Word}
 use Rattle.ua_text.specs.declared.named.Block.{Block}
 use Rattle.ua_reply.specs.Sessions.{lookup}
 use Rattle.ua_reply.specs.Checks.{Checks, checks_in, first_error}

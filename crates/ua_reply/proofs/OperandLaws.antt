@@ -13,9 +13,9 @@ use Rattle.ua_text.specs.declared.tokens.Place.{Place}
 use Rattle.ua_text.specs.declared.named.Block.{Block}
 use Rattle.ua_close.specs.declared.close.CloseError.TheVariants as causes
 use Rattle.ua_close.specs.Answers.{IsCause}
-use Rattle.ua_script.specs.declared.script.Number.{Number}
-use Rattle.ua_script.specs.declared.script.Entry.{Entry}
-use Rattle.ua_script.specs.declared.script.Items.{Items}
+use Rattle.ua_operands.specs.declared.written.Number.{Number}
+use Rattle.ua_operands.specs.declared.written.Entry.{Entry}
+use Rattle.ua_operands.specs.declared.written.Items.{Items}
 use Rattle.ua_reply.specs.declared.checks.FirstErrors.{FirstErrors}
 use Rattle.ua_reply.specs.Checks.{◌and◌, unless, Passes, AreFirst}
 use Rattle.ua_reply.specs.Operands.{element_of, place_of, value_of, values_of, vectors_of, pair_of, pairs_of, IsPairIn, power_of, positive, known_in, element_in, elements_in, length_in, vector_in, vectors_in}

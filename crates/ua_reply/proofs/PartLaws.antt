@@ -9,7 +9,7 @@ use Rattle.ua_table.proofs.Lists.{all_at, all_from_contains}
 use Rattle.ua_table.proofs.Counts.{once_in, once_out, Contains-times, each_once-numbers_below, each_once-below}
 use Rattle.ua_part.specs.Blocks.{AreBlocks, first_beyond}
 use Rattle.ua_text.specs.declared.named.Block.{Block}
-use Rattle.ua_script.specs.declared.script.PartText.{PartText}
+use Rattle.ua_operands.specs.declared.written.PartText.{PartText}
 use Rattle.ua_reply.specs.Checks.{unless, shape_at, all_in, Passes}
 use Rattle.ua_reply.specs.Parts.{is_each_once, are_blocks, blocks_of, block_in, part_in}
 use Rattle.ua_reply.proofs.CheckLaws.{parts_pass, known_step}

@@ -8,10 +8,10 @@ use Rattle.ua_text.specs.declared.named.Block.{Block}
 use Rattle.ua_text.specs.Labels.{place_in}
 use Rattle.ua_term.specs.Phrases.{Phrase}
 use Rattle.ua_term.specs.Meanings.{unknown_operations, variables_from, misshapen}
-use Rattle.ua_script.specs.declared.script.Number.{Number}
-use Rattle.ua_script.specs.declared.script.Entry.{Entry}
-use Rattle.ua_script.specs.declared.script.Entry.TheVariants as entries
-use Rattle.ua_script.specs.declared.script.Items.{Items}
+use Rattle.ua_operands.specs.declared.written.Number.{Number}
+use Rattle.ua_operands.specs.declared.written.Entry.{Entry}
+use Rattle.ua_operands.specs.declared.written.Entry.TheVariants as entries
+use Rattle.ua_operands.specs.declared.written.Items.{Items}
 use Rattle.ua_reply.specs.Checks.{Checks, unknown_at, range_at, shape_at, unless, ◌and◌, all_in}
 
 -- the element that is written: its number, or the place of its name

@@ -3,8 +3,8 @@ use Rattle.std.specs.Prelude.{ℕ, ◌==◌, ◌&&◌, nat_lt, Bool, List, lengt
 use Rattle.std.specs.List.{concat, list_all}
 use Rattle.ua_table.specs.Counting.{times, numbers_below}
 use Rattle.ua_text.specs.declared.named.Block.{Block}
-use Rattle.ua_script.specs.declared.script.Number.{Number}
-use Rattle.ua_script.specs.declared.script.PartText.{PartText}
+use Rattle.ua_operands.specs.declared.written.Number.{Number}
+use Rattle.ua_operands.specs.declared.written.PartText.{PartText}
 use Rattle.ua_reply.specs.Checks.{Checks, range_at, shape_at, unless, ◌and◌, all_in}
 
 -- the numbers of a block

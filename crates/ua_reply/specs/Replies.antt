@@ -1,6 +1,6 @@
 -- What a command is answered: its first error, or the text of an answer that its call permits.
 use Rattle.std.specs.Prelude.{◌≡◌, ℕ, List, Option, None, Some, MatchOption}
-use Rattle.ua_script.specs.declared.script.Word.{Word}
+use Rattle.ua_operands.specs.declared.written.Word.{Word}
 use Rattle.ua_text.specs.declared.named.Block.{Block}
 use Rattle.ua_reply.specs.Sessions.{lookup}
 use Rattle.ua_reply.specs.Checks.{Checks, checks_in, first_error}

@@ -15,7 +15,8 @@ use Rattle.ua_text.proofs.PrintedBlocks.{formed_block, spelled_operation}
 use Rattle.ua_text.proofs.SpelledLemmas.{spelled_both}
 use Rattle.ua_prod.specs.Draws.{next_state, state_after, drawn, draws, drawn_algebra, drawn_operation}
 use Rattle.ua_prod.proofs.DrawLaws.{draws_more, drawn-IsAlgebraTable, numbered-is_name, state_sum}
-use Rattle.ua_script.specs.Grammar.{entry as entry_sign, vector, command, forms_built, AreVectors, IsCommand, IsEntry, IsWellFormed}
+use Rattle.ua_operands.specs.Written.{entry as entry_sign, vector}
+use Rattle.ua_script.specs.Grammar.{command, forms_built, AreVectors, IsCommand, IsEntry, IsWellFormed}
 use Rattle.ua_text.specs.declared.named.Block.{Block}
 use Rattle.ua_script.specs.declared.script.Command.{Command}
 use Rattle.ua_script.specs.declared.script.Item.{Item}

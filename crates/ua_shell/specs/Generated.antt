@@ -6,12 +6,12 @@ use Rattle.ua_text.specs.Blocks.{unnamed}
 use Rattle.ua_term.specs.Phrases.{nowhere}
 use Rattle.ua_prod.specs.Sizes.{values_needed}
 use Rattle.ua_prod.specs.Draws.{state_after, draws, drawn_algebra}
-use Rattle.ua_script.specs.declared.script.Word.{Word}
-use Rattle.ua_script.specs.declared.script.Number.{Number}
-use Rattle.ua_script.specs.declared.script.Entry.{Entry}
-use Rattle.ua_script.specs.declared.script.Entry.TheVariants as entries
-use Rattle.ua_script.specs.declared.script.Items.{Items}
-use Rattle.ua_script.specs.declared.script.Mode.TheVariants.{Count}
+use Rattle.ua_operands.specs.declared.written.Word.{Word}
+use Rattle.ua_operands.specs.declared.written.Number.{Number}
+use Rattle.ua_operands.specs.declared.written.Entry.{Entry}
+use Rattle.ua_operands.specs.declared.written.Entry.TheVariants as entries
+use Rattle.ua_operands.specs.declared.written.Items.{Items}
+use Rattle.ua_operands.specs.declared.written.Mode.TheVariants.{Count}
 use Rattle.ua_script.specs.declared.script.Provable.TheVariants.{Close}
 use Rattle.ua_script.specs.declared.script.Command.{Command}
 use Rattle.ua_script.specs.declared.script.Command.TheVariants as commands

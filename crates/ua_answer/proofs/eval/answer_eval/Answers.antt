@@ -1,6 +1,6 @@
 use Rattle.std.proofs.Common.{◌≡◌, List, ◌++◌, None, codes, length, sym, ap, ◌∙◌, subst}
 use Rattle.std.proofs.lemmas.Result.{IfOk-weaker}
-use Rattle.ua_script.specs.declared.script.Entry.{Entry}
+use Rattle.ua_operands.specs.declared.written.Entry.{Entry}
 use Rattle.ua_reply.specs.Sessions.{lookup}
 use Rattle.ua_reply.specs.Checks.{Passes, ◌and◌, first_error}
 use Rattle.ua_reply.specs.Operands.{term_in, elements_in}

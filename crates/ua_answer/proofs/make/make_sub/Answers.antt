@@ -11,7 +11,7 @@ use Rattle.ua_text.specs.Blocks.{block, unnamed}
 use Rattle.ua_reply.specs.Sessions.{lookup}
 use Rattle.ua_answer.specs.declared.answered.Answered.{Answered}
 use Rattle.ua_answer.specs.Replies.{left_by}
-use Rattle.ua_script.specs.declared.script.Entry.{Entry}
+use Rattle.ua_operands.specs.declared.written.Entry.{Entry}
 use Rattle.ua_script.specs.declared.script.MakeForm.TheVariants.{Sub}
 use Rattle.ua_reply.specs.Checks.{first_error}
 use Rattle.ua_reply.specs.Operands.{elements_in}

@@ -6,7 +6,7 @@ use Rattle.std.proofs.lemmas.List.{get_or-set_same, get_or-set_other, get_or-rep
 use Rattle.ua_table.specs.declared.limits.TheConstants.{OPERATIONS}
 use Rattle.ua_table.specs.Algebras.{FiniteAlgebra}
 use Rattle.ua_term.specs.Meanings.{first_place}
-use Rattle.ua_script.specs.declared.script.Word.{Word}
+use Rattle.ua_operands.specs.declared.written.Word.{Word}
 use Rattle.ua_answer.specs.MakeCommand.{repeated}
 use Rattle.ua_answer.proofs.Reducts.{repeated_here, repeated_later}
 use Rattle.ua_answer.proofs.reduct.first_repeated.Goals as goal

@@ -1,8 +1,8 @@
 use Rattle.std.proofs.Common.{◌≡◌, ◌^◌, ◌<◌, List, [], ◌∷◌, length, sym, subst, arith}
 use Rattle.std.specs.List.{AllByRecursion}
-use Rattle.ua_script.specs.declared.script.Items.{Items}
-use Rattle.ua_script.specs.declared.script.PointsText.{PointsText}
-use Rattle.ua_script.specs.declared.script.PointsText.TheVariants.{Total, Partial}
+use Rattle.ua_operands.specs.declared.written.Items.{Items}
+use Rattle.ua_operands.specs.declared.written.PointsText.{PointsText}
+use Rattle.ua_operands.specs.declared.written.PointsText.TheVariants.{Total, Partial}
 use Rattle.ua_reply.specs.Checks.{Passes}
 use Rattle.ua_reply.specs.Operands.{elements_in, length_in}
 use Rattle.ua_reply.proofs.CheckLaws.{parts_pass}

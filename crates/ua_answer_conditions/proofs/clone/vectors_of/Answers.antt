@@ -2,7 +2,7 @@ use Rattle.std.proofs.Common.{◌≡◌, ◌+◌, ◌<◌, List, [], ◌∷◌, 
 use Rattle.std.specs.List.{AllByRecursion}
 use Rattle.std.proofs.lemmas.List.{take_all}
 use Rattle.ua_table.specs.Algebras.{Vector}
-use Rattle.ua_script.specs.declared.script.Items.{Items}
+use Rattle.ua_operands.specs.declared.written.Items.{Items}
 use Rattle.ua_reply.specs.Checks.{Passes}
 use Rattle.ua_reply.specs.Operands.{vectors_of, vector_in}
 use Rattle.ua_reply.proofs.CheckLaws.{holds_at}

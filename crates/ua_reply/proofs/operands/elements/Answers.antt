@@ -1,7 +1,7 @@
 use Rattle.std.proofs.Common.{◌≡◌, ◌<◌, List, ℕ, map, sym, ap, ◌∙◌, subst, arith}
 use Rattle.std.proofs.lemmas.Grind.{common_steps}
 use Rattle.std.specs.List.{AllByRecursion}
-use Rattle.ua_script.specs.declared.script.Entry.{Entry}
+use Rattle.ua_operands.specs.declared.written.Entry.{Entry}
 use Rattle.ua_reply.specs.Checks.{Passes}
 use Rattle.ua_reply.specs.Operands.{value_of, element_in, elements_in}
 use Rattle.ua_reply.proofs.CheckLaws.{one_passes}

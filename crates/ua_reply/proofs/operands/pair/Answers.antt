@@ -1,5 +1,5 @@
 use Rattle.std.proofs.Common.{◌≡◌, List, length, map, slice_index, sym, ap, ◌∙◌, subst, arith}
-use Rattle.ua_script.specs.declared.script.Entry.{Entry}
+use Rattle.ua_operands.specs.declared.written.Entry.{Entry}
 use Rattle.ua_reply.specs.Checks.{Passes}
 use Rattle.ua_reply.specs.Operands.{value_of, element_in, elements_in}
 use Rattle.ua_reply.proofs.CheckLaws.{one_passes}

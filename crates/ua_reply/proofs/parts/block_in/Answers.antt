@@ -1,6 +1,6 @@
 use Rattle.std.proofs.Common.{◌<◌, length, take, get_or, arith}
 use Rattle.std.proofs.lemmas.List.{get_or_default}
-use Rattle.ua_script.specs.declared.script.Number.{Number}
+use Rattle.ua_operands.specs.declared.written.Number.{Number}
 use Rattle.ua_reply.specs.Parts.{member_in, block_in}
 use Rattle.ua_reply.proofs.CheckLaws.{first_more}
 use Rattle.ua_reply.proofs.parts.block_in.Goals as goal

@@ -1,5 +1,5 @@
 use Rattle.std.proofs.Common.{List, take, subst}
-use Rattle.ua_script.specs.declared.script.Number.{Number}
+use Rattle.ua_operands.specs.declared.written.Number.{Number}
 use Rattle.ua_reply.specs.Checks.{AreFirst, all_in}
 use Rattle.ua_reply.specs.Parts.{block_in}
 use Rattle.ua_reply.proofs.CheckLaws.{first_more}

@@ -2,7 +2,7 @@ use Rattle.std.proofs.Common.{◌≡◌, ◌∷◌, [], ◌++◌, map, sym, ap, 
 use Rattle.ua_prod.specs.Draws.{next_state, state_after, draws, drawn}
 use Rattle.ua_prod.proofs.DrawLaws.{state_more}
 use Rattle.ua_term.specs.Phrases.{nowhere}
-use Rattle.ua_script.specs.declared.script.Entry.TheVariants as entries
+use Rattle.ua_operands.specs.declared.written.Entry.TheVariants as entries
 use Rattle.ua_shell.specs.Generated.{drawn_vector, entry, number}
 use Rattle.ua_shell.proofs.Generating.{entries_more}
 use Rattle.ua_shell.proofs.generated.drawn_vector.Goals as goal
