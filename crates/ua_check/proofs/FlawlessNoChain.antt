@@ -1,7 +1,7 @@
 -- Rows that are closed, with the positions of those that beginnings of chains reach where there is no chain, have no flaw.
-use Rattle.std.proofs.Common.{◌≡◌, ℕ, zero, suc, ◌+◌, ◌<◌, ◌≤◌, Bool, true, false, not, ◌&&◌, ◌||◌, Some, None, List, [], ◌∷◌, ◌++◌, length, ⊎_elim, refl, sym, ap, ◌∙◌, subst, arith}
-use Rattle.std.specs.Prelude.{Contains, slice_get, slice_index, slice_index_or, ◌==◌, nat_lt, replicate}
-use Rattle.std.specs.List.{AllByRecursion, list_any}
+use Rattle.std.proofs.Common.{◌≡◌, ℕ, ◌+◌, ◌<◌, ◌≤◌, Bool, true, false, not, ◌&&◌, ◌||◌, Some, None, List, [], ◌∷◌, ◌++◌, length, refl, sym, ap, ◌∙◌, subst, arith}
+use Rattle.std.specs.Prelude.{slice_get, slice_index, slice_index_or, nat_lt, replicate}
+use Rattle.std.specs.List.{AllByRecursion}
 use Rattle.std.proofs.lemmas.Bool.Decides.{nat_tests}
 use Rattle.std.proofs.lemmas.List.{length-replicate}
 use Rattle.std.proofs.lemmas.List.FromFn.{length-map-range_with_len}
@@ -11,14 +11,14 @@ use Rattle.ua_table.specs.Algebras.{Vector, FiniteAlgebra, IsVector, arities_of,
 use Rattle.ua_table.specs.Terms.{Tree, Generator, IsTerm, eval}
 use Rattle.ua_table.specs.Generated.{Sg}
 use Rattle.ua_table.specs.Refusals.{refusal_if}
-use Rattle.ua_table.proofs.Lists.{found, get_or-slice_get, Contains-head, Contains-tail, Contains-cases, Contains-none, Contains-slice_get, all_at, All-slice_get, all_append}
+use Rattle.ua_table.proofs.Lists.{found, get_or-slice_get, Contains-slice_get, all_at}
 use Rattle.ua_term.specs.Assignments.{IsAssignment}
-use Rattle.ua_walk.specs.Sequences.{Alternates, BeginsWith, EndsWith, ends_even}
-use Rattle.ua_identity.specs.Identities.{VariablePattern, xxy, xyx, xyy}
+use Rattle.ua_walk.specs.Sequences.{Alternates, EndsWith, ends_even}
+use Rattle.ua_identity.specs.Identities.{VariablePattern, xxy}
 use Rattle.ua_identity.specs.Chains.{AreLinked, IsOwn, IsPlace, IsBeginning, IsChain, is_among_even, IsReached}
 use Rattle.ua_identity.specs.Patterns.{all_fillings, vector_of, place_vector, part_of}
 use Rattle.ua_identity.specs.Kinds.{alike}
-use Rattle.ua_identity.proofs.PatternLaws.{part_is, linked_from_parts, satisfied_from_part}
+use Rattle.ua_identity.proofs.PatternLaws.{part_is, linked_from_parts}
 use Rattle.ua_cert.specs.declared.certs.ChainName.{ChainName}
 use Rattle.ua_cert.specs.declared.certs.ChainName.TheVariants.{Jonsson, Hm}
 use Rattle.ua_flaws.specs.declared.flaws.ListName.TheVariants.{Rows}
@@ -30,171 +30,13 @@ use Rattle.ua_check.specs.Answers.{AreThose}
 use Rattle.ua_flaws.specs.Flaws.{vectors_flaw, closed_flaw}
 use Rattle.ua_flaws.specs.Laws.{VectorsAreFlawless, ExactIsFlawless}
 use Rattle.ua_check.specs.Chains.{kind_of, chain_width, HasNoChain}
-use Rattle.ua_check.specs.Reached.{even_parts, odd_parts, leads, is_own_row, holds_position, odd_positions, is_position, positions_flaw, parity_flaw, is_led_to, is_started, is_followed, is_not_end, places_of, place_of, row_flaw, reached_lines, no_chain_lines, no_chain_flaw}
+use Rattle.ua_check.specs.Reached.{even_parts, odd_parts, leads, is_own_row, holds_position, odd_positions, positions_flaw, parity_flaw, is_led_to, is_started, is_followed, is_not_end, places_of, place_of, row_flaw, reached_lines, no_chain_lines, no_chain_flaw}
 use Rattle.ua_flaws.proofs.FirstLaws.{same_is}
-use Rattle.ua_flaws.proofs.PassLaws.{is_below, all_true, no_line, no_refusal, no_option, none_bad}
+use Rattle.ua_flaws.proofs.PassLaws.{all_true, no_line, no_refusal, no_option, none_bad}
 use Rattle.ua_flaws.proofs.Powers.{arities_power}
-use Rattle.ua_check.proofs.NoChainLaws.{VectorLaw, three_long, three, vec, even_leads, odd_leads, start_is}
+use Rattle.ua_check.proofs.NoChainLaws.{VectorLaw, three_long, three, vec}
 use Rattle.ua_check.proofs.ReachedLaws.{some_wide}
-
--- ---- positions
-
-is_held : (ps : List ℕ) (i : ℕ) → Contains ps i → holds_position ps i ≡ true
-is_held [] i c = absurd (Contains-none i c)
-is_held (p ∷ ps) i c = cases (p == i) refl (λ rest. is_held ps i rest)
-  where
-    equal : p ≡ i → (p == i) ≡ false → ⊥
-    equal e f = grind (arith, nat_tests, e)
-
-    cases : (b : Bool) → (p == i) ≡ b → (Contains ps i → holds_position ps i ≡ true) → (b || holds_position ps i) ≡ true
-    cases true e held = refl
-    cases false e held = held (⊎_elim (λ same. absurd (equal same e)) (λ rest. rest) (Contains-cases p i ps c))
-
-held_is : (ps : List ℕ) (i : ℕ) → holds_position ps i ≡ true → Contains ps i
-held_is [] i h = cc
-held_is (p ∷ ps) i h =
-    elim (p == i) as (λ b. (p == i) ≡ b → (b || holds_position ps i) ≡ true → Contains (p ∷ ps) i) [
-      | true ↦ λ e k. (let same : p ≡ i = (grind (arith, nat_tests)) in subst (λ z. Contains (p ∷ ps) z) same (Contains-head p ps))
-      | false ↦ λ e k. Contains-tail p i ps (held_is ps i k)
-    ] refl h
-
-position_fine : (n : ℕ) (ps : List ℕ) → ((j k : ℕ) → j < k → k < length ps → slice_index ps j < slice_index ps k) → AllByRecursion (λ i. i < n) ps → (i p : ℕ) → slice_get ps i ≡ Some p → is_position n ps i p ≡ true
-position_fine n ps up low zero p at = is_below p n (All-slice_get (λ x. x < n) ps 0 p low at)
-position_fine n ps up low (suc i) p at =
-    let next : slice_index ps (suc i) ≡ p = get_or-slice_get ps (suc i) p 0 at in
-    let step = up i (suc i) (omega arith) (there ps (suc i) p at) in
-    all_true (nat_lt p n) (nat_lt (slice_index ps i) p) (is_below p n (All-slice_get (λ x. x < n) ps (suc i) p low at)) (is_below (slice_index ps i) p (subst (λ z. slice_index ps i < z) next step))
-  where
-    there : (xs : List ℕ) (j x : ℕ) → slice_get xs j ≡ Some x → j < length xs
-    there [] j x e = cc
-    there (y ∷ ys) zero x e = omega arith
-    there (y ∷ ys) (suc j) x e = let l = there ys j x e in omega (arith, l)
-
-no_position_flaw : (a : FiniteAlgebra) (name : ChainName) (even : Bool) (rows : List Vector) (ps : List ℕ) → AreThose a name even rows ps → positions_flaw (length rows) ps ≡ None
-no_position_flaw a name even rows ps h =
-    no_option (λ i. flaw.Reached (slice_index ps i)) (first_bad (is_position (length rows) ps) 0 ps)
-    (none_bad (is_position (length rows) ps) 0 ps (λ i p at. (let z : 0 + i ≡ i = omega arith in ap (λ k. is_position (length rows) ps k p) z ∙ position_fine (length rows) ps h.ascending h.within i p at)))
-
--- where all are told among the even ones, none is told at odd indices
-no_odd : (a : FiniteAlgebra) (rows : List Vector) (odd : List ℕ) → AreThose a Hm false rows odd → (length odd == 0) ≡ true
-no_odd a rows [] h = refl
-no_odd a rows (p ∷ ps) h =
-    let v = found rows p h.within.0 in
-    let r = (h.exact p v.0 v.1).0 (Contains-head p ps) in
-    absurd (never (ends_even r.terms) r.parity)
-  where
-    never : (b : Bool) → (b || true) ≡ false → ⊥
-    never true e = cc
-    never false e = cc
-
-no_parity_flaw : (a : FiniteAlgebra) (name : ChainName) (rows : List Vector) (odd : List ℕ) → AreThose a name false rows odd → parity_flaw name odd ≡ None
-no_parity_flaw a Jonsson rows odd h = refl
-no_parity_flaw a Hm rows odd h = no_refusal (not (length odd == 0)) (flaw.Reached (slice_index odd 0)) (ap not (no_odd a rows odd h))
-
--- ---- one term more
-
-last_vector : {X : Type 0} (P : X → Type 0) (xs : List X) (x : X) → P x → EndsWith P (xs ++ x ∷ [])
-last_vector P [] x h = h
-last_vector P (y ∷ []) x h = h
-last_vector P (y ∷ z ∷ zs) x h = last_vector P (z ∷ zs) x h
-
-begins_still : {X : Type 0} (P : X → Type 0) (xs ys : List X) → BeginsWith P xs → BeginsWith P (xs ++ ys)
-begins_still {X = X} P [] ys h = elim h [ ]
-begins_still P (x ∷ xs) ys h = h
-
-ends_other : {X : Type 0} (xs : List X) (x : X) → ends_even (xs ++ x ∷ []) ≡ not (ends_even xs)
-ends_other [] x = refl
-ends_other (y ∷ ys) x = ap not (ends_other ys x)
-
--- the last of the list is linked to one more: by the first link where it stands at an even index
-link_more : {X : Type 0} (E O : X → X → Type 0) (L : X → Type 0) (xs : List X) (x : X) → Alternates E O xs → EndsWith L xs → (ends_even xs ≡ true → (d : X) → L d → E d x) → (ends_even xs ≡ false → (d : X) → L d → O d x) → Alternates E O (xs ++ x ∷ [])
-link_more E O L [] x h l e o = absurd l
-link_more E O L (d ∷ []) x h l e o = (e refl d l, tt)
-link_more E O L (c ∷ d ∷ rest) x h l e o = (h.0, link_more O E L (d ∷ rest) x h.1 l (λ k. o (ap not k)) (λ k. e (ap not k)))
-
-module _ (a : FiniteAlgebra) (name : ChainName) where
-  -- a beginning goes on to a term that is linked to its last
-  goes_on : (even : Bool) (v : Vector) (e : Tree) → (r : IsReached a (kind_of name) even v) → IsTerm (arities_of a) (kind_of name).places e → IsOwn a (kind_of name) e → (ends_even r.terms ≡ true → (d : Tree) → vec a name d ≡ v → AreLinked a (kind_of name).even d e) → (ends_even r.terms ≡ false → (d : Tree) → vec a name d ≡ v → AreLinked a (kind_of name).odd d e)
-      → IsReached a (kind_of name) (is_among_even (kind_of name) (r.terms ++ e ∷ [])) (vec a name e)
-  unfolding vec
-  goes_on even v e r is_term own over back = record {
-    terms = r.terms ++ e ∷ [];
-    beginning = record {
-      terms_are = all_append (IsTerm (arities_of a) (kind_of name).places) r.terms (e ∷ []) r.beginning.terms_are (is_term, tt);
-      first = begins_still (IsPlace a (kind_of name).places 0) r.terms (e ∷ []) r.beginning.first;
-      own = all_append (IsOwn a (kind_of name)) r.terms (e ∷ []) r.beginning.own (own, tt);
-      linked = link_more (AreLinked a (kind_of name).even) (AreLinked a (kind_of name).odd) (λ t. vector_of a (kind_of name).patterns t ≡ v) r.terms e r.beginning.linked r.reaches over back;
-    };
-    parity = refl;
-    reaches = last_vector (λ t. vector_of a (kind_of name).patterns t ≡ vector_of a (kind_of name).patterns e) r.terms e refl;
-  }
-
--- ---- rows by their parts
-
-linked_even : (a : FiniteAlgebra) (name : ChainName) (d e : Tree) → leads a.size name (even_parts name) (vec a name d) (vec a name e) ≡ true → AreLinked a (kind_of name).even d e
-unfolding vec
-linked_even a Jonsson d e h = linked_from_parts a (kind_of Jonsson).even d e refl (sym (part_is a.size (kind_of Jonsson).patterns 1 xxy (λ xs. eval a xs d) refl) ∙ same_is _ _ h ∙ part_is a.size (kind_of Jonsson).patterns 1 xxy (λ xs. eval a xs e) refl)
-linked_even a Hm d e h = linked_from_parts a (kind_of Hm).even d e refl (sym (part_is a.size (kind_of Hm).patterns 0 xxy (λ xs. eval a xs d) refl) ∙ same_is _ _ h ∙ part_is a.size (kind_of Hm).patterns 1 xyy (λ xs. eval a xs e) refl)
-
-linked_odd : (a : FiniteAlgebra) (name : ChainName) (d e : Tree) → leads a.size name (odd_parts name) (vec a name d) (vec a name e) ≡ true → AreLinked a (kind_of name).odd d e
-unfolding vec
-linked_odd a Jonsson d e h = linked_from_parts a (kind_of Jonsson).odd d e refl (sym (part_is a.size (kind_of Jonsson).patterns 2 xyy (λ xs. eval a xs d) refl) ∙ same_is _ _ h ∙ part_is a.size (kind_of Jonsson).patterns 2 xyy (λ xs. eval a xs e) refl)
-linked_odd a Hm d e h = linked_from_parts a (kind_of Hm).odd d e refl (sym (part_is a.size (kind_of Hm).patterns 0 xxy (λ xs. eval a xs d) refl) ∙ same_is _ _ h ∙ part_is a.size (kind_of Hm).patterns 1 xyy (λ xs. eval a xs e) refl)
-
-leads_even : (a : FiniteAlgebra) (name : ChainName) (d e : Tree) → AreLinked a (kind_of name).even d e → leads a.size name (even_parts name) (vec a name d) (vec a name e) ≡ true
-unfolding vec
-leads_even a name d e h = even_leads a name d e h
-
-leads_odd : (a : FiniteAlgebra) (name : ChainName) (d e : Tree) → AreLinked a (kind_of name).odd d e → leads a.size name (odd_parts name) (vec a name d) (vec a name e) ≡ true
-unfolding vec
-leads_odd a name d e h = odd_leads a name d e h
-
--- the vector of a term that is place 0
-first_vector : (a : FiniteAlgebra) (name : ChainName) (t : Tree) → IsPlace a (kind_of name).places 0 t → vec a name t ≡ vec a name (Generator 0)
-first_vector a name t h = start_is a name t h ∙ sym (start_is a name (Generator 0) (λ xs g. refl))
-
-own_term : (a : FiniteAlgebra) (name : ChainName) (t : Tree) → is_own_row a.size name (vec a name t) ≡ true → IsOwn a (kind_of name) t
-unfolding vec
-own_term a Jonsson t h = (satisfied_from_part a (record { pattern = xyx; value = 0 }) t (sym (part_is a.size (kind_of Jonsson).patterns 0 xyx (λ xs. eval a xs t) refl) ∙ same_is _ _ h), tt)
-own_term a Hm t h = tt
-
--- some position leads there
-led_from : (f : ℕ → Bool) (ps : List ℕ) → list_any f ps ≡ true → (p : ℕ) × Contains ps p × (f p ≡ true)
-led_from f [] h = cc
-led_from f (p ∷ ps) h =
-    elim (f p) as (λ b. f p ≡ b → (b || list_any f ps) ≡ true → (q : ℕ) × Contains (p ∷ ps) q × (f q ≡ true)) [
-      | true ↦ λ e k. (p, Contains-head p ps, e)
-      | false ↦ λ e k. (let r = led_from f ps k in (r.0, Contains-tail p r.0 ps r.1, r.2))
-    ] refl h
-
-where_so : (b c : Bool) → (b ≡ true → c ≡ true) → (not b || c) ≡ true
-where_so true c h = h refl
-where_so false c h = refl
-
-or_not : (b c : Bool) → (c ≡ true → b ≡ true) → (b || not c) ≡ true
-or_not b true h = ap (λ z. z || false) (h refl)
-or_not true false h = refl
-or_not false false h = refl
-
-not_held : (b : Bool) → (b ≡ true → ⊥) → not b ≡ true
-not_held true h = absurd (h refl)
-not_held false h = refl
-
--- ---- the start
-
-start_reached : (a : FiniteAlgebra) (name : ChainName) → IsReached a (kind_of name) true (place_of a name 0)
-start_reached a Jonsson = record {
-  terms = Generator 0 ∷ [];
-  beginning = record { terms_are = (omega arith, tt); first = λ xs h. refl; own = ((λ xs h. refl, tt), tt); linked = tt };
-  parity = refl;
-  reaches = refl;
-}
-start_reached a Hm = record {
-  terms = Generator 0 ∷ [];
-  beginning = record { terms_are = (omega arith, tt); first = λ xs h. refl; own = (tt, tt); linked = tt };
-  parity = refl;
-  reaches = refl;
-}
+use Rattle.ua_check.proofs.ReachedRows.{is_held, held_is, no_position_flaw, no_odd, no_parity_flaw, ends_other, linked_even, linked_odd, leads_even, leads_odd, first_vector, own_term, led_from, where_so, or_not, not_held, start_reached, goes_on}
 
 -- ---- the end
 

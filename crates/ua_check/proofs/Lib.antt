@@ -6,4 +6,5 @@ pub mod ChainLaws
 pub mod NoChainLaws
 pub mod ValueLaws
 pub mod FlawlessTerms
+pub mod ReachedRows
 pub mod FlawlessNoChain
