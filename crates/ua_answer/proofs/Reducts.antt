@@ -14,6 +14,7 @@ use Rattle.ua_text.specs.declared.named.Block.{Block}
 use Rattle.ua_term.specs.Meanings.{operation_number, has_operation, first_place}
 use Rattle.ua_operands.specs.declared.written.Word.{Word}
 use Rattle.ua_reply.specs.Checks.{unless, Passes}
+use Rattle.ua_reply.proofs.CheckLaws.{known_step}
 use Rattle.ua_answer.specs.MakeCommand.{operation_in, number_of, numbers_of, repeated}
 
 -- the number of a name that no operation has is that of the operations
