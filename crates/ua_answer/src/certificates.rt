@@ -14,7 +14,7 @@ ghost use Rattle.ua_answer.specs.Replies.{IsProvableBuilt};
 
 use std::alloc::{AllocError, Global};
 use std::thread::Threads;
-use ua_answer_conditions::{ChainWord, chain, named, near_unanimous, variables_of};
+use ua_answer_conditions::{ChainWord, chain, decide_named, near_unanimous, variables_of};
 use ua_cert::{Cert, ChainName, CondName};
 use ua_certify::{certify_chain, certify_closure, certify_condition, certify_membership};
 use ua_close::{close_set, member};
@@ -131,7 +131,7 @@ fn certify_cond<R: Threads + Sync, G: Gate>(
     ensures { IfOk result (λ v. CertifiedCondition known.now (bounds_of context.now.run.now.budget context.now.run.now.workers) name v.items) }
 {
     let alloc = context.alloc;
-    let answer = match named(context, known, name) {
+    let answer = match decide_named(context, known, name) {
         Ok(answer) => answer,
         Err(cause) => return cause_reply(alloc, cause),
     };

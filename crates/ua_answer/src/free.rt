@@ -4,7 +4,7 @@ ghost use Rattle.std.specs.Prelude.{IfOk};
 ghost use Rattle.ua_term.specs.Assignments.{projections, power_of_assignments};
 ghost use Rattle.ua_reply.specs.Sessions.{bounds_of};
 ghost use Rattle.ua_reply.specs.Checks.{Passes};
-ghost use Rattle.ua_reply.specs.Operands.{free_checks};
+ghost use Rattle.ua_reply.specs.Operands.{variables_checks};
 ghost use Rattle.ua_answer.specs.CloseCommand.{ClosureAnswer};
 ghost use Rattle.ua_answer.specs.FreeCommand.{FreeReply};
 
@@ -23,7 +23,7 @@ fn free_known<R: Threads + Sync, G: Gate>(
     count: Number,
     mode: Mode,
 ) -> Result<Vec<u8>, AllocError>
-    requires { Passes (free_checks count) }
+    requires { Passes (variables_checks count) }
     ensures { IfOk result (λ v. ClosureAnswer known.now (bounds_of context.now.run.now.budget context.now.run.now.workers) (power_of_assignments known.now.algebra count.value) (projections known.now.algebra.size count.value) mode v.items) }
 {
     let budget = context.run.budget;

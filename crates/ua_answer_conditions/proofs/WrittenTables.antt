@@ -13,7 +13,7 @@ use Rattle.ua_operands.specs.declared.written.Items.{Items}
 use Rattle.ua_operands.specs.declared.written.PointsText.{PointsText}
 use Rattle.ua_reply.specs.declared.checks.FirstErrors.{FirstErrors}
 use Rattle.ua_reply.specs.Checks.{Checks, unless, shape_at, ◌and◌, Passes, AreFirst}
-use Rattle.ua_reply.specs.Operands.{value_of, values_of, vectors_of, elements_in, length_in, vector_in, free_checks}
+use Rattle.ua_reply.specs.Operands.{value_of, values_of, vectors_of, elements_in, length_in, vector_in, variables_checks}
 use Rattle.ua_reply.proofs.CheckLaws.{parts_pass, and_passed, passed_and, and_assoc, known_step}
 use Rattle.ua_reply.proofs.OperandLaws.{values_below, vector_length}
 use Rattle.ua_answer_conditions.specs.CloneCommand.{arguments_of, point_in, points_in, table_checks, clone_checks}
@@ -69,10 +69,10 @@ points_are b k (v ∷ vs) h = (point_is b k v h.0, points_are b k vs h.1)
 -- ---- what passes
 
 pub table_passes : (b : Block) (k : Number) (points : PointsText) → Passes (clone_checks b k points) → Passes (table_checks b k.value points)
-table_passes b k points h = (parts_pass (free_checks k) (table_checks b k.value points) h).1
+table_passes b k points h = (parts_pass (variables_checks k) (table_checks b k.value points) h).1
 
 pub few_variables : (b : Block) (k : Number) (points : PointsText) → Passes (clone_checks b k points) → k.value ≤ VARIABLES
-few_variables b k points h = leb-true k.value VARIABLES (known_step (nat_le k.value VARIABLES) k.place (parts_pass (free_checks k) (table_checks b k.value points) h).0.range)
+few_variables b k points h = leb-true k.value VARIABLES (known_step (nat_le k.value VARIABLES) k.place (parts_pass (variables_checks k) (table_checks b k.value points) h).0.range)
 
 -- the values of a total table
 pub total_is : (b : Block) (n : ℕ) (v : Items) → Passes (vector_in b n v) → (length (values_of b v) ≡ n) × AllByRecursion (λ x. x < b.algebra.size) (values_of b v)

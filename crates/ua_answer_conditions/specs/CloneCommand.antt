@@ -17,7 +17,7 @@ use Rattle.ua_clone.specs.Permitted.{MayClone}
 use Rattle.ua_reply.specs.Sessions.{Bounds}
 use Rattle.ua_reply.specs.Checks.{Checks, passed, shape_at, unless, ◌and◌}
 use Rattle.ua_reply.specs.Closures.{member_text, told}
-use Rattle.ua_reply.specs.Operands.{values_of, vectors_of, vector_in, free_checks}
+use Rattle.ua_reply.specs.Operands.{values_of, vectors_of, vector_in, variables_checks}
 use Rattle.ua_reply.specs.Replies.{Says, AnsweredOn}
 
 -- the operations of this word
@@ -59,7 +59,7 @@ table_checks b k (Partial v vs) = points_in b k [] (v ∷ vs)
 
 -- clone NAME K term total [..], and so on: there are no more variables than their limit
 abbrev pub clone_checks : Block → Number → PointsText → Checks
-clone_checks b k points = free_checks k and table_checks b k.value points
+clone_checks b k points = variables_checks k and table_checks b k.value points
 
 -- steps of a polynomial that agrees with the points, or the rows where there is none
 abbrev pub CloneAnswer : Block → Bounds → ℕ → CloneKind → List Point → List ℕ → Type 0

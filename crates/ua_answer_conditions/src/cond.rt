@@ -29,7 +29,7 @@ fn condition(alloc: Global, name: CondWord) -> Result<Condition, AllocError>
 }
 
 /// Whether some term meets the condition of this word.
-pub fn named<R: Threads + Sync, G: Gate>(
+pub fn decide_named<R: Threads + Sync, G: Gate>(
     context: &Context<R, G>,
     known: &Known,
     name: CondWord,
@@ -57,7 +57,7 @@ pub fn answer_cond<R: Threads + Sync, G: Gate>(
     let Some(known) = context.session.find(algebra.name.text()) else {
         return refusal_reply(context.alloc, Refusal::Unknown(algebra.place));
     };
-    let answer = named(context, known, name);
+    let answer = decide_named(context, known, name);
     member_reply(context.alloc, known, context.run.budget, &answer)
 }
 

@@ -10,6 +10,6 @@ mod holds;
 
 pub use chains::{ChainWord, answer_chain, chain};
 pub use clone::answer_clone;
-pub use cond::{answer_cond, answer_nu, named, near_unanimous, variables_of};
+pub use cond::{answer_cond, answer_nu, decide_named, near_unanimous, variables_of};
 pub use condition::answer_condition;
 pub use holds::answer_holds;

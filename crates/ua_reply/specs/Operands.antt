@@ -56,8 +56,8 @@ abbrev pub positive : Number → Checks
 positive n = range_at (unless (nat_lt 0 n.value) n.place)
 
 -- there are no more variables than their limit
-abbrev pub free_checks : Number → Checks
-free_checks count = range_at (unless (nat_le count.value VARIABLES) count.place)
+abbrev pub variables_checks : Number → Checks
+variables_checks count = range_at (unless (nat_le count.value VARIABLES) count.place)
 
 -- a word is a name, and a number is below the size
 abbrev pub known_in : Block → Place → Option ℕ → Checks

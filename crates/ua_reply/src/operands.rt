@@ -8,7 +8,7 @@ ghost use Rattle.ua_table.specs.Numbering.{records};
 ghost use Rattle.ua_term.specs.Meanings.{first_place};
 ghost use Rattle.ua_close.specs.Answers.{IsCause};
 ghost use Rattle.ua_reply.specs.Checks.{AreFirst, Passes};
-ghost use Rattle.ua_reply.specs.Operands.{element_of, place_of, value_of, values_of, vectors_of, power_of, positive, free_checks, element_in, elements_in, length_in, vector_in, vectors_in, term_in, pair_of, pairs_of, IsPairIn};
+ghost use Rattle.ua_reply.specs.Operands.{element_of, place_of, value_of, values_of, vectors_of, power_of, positive, variables_checks, element_in, elements_in, length_in, vector_in, vectors_in, term_in, pair_of, pairs_of, IsPairIn};
 
 use crate::checks::FirstErrors;
 use crate::known::Known;
@@ -33,7 +33,7 @@ pub fn positive(width: Number) -> FirstErrors
 
 /// Whether there are no more variables than their limit.
 pub fn variables_in(count: Number) -> FirstErrors
-    ensures { AreFirst (free_checks count) result }
+    ensures { AreFirst (variables_checks count) result }
 {
     let mut errors = FirstErrors::none();
     if count.value > u32::from(VARIABLES) {

@@ -14,5 +14,5 @@ returns g c =
     let condition = condition_of c.args.name in
     let known = sym (c.in-Some.ensures ∙ ap (lookup s) c.text.ensures.text) in
     IfOk-weaker c.member_reply.result _ _
-    (λ v text. known_answered s c.args.algebra.now (λ k. passed) (λ k. ConditionAnswer k b condition) k v.items known refl (record { answer = c.named-answer.result; permitted = c.named-answer.ensures; told = text }))
+    (λ v text. known_answered s c.args.algebra.now (λ k. passed) (λ k. ConditionAnswer k b condition) k v.items known refl (record { answer = c.decide_named-answer.result; permitted = c.decide_named-answer.ensures; told = text }))
     c.member_reply.ensures
