@@ -8,7 +8,7 @@ use std::alloc::Global;
 use std::process::Abort;
 use std::sync::atomic::{AtomicBool, Ordering};
 use std::test::Fail;
-use std::thread::Threads;
+use std::thread::{self, Threads};
 use ua_close::{Closure, FreeGate, Gate, Listing, Run, close_set};
 use ua_table::{Elem, Frame, Vectors};
 
@@ -27,12 +27,14 @@ impl Meeting {
         }
     }
 
-    /// Whether slice 1 was begun within ten million looks.
+    /// Whether slice 1 was begun within a million looks, behind each of which another thread
+    /// may go on.
     fn waits(&self) -> bool {
-        for _ in 0..10_000_000 {
+        for _ in 0..1_000_000 {
             if self.begun.load(Ordering::SeqCst) {
                 return true;
             }
+            thread::yield_now();
         }
         false
     }

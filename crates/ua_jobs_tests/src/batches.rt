@@ -7,7 +7,7 @@ use std::process::Abort;
 use std::sync::Wait;
 use std::sync::atomic::{AtomicBool, Ordering};
 use std::test::Fail;
-use std::thread::Threads;
+use std::thread::{self, Threads};
 use ua_jobs::{JOBS, Job, batch, batch_with};
 use ua_table::{FreeGate, Gate};
 
@@ -122,12 +122,14 @@ impl Meeting {
         }
     }
 
-    /// Whether job 1 was begun within ten million looks.
+    /// Whether job 1 was begun within a million looks, behind each of which another thread
+    /// may go on.
     fn waits(&self) -> bool {
-        for _ in 0..10_000_000 {
+        for _ in 0..1_000_000 {
             if self.begun.load(Ordering::SeqCst) {
                 return true;
             }
+            thread::yield_now();
         }
         false
     }

@@ -6,7 +6,7 @@ use std::process::Abort;
 use std::sync::Wait;
 use std::sync::atomic::{AtomicBool, AtomicU32, Ordering};
 use std::test::Fail;
-use std::thread::Threads;
+use std::thread::{self, Threads};
 use ua_io::{MemSink, MemSource};
 use ua_shell::{Status, run};
 use ua_table::Gate;
@@ -26,12 +26,14 @@ struct Meeting {
 }
 
 impl Meeting {
-    /// Whether a second closure was begun within ten million looks.
+    /// Whether a second closure was begun within a million looks, behind each of which another thread
+    /// may go on.
     fn waits(&self) -> bool {
-        for _ in 0..10_000_000 {
+        for _ in 0..1_000_000 {
             if self.begun.load(Ordering::SeqCst) >= 2 {
                 return true;
             }
+            thread::yield_now();
         }
         false
     }
