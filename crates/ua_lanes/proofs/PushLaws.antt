@@ -1,19 +1,19 @@
 -- Columns with one vector more.
-use Rattle.std.proofs.Common.{◌≡◌, ◌≢◌, ℕ, ◌+◌, ◌-◌, ◌*◌, ◌/◌, ◌%◌, ◌^◌, ◌<◌, ◌≤◌, Bool, true, false, List, [], ◌∷◌, ◌++◌, length, map, take, drop, set, Vec, refl, sym, ap, ◌∙◌, subst, arith, ⊎_elim}
+use Rattle.std.proofs.Common.{◌≡◌, ◌≢◌, ℕ, ◌+◌, ◌-◌, ◌*◌, ◌/◌, ◌%◌, ◌^◌, ◌<◌, ◌≤◌, Bool, true, false, List, [], ◌∷◌, ◌++◌, length, map, take, drop, Vec, refl, sym, ap, ◌∙◌, subst, arith, ⊎_elim}
 use Rattle.std.specs.Prelude.{slice_index, slice_range, IsTrue}
-use Rattle.std.specs.List.{range_with_len}
+use Rattle.std.specs.List.{AllByRecursion, range_with_len}
 use Rattle.std.specs.declared.alloc.Global.{Global}
 use Rattle.std.proofs.Math.Nat.{mul-le-mul_right}
 use Rattle.std.proofs.Math.Seq.{drop-append_seam}
 use Rattle.std.proofs.lemmas.Grind.{same_number_lists}
 use Rattle.std.proofs.lemmas.Bool.{cases_lt, cases_eq}
-use Rattle.std.proofs.lemmas.List.{length-append, length-set, length-take-le, length-drop, take_all}
+use Rattle.std.proofs.lemmas.List.{length-append, length-take-le, length-drop, take_all}
 use Rattle.std.proofs.lemmas.List.FromFn.{length-map-range_with_len, get_or-map-range_with_len, map-range_with_len_more}
 use Rattle.ua_table.specs.Algebras.{Vector}
 use Rattle.ua_table.specs.Counting.{one_if}
 use Rattle.ua_lanes.specs.Tiles.{key_at}
 use Rattle.ua_lanes.specs.Columns.{AreSmall, entry_of, key_of, words_for, block_of, vectors_in, AreColumns}
-use Rattle.ua_lanes.proofs.ListLaws.{map_range_same, range_before, all_weaker, all_set}
+use Rattle.ua_lanes.proofs.ListLaws.{map_range_same, range_before, all_weaker}
 use Rattle.ua_lanes.proofs.ColumnLaws.{key_same}
 
 -- a vector was written at the next lane: its entries stand there, and all others as before
@@ -96,11 +96,11 @@ key_last keys key words count long one =
     ∙ take_all words key (omega (arith, one))
 
 pub pushed_columns : (width words count blocks : ℕ) (tiles : List (List (List ℕ))) (keys : Vec ℕ Global) (key front : List ℕ) (ready : Bool) → AreColumns width words count blocks tiles keys key front ready
-    → (more : List (List (List ℕ))) (v : Vector) (keys' : Vec ℕ Global) (key' : List ℕ) (slot named : ℕ)
-    → IsEntered words count tiles more v → AreSmall more → named ≤ count → count < 16 * blocks → count + 1 < 2 ^ 32
+    → (more : List (List (List ℕ))) (v : Vector) (keys' : Vec ℕ Global) (key' front' : List ℕ)
+    → IsEntered words count tiles more v → AreSmall more → 0 < length front' → AllByRecursion (λ r. r ≤ count) front' → count < 16 * blocks → count + 1 < 2 ^ 32
     → key' ≡ key_of (block_of more words (count / 16)) (count % 16) → keys'.items ≡ keys.items ++ key' → length key' ≡ words
-    → AreColumns width words (count + 1) blocks more keys' key' (set front slot named) false
-pushed_columns width words count blocks tiles keys key front ready h more v keys' key' slot named entered small last room few key_is keys_are long = record {
+    → AreColumns width words (count + 1) blocks more keys' key' front' false
+pushed_columns width words count blocks tiles keys key front ready h more v keys' key' front' entered small some named room few key_is keys_are long = record {
   narrow = h.narrow;
   words_are = h.words_are;
   small = small;
@@ -116,7 +116,7 @@ pushed_columns width words count blocks tiles keys key front ready h more v keys
       subst (λ k. key_at (keys.items ++ key') words k ≡ key_of (block_of more words (k / 16)) (k % 16)) (sym last) (key_last keys.items key' words count h.keyed long ∙ key_is))
       (cases_lt i count);
   key_long = long;
-  some = (let l = length-set front slot named in let s = h.some in omega (arith, l, s));
-  named = all_set (λ r. r ≤ count + 1 - 1) front slot named (omega (arith, last)) (all_weaker (λ r. r ≤ count - 1) (λ r. r ≤ count + 1 - 1) (λ r low. omega (arith, low)) front h.named);
+  some = some;
+  named = all_weaker (λ r. r ≤ count) (λ r. r ≤ count + 1 - 1) (λ r low. omega (arith, low)) front' named;
   room = λ t. cc;
 }

@@ -1,19 +1,19 @@
 -- Vectors in words of four entries: what the words say of them, with one more, and of the values of lines.
-use Rattle.std.proofs.Common.{◌≡◌, ℕ, suc, ◌+◌, ◌-◌, ◌*◌, ◌/◌, ◌%◌, ◌^◌, ◌<◌, ◌≤◌, Bool, false, List, [], ◌∷◌, ◌++◌, length, map, take, drop, get_or, set, Vec, refl, sym, ap, ◌∙◌, subst, arith}
+use Rattle.std.proofs.Common.{◌≡◌, ℕ, suc, ◌+◌, ◌-◌, ◌*◌, ◌/◌, ◌%◌, ◌^◌, ◌<◌, ◌≤◌, Bool, false, List, [], ◌∷◌, ◌++◌, length, map, take, drop, get_or, Vec, refl, sym, ap, ◌∙◌, subst, arith}
 use Rattle.std.specs.Prelude.{slice_index, slice_index_or, slice_range, Contains}
 use Rattle.std.specs.List.{AllByRecursion, range_with_len}
 use Rattle.std.specs.declared.alloc.Global.{Global}
 use Rattle.std.proofs.Math.Nat.{mul-le-mul_right}
 use borrow.Rule.Slice.PartMut.{put_mid, post_of}
 use Rattle.std.proofs.lemmas.Grind.{same_number_lists, div_ceil_times}
-use Rattle.std.proofs.lemmas.List.{length-append, length-set, length-drop, length-take-le, get_or_append_left, get_or-append-add, get_or-drop, get_or-take}
+use Rattle.std.proofs.lemmas.List.{length-append, length-drop, length-take-le, get_or_append_left, get_or-append-add, get_or-drop, get_or-take}
 use Rattle.std.proofs.lemmas.List.FromFn.{length-map-range_with_len, get_or-map-range_with_len, map-range_with_len_more}
 use Rattle.ua_table.specs.Algebras.{Vector}
 use Rattle.ua_rows.specs.Words.{lanes_of, words_for}
 use Rattle.ua_lanes.specs.Tiles.{key_at, IsKeyAt}
 use Rattle.ua_lanes.specs.Columns.{values_at}
 use Rattle.ua_lanes.specs.Quads.{IsBelow, quad_entry, quad_vector, quad_vectors, AreQuads, AreLongLines, values_in_word}
-use Rattle.ua_lanes.proofs.ListLaws.{range_put, range_put_before, all_or, all_below, all_set, all_weaker, all_append, map_range_same}
+use Rattle.ua_lanes.proofs.ListLaws.{range_put, range_put_before, all_or, all_below, all_weaker, all_append, map_range_same}
 
 -- ---- places
 
@@ -112,18 +112,18 @@ pushed_quads width words count keys key v is long one wide entries =
         ∙ ap (slice_index v) (let z : 4 * (x / 4) + x % 4 ≡ x = omega arith in z))
 
 pub pushed_invariant : (width size words count : ℕ) (keys : Vec ℕ Global) (key front : List ℕ) (ready : Bool) → AreQuads width size words count keys key front ready
-    → (v key' : List ℕ) (keys' : Vec ℕ Global) (slot named : ℕ) → named ≤ count → count + 1 < 2 ^ 32 → AllByRecursion (λ x. x < size) v → length key' ≡ words → keys'.items ≡ keys.items ++ key'
+    → (v key' : List ℕ) (keys' : Vec ℕ Global) (front' : List ℕ) → 0 < length front' → AllByRecursion (λ r. r ≤ count) front' → count + 1 < 2 ^ 32 → AllByRecursion (λ x. x < size) v → length key' ≡ words → keys'.items ≡ keys.items ++ key'
     → ((j e : ℕ) → j < length key' → e < 4 → slice_index (lanes_of (slice_index key' j)) e ≡ slice_index v (4 * j + e))
-    → AreQuads width size words (count + 1) keys' key' (set front slot named) false
-pushed_invariant width size words count keys key front ready h v key' keys' slot named last few small one keys_are entries = record {
+    → AreQuads width size words (count + 1) keys' key' front' false
+pushed_invariant width size words count keys key front ready h v key' keys' front' some named few small one keys_are entries = record {
   some_size = h.some_size;
   words_are = h.words_are;
   few = few;
   keyed = (let l = length-append keys.items key' in let k = h.keyed in let e = ap (length {A = ℕ}) keys_are in omega (arith, l, k, e, one));
   below = subst (AllByRecursion (IsBelow size)) (sym keys_are) (all_append (IsBelow size) keys.items key' h.below (key_below v key' size h.some_size small entries));
   key_long = one;
-  some = (let l = length-set front slot named in let s = h.some in omega (arith, l, s));
-  named = all_set (λ r. r ≤ count + 1 - 1) front slot named (omega (arith, last)) (all_weaker (λ r. r ≤ count - 1) (λ r. r ≤ count + 1 - 1) (λ r low. omega (arith, low)) front h.named);
+  some = some;
+  named = all_weaker (λ r. r ≤ count) (λ r. r ≤ count + 1 - 1) (λ r low. omega (arith, low)) front' named;
   room = λ t. cc;
 }
 

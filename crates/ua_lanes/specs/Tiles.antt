@@ -37,3 +37,7 @@ key_at keys words i = slice_range keys (i * words) (i * words + words)
 -- key i has the words of a lane
 abbrev pub IsKeyAt : List ℕ → ℕ → ℕ → List (List ℕ) → ℕ → Type 0
 IsKeyAt keys words i values lane = (j : ℕ) → j < words → slice_index (key_at keys words i) j ≡ slice_index (slice_index_or values j []) lane
+
+-- one of so many keys has the words of a lane
+abbrev pub IsSomeKeyAt : List ℕ → ℕ → ℕ → List (List ℕ) → ℕ → Type 0
+IsSomeKeyAt keys words count values lane = (i : ℕ) × (i < count) × IsKeyAt keys words i values lane

@@ -1,11 +1,14 @@
 //! The values of lines at a block of sixteen vectors, and whether they are the vectors of some keys.
 
-ghost use Rattle.std.specs.Prelude.{◌≡◌, ℕ, ◌<◌, [], length, map, slice_index, slice_index_or, IsTrue, true, false, ◌*◌, ◌/◌, ◌%◌, ◌^◌};
+ghost use Rattle.std.specs.Prelude.{◌≡◌, ℕ, ◌<◌, ◌≤◌, ◌-◌, [], length, map, slice_index, slice_index_or, IsTrue, true, false, ◌*◌, ◌/◌, ◌%◌, ◌^◌};
 ghost use Rattle.std.specs.List.{AllByRecursion, range_with_len};
-ghost use Rattle.ua_lanes.specs.Tiles.{word_at, IsKeyAt};
+ghost use Rattle.ua_lanes.specs.Tiles.{word_at, IsSomeKeyAt};
 
-use crate::fronts::{SEED, mix_all};
+use crate::fronts::{SEED, guesses, mix_all, second_guess};
 use crate::tiles::{Tile, line_words};
+
+/// The bits of sixteen lanes.
+const ALL: u32 = 0xFFFF;
 
 /// Writes the values of the lines at a block of vectors, sixteen coordinates a word, and answers a hash for each
 /// vector. The hash only guides a look-up, so nothing is said of it.
@@ -40,24 +43,103 @@ pub(crate) fn is_at(key: &[u64], values: &[[u64; 16]], lane: usize) -> bool
     bits == 0
 }
 
+/// Whether the words of a lane are those of a key, of so many.
+#[inline(always)]
+fn is_key_at(keys: &[u64], count: usize, i: usize, values: &[[u64; 16]], lane: usize) -> bool
+    requires whole { length keys.now ≡ count * length values.now }
+    requires key { i < count }
+    requires lane { lane < 16 }
+    ensures { IsTrue result → IsSomeKeyAt keys.now (length values.now) count values.now lane }
+{
+    let words = values.len();
+    let start = i * words;
+    is_at(&keys[start..start + words], values, lane)
+}
+
 /// A bit for each lane whose words are those of the key that was guessed.
 #[inline(always)]
-pub(crate) fn known_bits(
+fn known_bits(keys: &[u64], guesses: &[usize; 16], values: &[[u64; 16]], count: usize) -> u32
+    requires whole { length keys.now ≡ count * length values.now }
+    requires guesses { AllByRecursion (λ i. i < count) guesses.now }
+    ensures { (r : ℕ) → r < 16 → result / 2 ^ r % 2 ≡ 1 → IsSomeKeyAt keys.now (length values.now) count values.now r }
+{
+    let mut bits = 0;
+    for r in 0..16 {
+        let is_there = is_key_at(keys, count, guesses[r], values, r);
+        bits |= u32::from(is_there) << r;
+    }
+    bits
+}
+
+/// Whether a lane has a bit, or its words are those of the key that is guessed second.
+#[inline(always)]
+fn is_known(
     keys: &[u64],
-    guesses: &[usize; 16],
+    front: &[u32],
+    hashes: &[u64; 16],
+    values: &[[u64; 16]],
+    count: usize,
+    bits: u32,
+    lane: usize,
+) -> bool
+    requires whole { length keys.now ≡ count * length values.now }
+    requires some { 0 < length front.now }
+    requires vectors { 0 < count }
+    requires named { AllByRecursion (λ r. r ≤ count - 1) front.now }
+    requires lane { lane < 16 }
+    requires bit { bits / 2 ^ lane % 2 ≡ 1 → IsSomeKeyAt keys.now (length values.now) count values.now lane }
+    ensures { IsTrue result → IsSomeKeyAt keys.now (length values.now) count values.now lane }
+{
+    if (bits >> lane) % 2 == 1 {
+        return true;
+    }
+    let guess = second_guess(front, hashes[lane], count);
+    is_key_at(keys, count, guess, values, lane)
+}
+
+/// The bits, and those of the lanes whose words are those of the key that is guessed second.
+#[inline(always)]
+fn with_second_guesses(
+    keys: &[u64],
+    front: &[u32],
+    hashes: &[u64; 16],
+    values: &[[u64; 16]],
+    count: usize,
+    bits: u32,
+) -> u32
+    requires whole { length keys.now ≡ count * length values.now }
+    requires some { 0 < length front.now }
+    requires vectors { 0 < count }
+    requires named { AllByRecursion (λ r. r ≤ count - 1) front.now }
+    requires bits { (r : ℕ) → r < 16 → bits / 2 ^ r % 2 ≡ 1 → IsSomeKeyAt keys.now (length values.now) count values.now r }
+    ensures { (r : ℕ) → r < 16 → result / 2 ^ r % 2 ≡ 1 → IsSomeKeyAt keys.now (length values.now) count values.now r }
+{
+    let mut more = 0;
+    for r in 0..16 {
+        let is_there = is_known(keys, front, hashes, values, count, bits, r);
+        more |= u32::from(is_there) << r;
+    }
+    more
+}
+
+/// A bit for each lane whose words are those of a key that its hash lets guess.
+#[inline(always)]
+pub(crate) fn known_lanes(
+    keys: &[u64],
+    front: &[u32],
+    hashes: &[u64; 16],
     values: &[[u64; 16]],
     count: usize,
 ) -> u32
     requires whole { length keys.now ≡ count * length values.now }
-    requires guesses { AllByRecursion (λ i. i < count) guesses.now }
-    ensures { (r : ℕ) → r < 16 → result / 2 ^ r % 2 ≡ 1 → IsKeyAt keys.now (length values.now) (slice_index guesses.now r) values.now r }
+    requires some { 0 < length front.now }
+    requires vectors { 0 < count }
+    requires named { AllByRecursion (λ r. r ≤ count - 1) front.now }
+    ensures { (r : ℕ) → r < 16 → result / 2 ^ r % 2 ≡ 1 → IsSomeKeyAt keys.now (length values.now) count values.now r }
 {
-    let words = values.len();
-    let mut bits = 0;
-    for r in 0..16 {
-        let start = guesses[r] * words;
-        let is_there = is_at(&keys[start..start + words], values, r);
-        bits |= u32::from(is_there) << r;
+    let bits = known_bits(keys, &guesses(front, hashes, count), values, count);
+    if bits == ALL {
+        return bits;
     }
-    bits
+    with_second_guesses(keys, front, hashes, values, count, bits)
 }

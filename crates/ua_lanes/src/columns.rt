@@ -6,8 +6,8 @@ ghost use Rattle.std.specs.List.{AllByRecursion};
 ghost use Rattle.std.specs.Simd.Lanes.{number_l};
 ghost use Rattle.ua_lanes.specs.Columns.{AreSmall, entry_of, lane_of, key_of, block_of, words_for, AreLines, values_at};
 
-use crate::blocks::{known_bits, write_words};
-use crate::fronts::{FRONT, first_bits, guesses, hash_of, kept, reserve_slots, slot_of};
+use crate::blocks::{known_lanes, write_words};
+use crate::fronts::{FRONT, enter, first_bits, hash_of, reserve_slots};
 use crate::tiles::{LANES, Tile, push_tiles};
 use std::alloc::{AllocError, Global};
 use std::marker::Model;
@@ -257,8 +257,8 @@ impl Columns {
         let columns = block_in(self.tiles.as_slice(), self.words, block);
         write_key(columns, lane, self.key.as_mut_slice());
         self.keys.extend_from_slice(self.key.as_slice()).unwrap();
-        let slot = slot_of(hash_of(self.key.as_slice()), self.front.len());
-        self.front[slot] = kept(self.front[slot], self.count as u32);
+        let hash = hash_of(self.key.as_slice());
+        enter(&mut self.front, hash, self.count as u32);
         self.count += 1;
         self.ready = false;
     }
@@ -278,8 +278,13 @@ impl Columns {
             block_in(self.tiles.as_slice(), self.words, block),
             values,
         );
-        let guesses = guesses(self.front.as_slice(), &hashes, self.count);
-        let bits = known_bits(self.keys.as_slice(), &guesses, values, self.count);
+        let bits = known_lanes(
+            self.keys.as_slice(),
+            self.front.as_slice(),
+            &hashes,
+            values,
+            self.count,
+        );
         first_bits(bits, (self.count - LANES * block).min(LANES))
     }
 }

@@ -65,13 +65,30 @@ pub(crate) fn slot_of(hash: u64, slots: usize) -> usize
     (mixed(hash, 0) >> 20) as usize & (slots - 1)
 }
 
-/// Which vector a slot names where one more is to be entered: the one that is there, since the values that are found
-/// first come most often. An empty slot is 0, as is that of vector 0, which alone gives way.
+/// The slot that is looked at where a vector's own names another.
 #[inline(always)]
-pub(crate) fn kept(there: u32, new: u32) -> u32
-    ensures { (n : ℕ) → there ≤ n → new ≤ n → result ≤ n }
+pub(crate) fn slot_behind(slot: usize, slots: usize) -> usize
+    requires { slot < slots }
+    ensures { result < slots }
 {
-    if there == 0 { new } else { there }
+    (slot + 1) & (slots - 1)
+}
+
+/// Enters a vector in its slot, or else in the one behind, where that is empty: the values that are found first come
+/// most often, so they stay. An empty slot is 0, as is that of vector 0, which alone gives way.
+#[inline(always)]
+pub(crate) fn enter(front: &mut Vec<u32>, hash: u64, vector: u32)
+    requires some { 0 < length front.old.items }
+    ensures length { length front.new.items ≡ length front.old.items }
+    ensures named { (n : ℕ) → vector ≤ n → AllByRecursion (λ r. r ≤ n) front.old.items → AllByRecursion (λ r. r ≤ n) front.new.items }
+{
+    let mut slot = slot_of(hash, front.len());
+    if front[slot] != 0 {
+        slot = slot_behind(slot, front.len());
+    }
+    if front[slot] == 0 {
+        front[slot] = vector;
+    }
 }
 
 /// A front of so many slots, with these vectors.
@@ -91,8 +108,7 @@ fn front_of(
     let mut front = vec![in alloc; 0u32; slots]?;
     for i in 0..count {
         let start = i * words;
-        let slot = slot_of(hash_of(&keys[start..start + words]), slots);
-        front[slot] = kept(front[slot], i as u32);
+        enter(&mut front, hash_of(&keys[start..start + words]), i as u32);
     }
     Ok(front)
 }
@@ -132,6 +148,18 @@ pub(crate) fn guesses(front: &[u32], hashes: &[u64; 16], count: usize) -> [usize
         guesses[r] = front[slot_of(hashes[r], front.len())] as usize;
     }
     guesses
+}
+
+/// The vector that a hash may be that of, where the slot of the hash names another.
+#[inline(always)]
+pub(crate) fn second_guess(front: &[u32], hash: u64, count: usize) -> usize
+    requires some { 0 < length front.now }
+    requires vectors { 0 < count }
+    requires named { AllByRecursion (λ r. r ≤ count - 1) front.now }
+    ensures { result < count }
+{
+    let slots = front.len();
+    front[slot_behind(slot_of(hash, slots), slots)] as usize
 }
 
 /// The first bits, so many.

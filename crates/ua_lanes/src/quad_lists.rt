@@ -8,8 +8,8 @@ ghost use Rattle.ua_rows.specs.Words.{lanes_of, words_for};
 ghost use Rattle.ua_lanes.specs.Columns.{values_at};
 ghost use Rattle.ua_lanes.specs.Quads.{IsBelow, AreLongLines};
 
-use crate::blocks::known_bits;
-use crate::fronts::{FRONT, first_bits, guesses, hash_of, kept, reserve_slots, slot_of};
+use crate::blocks::known_lanes;
+use crate::fronts::{FRONT, enter, first_bits, hash_of, reserve_slots};
 use crate::quads::{ENTRIES, entries_of, word_of, write_values};
 use crate::tiles::LANES;
 use std::alloc::{AllocError, Global};
@@ -197,8 +197,8 @@ impl Quads {
     {
         write_key(v, self.size, self.key.as_mut_slice());
         self.keys.extend_from_slice(self.key.as_slice()).unwrap();
-        let slot = slot_of(hash_of(self.key.as_slice()), self.front.len());
-        self.front[slot] = kept(self.front[slot], self.count as u32);
+        let hash = hash_of(self.key.as_slice());
+        enter(&mut self.front, hash, self.count as u32);
         self.count += 1;
         self.ready = false;
     }
@@ -215,8 +215,13 @@ impl Quads {
         let count = (self.count - LANES * block).min(LANES);
         let keys = block_keys(self.keys.as_slice(), self.words, block, count);
         let hashes = write_values(lines, self.size, keys, count, values);
-        let guesses = guesses(self.front.as_slice(), &hashes, self.count);
-        let bits = known_bits(self.keys.as_slice(), &guesses, values, self.count);
+        let bits = known_lanes(
+            self.keys.as_slice(),
+            self.front.as_slice(),
+            &hashes,
+            values,
+            self.count,
+        );
         first_bits(bits, count)
     }
 }

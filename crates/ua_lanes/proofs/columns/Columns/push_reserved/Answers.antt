@@ -1,23 +1,23 @@
-use Rattle.std.proofs.Common.{◌≡◌, ◌+◌, ◌-◌, ◌/◌, ◌%◌, ◌≤◌, ◌++◌, ◌∷◌, [], ℕ, List, false, length, take, drop, set, sym, ap, ◌∙◌, subst, arith, cond}
+use Rattle.std.proofs.Common.{◌≡◌, ◌+◌, ◌-◌, ◌/◌, ◌%◌, ◌<◌, ◌≤◌, ◌++◌, ◌∷◌, [], ℕ, List, false, length, take, drop, sym, ap, ◌∙◌, subst, arith, cond}
 use Rattle.std.specs.Prelude.{is_ok}
 use Rattle.std.proofs.lemmas.List.{length-map}
 use Rattle.ua_table.specs.Algebras.{Vector}
 use Rattle.ua_lanes.specs.Columns.{VectorColumns, key_of, block_of, vectors_in, HasRoom, AreColumns}
-use Rattle.ua_lanes.proofs.ListLaws.{all_below, rewritten}
+use Rattle.ua_lanes.proofs.ListLaws.{all_weaker, rewritten}
 use Rattle.ua_lanes.proofs.PushLaws.{some_one, block_whole, IsEntered, pushed_vectors, pushed_columns}
 use Rattle.ua_lanes.proofs.columns.Columns.push_reserved.Goals as goal
 
 -- there is room, as the caller says
-has_room : (c : goal.After-self-5-1) → HasRoom c.self.inside.words c.self.inside.count c.self.inside.blocks c.self.inside.keys
+has_room : (c : goal.After-self-4-1) → HasRoom c.self.inside.words c.self.inside.count c.self.inside.blocks c.self.inside.keys
 has_room c = c.self.invariant.room (some_one c.self.inside.ready (let e = ap (λ (v : VectorColumns). v.spare) c.self.view_is in let s = c.requires.spare in omega (arith, e, s)))
 
 -- the tiles, written through their slice
-written : (c : goal.After-self-5-1) → take c.self.inside.tiles.len (c.enter_lane.new.tiles ++ drop (length c.enter_lane.new.tiles) c.self.inside.tiles.items) ≡ c.enter_lane.new.tiles
+written : (c : goal.After-self-4-1) → take c.self.inside.tiles.len (c.enter_lane.new.tiles ++ drop (length c.enter_lane.new.tiles) c.self.inside.tiles.items) ≡ c.enter_lane.new.tiles
 written c =
     let here = c.self.inside in
     rewritten here.tiles.len c.enter_lane.new.tiles here.tiles.items (c.enter_lane.ensures.length ∙ ap (length {A = List (List ℕ)}) c.as_mut_slice.ensures.value) (sym here.tiles.ok.0)
 
-entered : (c : goal.After-self-5-1) → IsEntered c.self.inside.words c.self.inside.count c.self.inside.tiles.items c.enter_lane.new.tiles c.args.v.now
+entered : (c : goal.After-self-4-1) → IsEntered c.self.inside.words c.self.inside.count c.self.inside.tiles.items c.enter_lane.new.tiles c.args.v.now
 entered c =
     let here = c.self.inside in
     let e = c.enter_lane.ensures in
@@ -39,12 +39,13 @@ invariant_of-self c =
     let words : length key ≡ here.words = ap (length {A = ℕ}) c.write_key.ensures ∙ length-map block _ ∙ c.block_in-columns.ensures.length in
     let keyed : take here.key.len (key ++ drop (length key) here.key.items) ≡ key = rewritten here.key.len key here.key.items (words ∙ sym c.self.invariant.key_long) (sym here.key.ok.0) in
     let added : c.extend_from_slice.new.self.items ≡ here.keys.items ++ key = c.extend_from_slice.ensures.items ∙ ap (λ r. cond (is_ok r) (here.keys.items ++ c.as_slice-2.result.now) here.keys.items) c.unwrap.ensures ∙ ap (λ (k : List ℕ). here.keys.items ++ k) (c.as_slice-2.ensures.value ∙ keyed) in
-    let last : c.kept.result ≤ here.count = c.kept.ensures here.count (let b = all_below (λ r. r ≤ here.count - 1) here.front.items c.slot_of-slot.result c.index.result.now (let s = c.slot_of-slot.ensures in omega (arith, s)) c.self.invariant.named in omega (arith, b)) (omega arith) in
+    let named = c.enter.ensures.named here.count (omega arith) (all_weaker (λ r. r ≤ here.count - 1) (λ r. r ≤ here.count) (λ r low. omega (arith, low)) here.front.items c.self.invariant.named) in
+    let some : 0 < length c.enter.new.front.items = (let l = c.enter.ensures.length in let s = c.self.invariant.some in omega (arith, l, s)) in
     let is : key ≡ key_of (block_of c.enter_lane.new.tiles here.words (here.count / 16)) (here.count % 16) = c.write_key.ensures ∙ ap (λ (b : List (List (List ℕ))). key_of b (here.count % 16)) (c.block_in-columns.ensures.block ∙ ap (λ (ts : List (List (List ℕ))). block_of ts here.words (here.count / 16)) (c.as_slice.ensures.value ∙ written c)) in
-    subst (λ (q : List (List (List ℕ)) × List ℕ). AreColumns here.width here.words (here.count + 1) here.blocks q.0 c.extend_from_slice.new.self q.1 (set here.front.items c.slot_of-slot.result c.kept.result) false)
+    subst (λ (q : List (List (List ℕ)) × List ℕ). AreColumns here.width here.words (here.count + 1) here.blocks q.0 c.extend_from_slice.new.self q.1 c.enter.new.front.items false)
     (λ j. (sym (written c) j, sym keyed j))
     (pushed_columns here.width here.words here.count here.blocks here.tiles.items here.keys here.key.items here.front.items here.ready c.self.invariant
-    c.enter_lane.new.tiles c.args.v.now c.extend_from_slice.new.self key c.slot_of-slot.result c.kept.result (entered c) e.small last (has_room c).block (has_room c).few is added words)
+    c.enter_lane.new.tiles c.args.v.now c.extend_from_slice.new.self key c.enter.new.front.items (entered c) e.small some named (has_room c).block (has_room c).few is added words)
 
 pub returns-clause-items : goal.returns-clause-items
 returns-clause-items c =

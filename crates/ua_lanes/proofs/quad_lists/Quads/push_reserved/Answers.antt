@@ -1,9 +1,9 @@
-use Rattle.std.proofs.Common.{◌≡◌, ◌+◌, ◌-◌, ◌<◌, ◌≤◌, ◌++◌, ◌∷◌, [], ℕ, List, false, length, take, drop, set, sym, ap, ◌∙◌, subst, arith, cond}
+use Rattle.std.proofs.Common.{◌≡◌, ◌+◌, ◌-◌, ◌<◌, ◌≤◌, ◌++◌, ◌∷◌, [], ℕ, List, false, length, take, drop, sym, ap, ◌∙◌, subst, arith, cond}
 use Rattle.std.specs.Prelude.{is_ok}
 use Rattle.std.specs.List.{AllByRecursion}
 use Rattle.ua_table.specs.Algebras.{Vector}
 use Rattle.ua_lanes.specs.Quads.{QuadVectors, quad_vectors, AreQuads}
-use Rattle.ua_lanes.proofs.ListLaws.{all_below, rewritten}
+use Rattle.ua_lanes.proofs.ListLaws.{all_weaker, rewritten}
 use Rattle.ua_lanes.proofs.PushLaws.{some_one}
 use Rattle.ua_lanes.proofs.QuadLaws.{pushed_quads, pushed_invariant}
 use Rattle.ua_lanes.proofs.quad_lists.Quads.push_reserved.Goals as goal
@@ -17,10 +17,11 @@ invariant_of-self c =
     let words : length key ≡ here.words = c.write_key.ensures.length ∙ ap (length {A = ℕ}) c.as_mut_slice.ensures.value ∙ h.key_long in
     let keyed : take here.key.len (key ++ drop (length key) here.key.items) ≡ key = rewritten here.key.len key here.key.items (words ∙ sym h.key_long) (sym here.key.ok.0) in
     let added : c.extend_from_slice.new.self.items ≡ here.keys.items ++ key = c.extend_from_slice.ensures.items ∙ ap (λ r. cond (is_ok r) (here.keys.items ++ c.as_slice.result.now) here.keys.items) c.unwrap.ensures ∙ ap (λ (k : List ℕ). here.keys.items ++ k) (c.as_slice.ensures.value ∙ keyed) in
-    let last : c.kept.result ≤ here.count = c.kept.ensures here.count (let b = all_below (λ r. r ≤ here.count - 1) here.front.items c.slot_of-slot.result c.index.result.now (let s = c.slot_of-slot.ensures in omega (arith, s)) h.named in omega (arith, b)) (omega arith) in
+    let named = c.enter.ensures.named here.count (omega arith) (all_weaker (λ r. r ≤ here.count - 1) (λ r. r ≤ here.count) (λ r low. omega (arith, low)) here.front.items h.named) in
+    let some : 0 < length c.enter.new.front.items = (let l = c.enter.ensures.length in let s = h.some in omega (arith, l, s)) in
     let small = subst (λ n. AllByRecursion (λ x. x < n) c.args.v.now) (sym (ap (λ (v : QuadVectors). v.size) c.self.view_is)) c.requires.entries in
-    subst (λ (k : List ℕ). AreQuads here.width here.size here.words (here.count + 1) c.extend_from_slice.new.self k (set here.front.items c.slot_of-slot.result c.kept.result) false) (sym keyed)
-    (pushed_invariant here.width here.size here.words here.count here.keys here.key.items here.front.items here.ready h c.args.v.now key c.extend_from_slice.new.self c.slot_of-slot.result c.kept.result last room.few small words added c.write_key.ensures.entries)
+    subst (λ (k : List ℕ). AreQuads here.width here.size here.words (here.count + 1) c.extend_from_slice.new.self k c.enter.new.front.items false) (sym keyed)
+    (pushed_invariant here.width here.size here.words here.count here.keys here.key.items here.front.items here.ready h c.args.v.now key c.extend_from_slice.new.self c.enter.new.front.items some named room.few small words added c.write_key.ensures.entries)
 
 pub returns-clause-items : goal.returns-clause-items
 returns-clause-items c =
