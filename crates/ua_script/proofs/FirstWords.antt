@@ -1,5 +1,5 @@
 -- The search for the first word of a command.
-use Rattle.std.proofs.Common.{rules, ◌≡◌, ◌<◌, ◌∙◌, ◌+◌, ℕ, List, length, drop, get_or, false, if◌then◌else◌, Some, ap}
+use Rattle.std.proofs.Common.{◌≡◌, ◌<◌, ◌∙◌, ◌+◌, ℕ, List, length, drop, get_or, false, if◌then◌else◌, Some, ap}
 use Rattle.std.proofs.lemmas.List.{at_drop_more}
 use Rattle.ua_text.specs.Words.{same}
 use Rattle.ua_script.specs.declared.commands.FirstWord.{FirstWord}

@@ -25,11 +25,10 @@ use Rattle.ua_operands.specs.declared.written.CloneWord.{CloneWord}
 use Rattle.ua_operands.specs.declared.written.PointsText.{PointsText}
 use Rattle.ua_operands.specs.declared.written.SeriesWord.{SeriesWord}
 use Rattle.ua_script.specs.declared.script.MakeForm.{MakeForm}
-use Rattle.ua_script.specs.declared.script.MakeForm.TheVariants.{Sub}
 use Rattle.ua_script.specs.declared.script.Provable.TheVariants as provables
 use Rattle.ua_script.specs.declared.script.Command.TheVariants as commands
 use Rattle.ua_script.specs.declared.script.Item.TheVariants as items
-use Rattle.ua_operands.specs.Written.{word, further, number, vector, part, identity, points, clone_word, cond_word, series_word, mode}
+use Rattle.ua_operands.specs.Written.{word, number, vector, part, identity, points, clone_word, cond_word, series_word, mode}
 use Rattle.ua_script.specs.Grammar.{construction, forms_built}
 use Rattle.ua_script.specs.declared.commands.FirstWord.{FirstWord}
 use Rattle.ua_script.specs.declared.commands.FirstWord.TheVariants as firsts

@@ -9,8 +9,6 @@ use Rattle.ua_operands.specs.declared.written.Entry.TheVariants as entries
 use Rattle.ua_operands.specs.declared.written.Items.{Items}
 use Rattle.ua_script.specs.declared.script.Provable.{Provable}
 use Rattle.ua_script.specs.declared.script.Provable.TheVariants as provables
-use Rattle.ua_operands.specs.declared.written.CloneWord.{CloneWord}
-use Rattle.ua_operands.specs.declared.written.CloneWord.TheVariants.{Term, Polynomial}
 use Rattle.ua_operands.specs.declared.written.PointsText.{PointsText}
 use Rattle.ua_operands.specs.declared.written.PointsText.TheVariants.{Total, Partial}
 use Rattle.ua_script.specs.declared.script.MakeForm.{MakeForm}
@@ -20,7 +18,6 @@ use Rattle.ua_script.specs.declared.script.Command.TheVariants as commands
 use Rattle.ua_script.specs.declared.script.Item.{Item}
 use Rattle.ua_script.specs.declared.script.Item.TheVariants as items
 use Rattle.ua_script.specs.declared.script.Script.{Script}
-use Rattle.ua_operands.specs.Written.{points, clone_word, vector}
 use Rattle.ua_script.specs.Grammar.{IsEntry, IsVector, AreVectors, IsProvable, IsConstruction, IsCommand, IsItem, IsWellFormed, migrated, ArePoints}
 
 later_names : (version size : ℕ) (names : List (List ℕ)) → MayName version size names → MayName 2 size names

@@ -14,7 +14,6 @@ use Rattle.ua_operands.specs.declared.written.PointsText.{PointsText}
 use Rattle.ua_operands.specs.declared.written.PointsText.TheVariants.{Total, Partial}
 use Rattle.ua_script.specs.declared.script.MakeForm.{MakeForm}
 use Rattle.ua_script.specs.declared.script.MakeForm.TheVariants.{Product, Quotient, Sub, Reduct}
-use Rattle.ua_script.specs.declared.script.Command.TheVariants as commands
 use Rattle.ua_operands.specs.Written.{further, number, entry, vector, part, part_blocks, points, names}
 use Rattle.ua_script.specs.Grammar.{IsPart, construction, IsConstruction, forms_built}
 use Rattle.ua_operands.specs.Reading.{IsShort, IsShortEntry, IsShortVector, IsShortBlock, IsNamed, ArePointsShort}

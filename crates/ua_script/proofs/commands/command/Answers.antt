@@ -1,4 +1,4 @@
-use Rattle.std.proofs.Common.{rules, ◌≡◌, ◌∷◌, ◌++◌, [], true, false, codes, refl, ap, ◌∙◌}
+use Rattle.std.proofs.Common.{rules, ◌≡◌, ◌++◌, [], true, false, codes, refl, ap, ◌∙◌}
 use Rattle.ua_text.specs.declared.symbols.Role.TheVariants as roles
 use Rattle.ua_text.specs.declared.readers.Miss.TheVariants as misses
 use Rattle.ua_text.specs.Tokens.{tokens_left}

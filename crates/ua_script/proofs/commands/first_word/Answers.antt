@@ -1,4 +1,4 @@
-use Rattle.std.proofs.Common.{rules, ◌≡◌, ◌∙◌, sym, ap}
+use Rattle.std.proofs.Common.{◌∙◌, sym, ap}
 use Rattle.ua_text.specs.Words.{same}
 use Rattle.ua_script.specs.Reading.{first_words}
 use Rattle.ua_script.proofs.FirstWords.{found_first-other}

@@ -1,4 +1,4 @@
-use Rattle.std.proofs.Common.{rules, ◌≡◌, ◌∷◌, ◌++◌, [], codes}
+use Rattle.std.proofs.Common.{rules, ◌∷◌, ◌++◌}
 use Rattle.ua_text.specs.declared.symbols.Role.TheVariants as roles
 use Rattle.ua_operands.specs.Written.{number, mode}
 use Rattle.ua_script.proofs.commands.free.Goals as goal

@@ -1,4 +1,4 @@
-use Rattle.std.proofs.Common.{rules, ◌≡◌, ◌∷◌, ◌++◌, [], codes, refl}
+use Rattle.std.proofs.Common.{rules, ◌∷◌, ◌++◌, [], codes, refl}
 use Rattle.ua_text.specs.declared.symbols.Role.TheVariants as roles
 use Rattle.ua_text.specs.Signs.{sign}
 use Rattle.ua_term.specs.Terms.{term}

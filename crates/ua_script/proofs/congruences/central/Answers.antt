@@ -1,4 +1,4 @@
-use Rattle.std.proofs.Common.{rules, ◌≡◌, ◌∷◌, ◌++◌, [], refl}
+use Rattle.std.proofs.Common.{rules, ◌++◌, refl}
 use Rattle.ua_operands.specs.Written.{part}
 use Rattle.ua_script.proofs.congruences.central.Goals as goal
 

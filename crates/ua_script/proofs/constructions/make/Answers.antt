@@ -1,4 +1,4 @@
-use Rattle.std.proofs.Common.{rules, ◌≡◌, ◌∷◌, ◌++◌, [], codes}
+use Rattle.std.proofs.Common.{rules, ◌++◌}
 use Rattle.ua_script.specs.Grammar.{construction}
 use Rattle.ua_script.proofs.constructions.make.Goals as goal
 

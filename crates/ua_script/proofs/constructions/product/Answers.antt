@@ -1,4 +1,4 @@
-use Rattle.std.proofs.Common.{rules, ◌≡◌, ◌∷◌, ◌++◌, [], codes}
+use Rattle.std.proofs.Common.{rules, ◌∷◌}
 use Rattle.ua_operands.specs.Written.{word}
 use Rattle.ua_script.proofs.constructions.product.Goals as goal
 

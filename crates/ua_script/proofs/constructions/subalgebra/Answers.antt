@@ -1,4 +1,4 @@
-use Rattle.std.proofs.Common.{rules, ◌≡◌, ◌∷◌, ◌++◌, [], codes}
+use Rattle.std.proofs.Common.{rules, ◌++◌}
 use Rattle.ua_operands.specs.Written.{vector}
 use Rattle.ua_script.proofs.constructions.subalgebra.Goals as goal
 
