@@ -1,191 +1,107 @@
-//! Algebras and generators, and the text of a listing.
+//! Algebras, frames and generators, each by its text.
 
 ghost use Rattle.std.specs.Prelude.{IfOk};
 ghost use Rattle.std.specs.List.{AllByRecursion};
 ghost use Rattle.ua_table.specs.Algebras.{IsVector};
 
-use std::alloc::Global;
+use std::alloc::{AllocError, Global};
 use std::process::Abort;
 use std::test::Fail;
-use ua_close::Listing;
-use ua_table::{Algebra, Elem, Frame, Name, OpTable, Origin, Vectors};
+use ua_table::{Algebra, Elem, Frame, Name, OpTable, Vectors};
 
-/// Adds an operation by its name, its arity and its values.
-fn add(
-    ops: &mut Vec<OpTable>,
-    alloc: Global,
-    size: u32,
-    name: &[u8],
-    arity: u8,
-    values: Vec<Elem>,
-) -> Result<(), Fail> {
-    let name = Name::new(alloc, name)?;
-    ops.push(OpTable::new(name, size, arity, values)?)?;
-    Ok(())
+/// The algebras with this name. Each line has a size, and the name, the arity and the values of each operation.
+fn tables(name: &str) -> &'static str {
+    match name {
+        "one" => "1: f 4 0",
+        "pointed" => "2: c 0 1",
+        "meet" => "2: meet 2 0001",
+        "lattice" => "2: meet 2 0001, join 2 0111",
+        // The sums modulo 2 and modulo 3, and those modulo 2 and modulo 4.
+        "sums" => "2: plus 2 0110\n3: plus 2 012120201",
+        "groups" => "2: plus 2 0110\n4: plus 2 0123123023013012",
+        // One operation of each arity: a + 2bc + d, 2, the swap of 0 and 1, and ab, modulo 3.
+        "arities" => {
+            "3: f 4 012012012012201120012120201120120120120012201120201012201201201201120012201012120, two 0 2, swap 1 102, times 2 000012021"
+        }
+        // Three cycles of 7, 11 and 13 elements, each moved by an operation of its own.
+        "cycles" => {
+            "31: a 1 1234560789abcdefghijklmnopqrstu, b 1 012345689abcdefgh7ijklmnopqrstu, c 1 0123456789abcdefghjklmnopqrstui"
+        }
+        _ => "",
+    }
 }
 
-fn algebra_of(alloc: Global, size: u32, ops: Vec<OpTable>) -> Result<Algebra, Fail> {
+/// The element of a digit, or of a letter for 10 and more.
+fn element(b: u8) -> Elem {
+    let zero = if b < b'a' { b'0' } else { b'a' - 10 };
+    Elem::from(b.saturating_sub(zero))
+}
+
+pub(crate) fn elements(alloc: Global, digits: &str) -> Result<Vec<Elem>, AllocError> {
+    let mut values = Vec::new(alloc);
+    for b in digits.as_bytes() {
+        values.push(element(*b))?;
+    }
+    Ok(values)
+}
+
+fn operation(alloc: Global, size: u32, text: &str) -> Result<OpTable, Fail> {
+    let mut words = text.split(' ');
+    let name = words.next().unwrap_or("");
+    let arity = words.next().unwrap_or("").parse()?;
+    let values = elements(alloc, words.next().unwrap_or(""))?;
+    let name = Name::new(alloc, name.as_bytes())?;
+    Ok(OpTable::new(name, size, arity, values)?)
+}
+
+fn operations(alloc: Global, size: u32, text: &str) -> Result<Vec<OpTable>, Fail> {
+    let mut ops = Vec::new(alloc);
+    for op in text.split(", ") {
+        ops.push(operation(alloc, size, op)?)?;
+    }
+    Ok(ops)
+}
+
+fn algebra(alloc: Global, line: &str) -> Result<Algebra, Fail> {
+    let (size, ops) = line.split_once(": ").ok_or("no size")?;
+    let size = size.parse()?;
+    let ops = operations(alloc, size, ops)?;
     Ok(Algebra::new(Name::new(alloc, b"A")?, size, ops)?)
 }
 
-/// An algebra of this size by the name, the arity and the values of each operation.
-pub(crate) fn algebra(
-    alloc: Global,
-    size: u32,
-    ops: &[(&[u8], u8, &[Elem])],
-) -> Result<Algebra, Fail> {
-    let mut tables = Vec::new(alloc);
-    for (name, arity, values) in ops {
-        let values = values.to_vec(alloc)?;
-        add(&mut tables, alloc, size, name, *arity, values)?;
+/// The algebras with this name.
+pub(crate) fn algebras(alloc: Global, name: &str) -> Result<Vec<Algebra>, Fail> {
+    let mut algebras = Vec::new(alloc);
+    for line in tables(name).lines() {
+        algebras.push(algebra(alloc, line)?)?;
     }
-    algebra_of(alloc, size, tables)
+    Ok(algebras)
 }
 
-pub(crate) fn meet(alloc: Global) -> Result<Algebra, Fail> {
-    algebra(alloc, 2, &[(b"meet", 2, &[0, 0, 0, 1])])
-}
-
-/// Two elements with meet and join.
-pub(crate) fn lattice(alloc: Global) -> Result<Algebra, Fail> {
-    algebra(
-        alloc,
-        2,
-        &[(b"meet", 2, &[0, 0, 0, 1]), (b"join", 2, &[0, 1, 1, 1])],
-    )
-}
-
-/// The sums modulo 2 and modulo 3.
-pub(crate) fn sums(alloc: Global) -> Result<[Algebra; 2], Fail> {
-    let two = algebra(alloc, 2, &[(b"plus", 2, &[0, 1, 1, 0])])?;
-    let three = algebra(alloc, 3, &[(b"plus", 2, &[0, 1, 2, 1, 2, 0, 2, 0, 1])])?;
-    Ok([two, three])
-}
-
-/// The values of a + 2bc + d modulo 3.
-fn quaternary(alloc: Global) -> Result<Vec<Elem>, Fail> {
-    let mut values = Vec::new(alloc);
-    for n in 0..81_u32 {
-        let product = (n / 9 % 3).wrapping_mul(n / 3 % 3);
-        let sum = (n / 27).wrapping_add(product.wrapping_mul(2));
-        values.push((sum.wrapping_add(n % 3) % 3) as Elem)?;
+/// The power of one algebra, or the product of two.
+pub(crate) fn frame_of(alloc: Global, algebras: &[Algebra], width: u32) -> Result<Frame<'_>, Fail> {
+    match algebras {
+        [algebra] => Ok(Frame::power(algebra, width)?),
+        [_, _] => Ok(Frame::mixed(algebras, [0, 1].to_vec(alloc)?)?),
+        _ => Err("neither one algebra nor two".into()),
     }
-    Ok(values)
 }
 
-/// One operation of each arity: that of `quaternary`, 2, the swap of 0 and 1, and ab modulo 3.
-pub(crate) fn all_arities(alloc: Global) -> Result<Algebra, Fail> {
-    let mut ops = Vec::new(alloc);
-    add(&mut ops, alloc, 3, b"f", 4, quaternary(alloc)?)?;
-    add(&mut ops, alloc, 3, b"two", 0, [2].to_vec(alloc)?)?;
-    add(&mut ops, alloc, 3, b"swap", 1, [1, 0, 2].to_vec(alloc)?)?;
-    let times = [0, 0, 0, 0, 1, 2, 0, 2, 1].to_vec(alloc)?;
-    add(&mut ops, alloc, 3, b"times", 2, times)?;
-    algebra_of(alloc, 3, ops)
-}
-
-/// The values of a permutation of 31 elements that moves each from one up to another to the next one, and
-/// the last to the first, and no others.
-fn cycle(alloc: Global, from: Elem, to: Elem) -> Result<Vec<Elem>, Fail> {
-    let mut values = Vec::new(alloc);
-    for x in 0..31 {
-        let value = if x < from || x >= to {
-            x
-        } else if x + 1 == to {
-            from
-        } else {
-            x + 1
-        };
-        values.push(value)?;
-    }
-    Ok(values)
-}
-
-/// Three cycles of 7, 11 and 13 elements, each moved by an operation of its own.
-pub(crate) fn cycles(alloc: Global) -> Result<Algebra, Fail> {
-    let mut ops = Vec::new(alloc);
-    for (name, from, to) in [(b"a", 0, 7), (b"b", 7, 18), (b"c", 18, 31)] {
-        add(&mut ops, alloc, 31, name, 1, cycle(alloc, from, to)?)?;
-    }
-    algebra_of(alloc, 31, ops)
-}
-
+/// The vectors of a text, each by its digits.
 pub(crate) fn generators(
     rt: &impl Abort,
     alloc: Global,
     frame: &Frame,
-    vectors: &[&[Elem]],
+    text: &str,
 ) -> Result<Vectors, Fail>
     ensures { IfOk result (λ gens. AllByRecursion (IsVector frame.now) gens.items) }
 {
     let mut gens = Vectors::new(alloc, frame.width());
-    for v in vectors {
-        assert!(rt; gens.len() < 100);
-        assert!(rt; frame.admits(v));
-        assert!(rt; v.len() == gens.width() as usize);
-        gens.add(v)?;
+    for digits in text.split_whitespace() {
+        let v = elements(alloc, digits)?;
+        assert!(rt; gens.len() < 100 && v.len() == gens.width() as usize);
+        assert!(rt; frame.admits(v.as_slice()));
+        gens.add(v.as_slice())?;
     }
     Ok(gens)
-}
-
-fn digit(n: u32) -> u8 {
-    b'0' + (n % 10) as u8
-}
-
-fn put_digits(text: &mut Vec<u8>, v: &[Elem]) -> Result<(), Fail> {
-    for x in v {
-        text.push(digit(u32::from(*x)))?;
-    }
-    Ok(())
-}
-
-/// `g` and the index of a generator, or an operation and its four arguments.
-fn put_origin(text: &mut Vec<u8>, origin: Origin) -> Result<(), Fail> {
-    match origin {
-        Origin::Gen { index } => {
-            text.push(b'g')?;
-            text.push(digit(index))?;
-        }
-        Origin::Op { op, args } => {
-            text.push(digit(op))?;
-            for a in &args {
-                text.push(digit(*a))?;
-            }
-        }
-    }
-    Ok(())
-}
-
-/// The rows as text: the vector, the rank and the origin of each, with digits for numbers below 10.
-pub(crate) fn rows_text(alloc: Global, list: &Listing) -> Result<Vec<u8>, Fail> {
-    let mut text = Vec::new(alloc);
-    for i in 0..list.len() {
-        put_digits(&mut text, list.row(i))?;
-        text.push(b':')?;
-        text.push(digit(list.rank(i)))?;
-        text.push(b' ')?;
-        put_origin(&mut text, list.origin(i))?;
-        text.push(b'\n')?;
-    }
-    Ok(text)
-}
-
-/// Steps as text, the origin of each.
-pub(crate) fn steps_text(alloc: Global, steps: &[Origin]) -> Result<Vec<u8>, Fail> {
-    let mut text = Vec::new(alloc);
-    for step in steps {
-        put_origin(&mut text, *step)?;
-        text.push(b'\n')?;
-    }
-    Ok(text)
-}
-
-/// The vectors of rows as text.
-pub(crate) fn vectors_text(alloc: Global, list: &Listing) -> Result<Vec<u8>, Fail> {
-    let mut text = Vec::new(alloc);
-    for i in 0..list.len() {
-        put_digits(&mut text, list.row(i))?;
-        text.push(b'\n')?;
-    }
-    Ok(text)
 }

@@ -2,6 +2,8 @@
 #![tactic(auto)]
 
 #[cfg(test)]
+mod asked;
+#[cfg(test)]
 mod closures;
 #[cfg(test)]
 mod given;
@@ -13,3 +15,5 @@ mod memberships;
 mod reaches;
 #[cfg(test)]
 mod runs;
+#[cfg(test)]
+mod texts;

@@ -3,14 +3,14 @@
 ghost use Rattle.std.specs.List.{AllByRecursion};
 ghost use Rattle.ua_table.specs.Algebras.{IsVector};
 
-use crate::given::{cycles, generators, meet, vectors_text};
+use crate::asked::{Call, expect};
+use crate::texts::put_vectors;
 use std::alloc::Global;
-use std::process::Abort;
 use std::sync::atomic::{AtomicBool, Ordering};
 use std::test::Fail;
 use std::thread::{self, Threads};
 use ua_close::{Closure, FreeGate, Gate, Listing, Run, close_set};
-use ua_table::{Elem, Frame, Vectors};
+use ua_table::{Frame, Vectors};
 
 /// A gate at which whoever begins slice 0 waits until slice 1 is begun.
 #[derive(Drop)]
@@ -68,55 +68,105 @@ fn closed<R: Threads + Sync, G: Gate>(
     }
 }
 
-/// A lone worker waits in vain; two or more meet, and list the same.
-#[test]
-fn workers_meet(rt: HostRuntime) -> Result<(), Fail> {
-    let alloc = rt.alloc();
-    let meet = meet(alloc)?;
-    let frame = Frame::power(&meet, 3)?;
-    let vectors: [&[Elem]; 4] = [&[0, 1, 1], &[1, 0, 1], &[1, 1, 0], &[1, 1, 1]];
-    let gens = generators(&rt, alloc, &frame, &vectors)?;
-    for (workers, met) in [(1, false), (2, true), (16, true)] {
-        let meeting = Meeting::new();
-        let run = Run::new(10_000, workers, &meeting).ok_or("a number out of its limits")?;
-        let list = closed(&rt, alloc, &frame, &gens, &run)?;
-        assert_eq!(rt;
-            meeting.met.load(Ordering::SeqCst),
-            met,
-            "{workers} workers"
-        );
-        let text = vectors_text(alloc, &list)?;
-        assert_eq!(rt;
-            text.as_slice(),
-            b"000\n001\n010\n011\n100\n101\n110\n111\n".as_slice()
-        );
-    }
+/// Whether two workers met, and the rows that are listed.
+pub(crate) fn put_meeting<R: Threads + Sync>(
+    rt: &R,
+    alloc: Global,
+    frame: &Frame,
+    gens: &Vectors,
+    run: &Run<FreeGate>,
+    text: &mut String,
+) -> Result<(), Fail>
+    requires { AllByRecursion (IsVector frame.now) gens.now.items }
+{
+    let meeting = Meeting::new();
+    let run = Run::new(run.budget, run.workers, &meeting).ok_or("out of its limits")?;
+    let list = closed(rt, alloc, frame, gens, &run)?;
+    let met = meeting.met.load(Ordering::SeqCst);
+    put_met(text, met, &list)
+}
+
+fn put_met(text: &mut String, met: bool, list: &Listing) -> Result<(), Fail> {
+    text.push_str(if met { "met" } else { "alone" })?;
+    put_vectors(text, list)?;
     Ok(())
 }
 
-/// Compares the vectors of two listings.
-fn same_vectors(rt: &impl Abort, one: &Listing, other: &Listing) {
-    assert_eq!(rt; one.len(), other.len());
-    for i in 0..one.len() {
-        assert_eq!(rt; one.row(i), other.row(i));
+/// A lone worker waits in vain; two or more meet, and list the same.
+#[test]
+fn workers_meet(rt: HostRuntime) -> Result<(), Fail> {
+    let lone = "meet 3, 011 101 110 111, 10000 => alone 000 001 010 011 100 101 110 111";
+    expect(&rt, rt.alloc(), &Call::Meeting, &[1], lone)?;
+    let several = "meet 3, 011 101 110 111, 10000 => met 000 001 010 011 100 101 110 111";
+    expect(&rt, rt.alloc(), &Call::Meeting, &[2, 16], several)
+}
+
+/// Whether two listings have the same vectors.
+fn have_same_vectors(one: &Listing, other: &Listing) -> bool {
+    one.len() == other.len() && (0..one.len()).all(|i| one.row(i) == other.row(i))
+}
+
+/// Whether so many workers list the same vectors.
+fn list_same<R: Threads + Sync>(
+    rt: &R,
+    alloc: Global,
+    frame: &Frame,
+    gens: &Vectors,
+    run: &Run<FreeGate>,
+    list: &Listing,
+) -> Result<bool, Fail>
+    requires { AllByRecursion (IsVector frame.now) gens.now.items }
+{
+    let other = closed(rt, alloc, frame, gens, run)?;
+    Ok(have_same_vectors(list, &other))
+}
+
+/// How often 2 and 16 workers list the same vectors, of 200 times.
+fn count_same<R: Threads + Sync>(
+    rt: &R,
+    alloc: Global,
+    frame: &Frame,
+    gens: &Vectors,
+    budget: u32,
+    list: &Listing,
+) -> Result<u32, Fail>
+    requires { AllByRecursion (IsVector frame.now) gens.now.items }
+{
+    let mut same: u32 = 0;
+    for turn in 0..200 {
+        let workers = if turn % 4 == 0 { 2 } else { 16 };
+        let run = Run::new(budget, workers, &FreeGate).ok_or("out of its limits")?;
+        if list_same(rt, alloc, frame, gens, &run, list)? {
+            same = same.wrapping_add(1);
+        }
     }
+    Ok(same)
+}
+
+fn put_counts(text: &mut String, rows: u32, same: u32) -> Result<(), Fail> {
+    write!(text, "{rows} rows, {same} times")?;
+    Ok(())
+}
+
+/// How many rows a lone worker lists, and how often more of them list the same.
+pub(crate) fn put_often<R: Threads + Sync>(
+    rt: &R,
+    alloc: Global,
+    frame: &Frame,
+    gens: &Vectors,
+    run: &Run<FreeGate>,
+    text: &mut String,
+) -> Result<(), Fail>
+    requires { AllByRecursion (IsVector frame.now) gens.now.items }
+{
+    let list = closed(rt, alloc, frame, gens, run)?;
+    let same = count_same(rt, alloc, frame, gens, run.budget, &list)?;
+    put_counts(text, list.len(), same)
 }
 
 /// 1,001 rows from one.
 #[test]
 fn many_workers_often(rt: HostRuntime) -> Result<(), Fail> {
-    let alloc = rt.alloc();
-    let cycles = cycles(alloc)?;
-    let frame = Frame::power(&cycles, 3)?;
-    let gens = generators(&rt, alloc, &frame, &[&[0, 7, 18]])?;
-    let lone = Run::new(1_001, 1, &FreeGate).ok_or("a number out of its limits")?;
-    let list = closed(&rt, alloc, &frame, &gens, &lone)?;
-    assert_eq!(rt; list.len(), 1_001);
-    for turn in 0..200 {
-        let workers = if turn % 4 == 0 { 2 } else { 16 };
-        let run = Run::new(1_001, workers, &FreeGate).ok_or("a number out of its limits")?;
-        let other = closed(&rt, alloc, &frame, &gens, &run)?;
-        same_vectors(&rt, &list, &other);
-    }
-    Ok(())
+    let case = "cycles 3, 07i, 1001 => 1001 rows, 200 times";
+    expect(&rt, rt.alloc(), &Call::Often, &[1], case)
 }

@@ -1,148 +1,112 @@
 //! Closures with a goal, with 1, 2 and 16 workers.
 
-use crate::given::{algebra, cycles, generators, meet, rows_text};
+ghost use Rattle.std.specs.List.{AllByRecursion};
+ghost use Rattle.ua_table.specs.Algebras.{IsVector};
+ghost use Rattle.ua_work.specs.Goals.{IsGoal};
+
+use crate::asked::{ANY, Call, expect};
+use crate::closures::put_list;
+use crate::given::elements;
 use std::alloc::Global;
 use std::process::Abort;
 use std::test::Fail;
 use std::thread::Threads;
 use ua_close::calls::reach;
 use ua_close::{FreeGate, Goal, Listing, Reach, Run};
-use ua_table::{Elem, Frame};
+use ua_table::{Frame, Vectors};
 
-/// Which answer a closure with a goal gives.
-#[derive(Clone, Copy, Debug, PartialEq, Eq)]
-enum Told {
-    Closed,
-    Exceeds,
-    Met,
-}
-
-fn answered(reach: Reach) -> (Told, Listing) {
+fn answered(reach: Reach) -> (&'static str, Listing) {
     match reach {
-        Reach::Closed(list) => (Told::Closed, list),
-        Reach::Exceeds(list) => (Told::Exceeds, list),
-        Reach::Met(list) => (Told::Met, list),
+        Reach::Closed(list) => ("closed", list),
+        Reach::Exceeds(list) => ("exceeds", list),
+        Reach::Met(list) => ("met", list),
     }
 }
 
-/// The answer to the goal of this vector, or else to that of a clash.
-fn reached<R: Threads + Abort + Sync>(
+/// The answer to a goal, and its rows.
+fn put_reached<R: Threads + Sync>(
     rt: &R,
     alloc: Global,
     frame: &Frame,
-    vectors: &[&[Elem]],
-    target: Option<&[Elem]>,
-    budget: u32,
-    workers: u32,
-) -> Result<(Told, Listing), Fail> {
-    let gens = generators(rt, alloc, frame, vectors)?;
-    let run = Run::new(budget, workers, &FreeGate).ok_or("a number out of its limits")?;
-    let Some(target) = target else {
-        assert!(rt; frame.width() == 2);
-        return Ok(answered(reach(rt, alloc, frame, &gens, &Goal::Clash, &run)?));
-    };
-    assert!(rt; frame.admits(target));
-    let goal = Goal::Target(target.to_vec(alloc)?);
-    Ok(answered(reach(rt, alloc, frame, &gens, &goal, &run)?))
+    gens: &Vectors,
+    goal: &Goal,
+    run: &Run<FreeGate>,
+    text: &mut String,
+) -> Result<(), Fail>
+    requires admitted { AllByRecursion (IsVector frame.now) gens.now.items }
+    requires goal { IsGoal frame.now goal.now }
+{
+    let (word, list) = answered(reach(rt, alloc, frame, gens, goal, run)?);
+    put_list(text, word, &list)
 }
 
-/// Compares the answer, and with one worker its rows.
-fn expect<R: Threads + Abort + Sync>(
+/// The answer to the goal of the vector.
+pub(crate) fn put_target<R: Threads + Abort + Sync>(
     rt: &R,
     alloc: Global,
     frame: &Frame,
-    vectors: &[&[Elem]],
-    target: Option<&[Elem]>,
-    budget: u32,
-    (answer, rows): (Told, &[u8]),
-) -> Result<(), Fail> {
-    for workers in [1, 2, 16] {
-        let (told, list) = reached(rt, alloc, frame, vectors, target, budget, workers)?;
-        assert_eq!(rt; told, answer, "budget {budget}, {workers} workers");
-        if workers == 1 {
-            assert_eq!(rt; rows_text(alloc, &list)?.as_slice(), rows);
-        }
-    }
-    Ok(())
+    gens: &Vectors,
+    run: &Run<FreeGate>,
+    digits: &str,
+    text: &mut String,
+) -> Result<(), Fail>
+    requires { AllByRecursion (IsVector frame.now) gens.now.items }
+{
+    let target = elements(alloc, digits)?;
+    assert!(rt; frame.admits(target.as_slice()));
+    let goal = Goal::Target(target);
+    put_reached(rt, alloc, frame, gens, &goal, run, text)
+}
+
+/// The answer to the goal of a clash.
+pub(crate) fn put_clash<R: Threads + Abort + Sync>(
+    rt: &R,
+    alloc: Global,
+    frame: &Frame,
+    gens: &Vectors,
+    run: &Run<FreeGate>,
+    text: &mut String,
+) -> Result<(), Fail>
+    requires { AllByRecursion (IsVector frame.now) gens.now.items }
+{
+    assert!(rt; frame.width() == 2);
+    put_reached(rt, alloc, frame, gens, &Goal::Clash, run, text)
 }
 
 #[test]
 fn targets(rt: HostRuntime) -> Result<(), Fail> {
-    let alloc = rt.alloc();
-    let meet = meet(alloc)?;
-    let frame = Frame::power(&meet, 2)?;
-    let gens: [&[Elem]; 2] = [&[0, 1], &[1, 0]];
-    let rows: &[u8] = b"00:2 02100\n01:0 g0\n10:1 g1\n";
-    let cases: [([Elem; 2], u32, Told, &[u8]); 6] = [
-        ([0, 0], 3, Told::Met, rows),
-        ([0, 0], 2, Told::Met, rows),
-        ([1, 1], 3, Told::Closed, rows),
-        ([1, 1], 2, Told::Exceeds, rows),
-        ([1, 0], 1, Told::Met, b"01:0 g0\n10:1 g1\n"),
-        ([0, 1], 1, Told::Met, b"01:0 g0\n"),
-    ];
-    for (target, budget, answer, rows) in &cases {
-        expect(
-            &rt,
-            alloc,
-            &frame,
-            &gens,
-            Some(target),
-            *budget,
-            (*answer, rows),
-        )?;
-    }
-    Ok(())
+    let cases = "
+        meet 2, 01 10, 3, 00 => met, 00:2 02100, 01:0 g0, 10:1 g1
+        meet 2, 01 10, 2, 00 => met, 00:2 02100, 01:0 g0, 10:1 g1
+        meet 2, 01 10, 3, 11 => closed, 00:2 02100, 01:0 g0, 10:1 g1
+        meet 2, 01 10, 2, 11 => exceeds, 00:2 02100, 01:0 g0, 10:1 g1
+        meet 2, 01 10, 1, 10 => met, 01:0 g0, 10:1 g1
+        meet 2, 01 10, 1, 01 => met, 01:0 g0";
+    expect(&rt, rt.alloc(), &Call::Target, ANY, cases)
 }
 
 /// The pairs of a map of the group of order 2 into that of order 4, which is none.
 #[test]
 fn clashes(rt: HostRuntime) -> Result<(), Fail> {
-    let alloc = rt.alloc();
-    let two = algebra(alloc, 2, &[(b"plus", 2, &[0, 1, 1, 0])])?;
-    let sum = [0, 1, 2, 3, 1, 2, 3, 0, 2, 3, 0, 1, 3, 0, 1, 2];
-    let four = algebra(alloc, 4, &[(b"plus", 2, &sum)])?;
-    let algebras = [two, four];
-    let frame = Frame::mixed(&algebras, [0, 1].to_vec(alloc)?)?;
-    let rows: &[u8] = b"02:1 01100\n11:0 g0\n13:2 00100\n";
-    let cases: [([Elem; 2], u32, Told, &[u8]); 5] = [
-        ([1, 1], 2, Told::Met, rows),
-        ([1, 1], 3, Told::Met, rows),
-        ([1, 1], 100, Told::Met, rows),
-        ([1, 1], 1, Told::Exceeds, b"02:1 01100\n11:0 g0\n"),
-        ([1, 2], 2, Told::Closed, b"00:1 01100\n12:0 g0\n"),
-    ];
-    for (vector, budget, answer, rows) in &cases {
-        expect(
-            &rt,
-            alloc,
-            &frame,
-            &[vector],
-            None,
-            *budget,
-            (*answer, rows),
-        )?;
-    }
-    Ok(())
+    let cases = "
+        groups 2, 11, 2 => met, 02:1 01100, 11:0 g0, 13:2 00100
+        groups 2, 11, 3 => met, 02:1 01100, 11:0 g0, 13:2 00100
+        groups 2, 11, 100 => met, 02:1 01100, 11:0 g0, 13:2 00100
+        groups 2, 11, 1 => exceeds, 02:1 01100, 11:0 g0
+        groups 2, 12, 2 => closed, 00:1 01100, 12:0 g0";
+    expect(&rt, rt.alloc(), &Call::Clash, ANY, cases)
 }
 
 /// 77 rows from one, in which seven elements stand at coordinate 0.
 #[test]
 fn goals_among_many_rows(rt: HostRuntime) -> Result<(), Fail> {
-    let alloc = rt.alloc();
-    let cycles = cycles(alloc)?;
-    let frame = Frame::power(&cycles, 2)?;
-    for (target, budget, answer) in [
-        (None, 100, Told::Met),
-        (None, 7, Told::Met),
-        (Some([6, 17].as_slice()), 77, Told::Met),
-        (Some(&[6, 18]), 77, Told::Closed),
-        (Some(&[6, 18]), 76, Told::Exceeds),
-    ] {
-        for workers in [1, 2, 16] {
-            let (told, _) = reached(&rt, alloc, &frame, &[&[0, 7]], target, budget, workers)?;
-            assert_eq!(rt; told, answer, "budget {budget}, {workers} workers");
-        }
-    }
-    Ok(())
+    let clashes = "
+        cycles 2, 07, 100 => met
+        cycles 2, 07, 7 => met";
+    expect(&rt, rt.alloc(), &Call::Clash, ANY, clashes)?;
+    let targets = "
+        cycles 2, 07, 77, 6h => met
+        cycles 2, 07, 77, 6i => closed
+        cycles 2, 07, 76, 6i => exceeds";
+    expect(&rt, rt.alloc(), &Call::Target, ANY, targets)
 }

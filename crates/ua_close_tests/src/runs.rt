@@ -1,85 +1,168 @@
 //! Runs of workers whose harvests are known.
 
-use crate::given::{generators, meet};
+ghost use Rattle.std.specs.Prelude.{◌≡◌, ◌<◌, suc, IfOk};
+ghost use Rattle.std.specs.List.{AllByRecursion};
+ghost use Rattle.ua_table.specs.Algebras.{IsVector};
+ghost use Rattle.ua_table.specs.declared.limits.TheConstants.{WORKERS};
+ghost use Rattle.ua_log.specs.Seats.{first_seat};
+ghost use Rattle.ua_work.specs.Goals.{IsGoal};
+ghost use Rattle.ua_work.specs.Harvests.{IsPlanOf};
+
+use crate::asked::{Call, expect};
+use crate::given::elements;
 use std::alloc::Global;
 use std::process::Abort;
 use std::test::Fail;
-use ua_log::{Board, Claim};
-use ua_table::{Elem, Frame, FreeGate, Origin};
+use ua_log::{Board, Claim, Seat};
+use ua_table::{Frame, FreeGate, Run, Vectors};
 use ua_work::{Begun, End, Goal, Harvest, start, work};
 
-/// The harvest of a lone worker that looks for a vector, or for all.
-fn harvest_of(
+/// The end and the count of the rows.
+fn told(harvest: Harvest) -> (End, u32) {
+    (harvest.end, harvest.rows.len())
+}
+
+/// An empty board for the closure, and its first seat.
+fn started(
     rt: &impl Abort,
     alloc: Global,
     frame: &Frame,
-    vectors: &[&[Elem]],
+    gens: &Vectors,
     budget: u32,
-    target: Option<&[Elem]>,
-) -> Result<Harvest, Fail> {
-    let gens = generators(rt, alloc, frame, vectors)?;
-    let goal = match target {
-        Some(target) => {
-            assert!(rt; frame.admits(target));
-            Goal::Target(target.to_vec(alloc)?)
-        }
-        None => Goal::Whole,
-    };
+) -> Result<(Board, Seat), Fail>
+    ensures plan { IfOk result (λ made. IsPlanOf frame.now gens.now.items made.0.plan) }
+    ensures seat { IfOk result (λ made. made.1 ≡ first_seat made.0) }
+{
     let shape = frame.shape(alloc)?;
-    assert!(rt; 0 < budget);
-    assert!(rt; budget <= 1000);
+    assert!(rt; 0 < budget && budget <= 1000);
     assert!(rt; shape.fits(gens.len(), budget));
-    let (board, seat) = Board::start(alloc, &shape, gens.len(), budget)?;
-    match start(alloc, &board, seat, frame, &gens, &goal) {
-        Begun::Going(seat) => Ok(work(alloc, &board, seat, frame, &gens, &goal, 0, &FreeGate)),
-        Begun::Ended(harvest) => Ok(harvest),
-    }
+    Ok(Board::start(alloc, &shape, gens.len(), budget)?)
 }
 
-/// Compares the end and the count of the rows of a harvest.
-fn expect(rt: &impl Abort, harvest: &Harvest, end: End, count: u32) {
-    assert_eq!(rt; harvest.end, end);
-    assert_eq!(rt; harvest.rows.len(), count);
+/// How a lone worker ends.
+fn ended(
+    rt: &impl Abort,
+    alloc: Global,
+    frame: &Frame,
+    gens: &Vectors,
+    budget: u32,
+    goal: &Goal,
+) -> Result<(End, u32), Fail>
+    requires admitted { AllByRecursion (IsVector frame.now) gens.now.items }
+    requires goal { IsGoal frame.now goal.now }
+{
+    let (board, seat) = started(rt, alloc, frame, gens, budget)?;
+    let harvest = match start(alloc, &board, seat, frame, gens, goal) {
+        Begun::Going(seat) => work(alloc, &board, seat, frame, gens, goal, 0, &FreeGate),
+        Begun::Ended(harvest) => harvest,
+    };
+    Ok(told(harvest))
+}
+
+fn put_ended(text: &mut String, end: End, count: u32) -> Result<(), Fail> {
+    write!(text, "{end:?} {count}")?;
+    Ok(())
+}
+
+/// The goal of the vector, or of none.
+fn goal_of(rt: &impl Abort, alloc: Global, frame: &Frame, digits: &str) -> Result<Goal, Fail>
+    ensures { IfOk result (IsGoal frame.now) }
+{
+    if digits.is_empty() {
+        return Ok(Goal::Whole);
+    }
+    let target = elements(alloc, digits)?;
+    assert!(rt; frame.admits(target.as_slice()));
+    Ok(Goal::Target(target))
+}
+
+/// How a lone worker ends that looks for the vector, or for all, and how many rows it has.
+pub(crate) fn put_end(
+    rt: &impl Abort,
+    alloc: Global,
+    frame: &Frame,
+    gens: &Vectors,
+    run: &Run<FreeGate>,
+    digits: &str,
+    text: &mut String,
+) -> Result<(), Fail>
+    requires { AllByRecursion (IsVector frame.now) gens.now.items }
+{
+    let goal = goal_of(rt, alloc, frame, digits)?;
+    let (end, count) = ended(rt, alloc, frame, gens, run.budget, &goal)?;
+    put_ended(text, end, count)
+}
+
+/// What a second seat claims before it halts the board.
+fn halt(board: &Board, first: &mut Seat) -> Claim
+    requires home { first.old.home ≡ board.now }
+    requires number { first.old.own.number ≡ 0 }
+    requires few { first.old.made < WORKERS }
+    ensures { first.new ≡ record first.old { made = suc first.old.made } }
+{
+    let mut second = board.split(first);
+    let claim = board.claim(&mut second);
+    board.halt(&mut second);
+    claim
+}
+
+/// What a second seat claims before it halts the board, and how the worker of the first one then ends.
+fn halted(
+    rt: &impl Abort,
+    alloc: Global,
+    frame: &Frame,
+    gens: &Vectors,
+    budget: u32,
+) -> Result<(Claim, (End, u32)), Fail>
+    requires { AllByRecursion (IsVector frame.now) gens.now.items }
+{
+    let (board, seat) = started(rt, alloc, frame, gens, budget)?;
+    let Begun::Going(mut first) = start(alloc, &board, seat, frame, gens, &Goal::Whole) else {
+        return Err("it ended too early".into());
+    };
+    let claim = halt(&board, &mut first);
+    let harvest = work(
+        alloc,
+        &board,
+        first,
+        frame,
+        gens,
+        &Goal::Whole,
+        0,
+        &FreeGate,
+    );
+    Ok((claim, told(harvest)))
+}
+
+/// What a second seat claims, and how the first one's worker ends after it is halted.
+pub(crate) fn put_halt(
+    rt: &impl Abort,
+    alloc: Global,
+    frame: &Frame,
+    gens: &Vectors,
+    run: &Run<FreeGate>,
+    text: &mut String,
+) -> Result<(), Fail>
+    requires { AllByRecursion (IsVector frame.now) gens.now.items }
+{
+    let (claim, (end, count)) = halted(rt, alloc, frame, gens, run.budget)?;
+    write!(text, "{claim:?} ")?;
+    put_ended(text, end, count)
 }
 
 #[test]
 fn ends_of_a_lone_worker(rt: HostRuntime) -> Result<(), Fail> {
-    let alloc = rt.alloc();
-    let meet = meet(alloc)?;
-    let frame = Frame::power(&meet, 2)?;
-    let gens: [&[Elem]; 2] = [&[0, 1], &[1, 0]];
-    let args = [1, 0, 0, 0];
-    let cases: [(Option<&[Elem]>, u32, End, u32); 5] = [
-        (None, 100, End::Left, 3),
-        (None, 2, End::Beyond(Origin::Op { op: 0, args }), 2),
-        (None, 1, End::Beyond(Origin::Gen { index: 1 }), 1),
-        (Some(&[0, 0]), 3, End::Reached, 3),
-        (Some(&[1, 1]), 3, End::Left, 3),
-    ];
-    for (target, budget, end, count) in &cases {
-        let harvest = harvest_of(&rt, alloc, &frame, &gens, *budget, *target)?;
-        expect(&rt, &harvest, *end, *count);
-    }
-    Ok(())
+    let cases = "
+        meet 2, 01 10, 100 => Left 3
+        meet 2, 01 10, 2 => Beyond(Op { op: 0, args: [1, 0, 0, 0] }) 2
+        meet 2, 01 10, 1 => Beyond(Gen { index: 1 }) 1
+        meet 2, 01 10, 3, 00 => Reached 3
+        meet 2, 01 10, 3, 11 => Left 3";
+    expect(&rt, rt.alloc(), &Call::End, &[1], cases)
 }
 
 #[test]
 fn halted_by_another(rt: HostRuntime) -> Result<(), Fail> {
-    let alloc = rt.alloc();
-    let meet = meet(alloc)?;
-    let frame = Frame::power(&meet, 2)?;
-    let gens = generators(&rt, alloc, &frame, &[&[0, 1], &[1, 0]])?;
-    let shape = frame.shape(alloc)?;
-    assert!(rt; shape.fits(gens.len(), 100));
-    let (board, seat) = Board::start(alloc, &shape, gens.len(), 100)?;
-    let Begun::Going(mut first) = start(alloc, &board, seat, &frame, &gens, &Goal::Whole) else {
-        return Err("it ended too early".into());
-    };
-    let mut second = board.split(&mut first);
-    assert_eq!(rt; board.claim(&mut second), Claim::Unit(0));
-    board.halt(&mut second);
-    let goal = Goal::Whole;
-    let harvest = work(alloc, &board, first, &frame, &gens, &goal, 0, &FreeGate);
-    expect(&rt, &harvest, End::Halted, 2);
-    Ok(())
+    let case = "meet 2, 01 10, 100 => Unit(0) Halted 2";
+    expect(&rt, rt.alloc(), &Call::Halt, &[1], case)
 }

@@ -3,5 +3,5 @@ use Rattle.std.specs.List.{AllByRecursion}
 use Rattle.ua_table.specs.Algebras.{IsVector}
 use Rattle.ua_close_tests.proofs.given.generators.Given as goal
 
-abbrev pub invariant-loop-v : goal.invariant-loop-v
-invariant-loop-v g l = (l.gens.width ≡ length l.frame) × AllByRecursion (IsVector l.frame) l.gens.items
+abbrev pub invariant-loop-digits : goal.invariant-loop-digits
+invariant-loop-digits g l = (l.gens.width ≡ length l.frame) × AllByRecursion (IsVector l.frame) l.gens.items

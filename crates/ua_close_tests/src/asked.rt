@@ -1,0 +1,206 @@
+//! Calls by their texts, with so many workers, and their answers as text.
+
+ghost use Rattle.std.specs.List.{AllByRecursion};
+ghost use Rattle.ua_table.specs.Algebras.{IsVector};
+
+use crate::closures::{put_closure, put_least, put_size};
+use crate::given::{algebras, frame_of, generators};
+use crate::meeting::{put_meeting, put_often};
+use crate::memberships::{put_member, put_steps_for};
+use crate::reaches::{put_clash, put_target};
+use crate::runs::{put_end, put_halt};
+use crate::texts::put_vectors_of;
+use std::alloc::{AllocError, Global};
+use std::process::Abort;
+use std::test::Fail;
+use std::thread::Threads;
+use ua_close::{FreeGate, Run};
+use ua_table::{Algebra, Frame, Vectors};
+
+/// The numbers of workers, for answers that do not depend on them.
+pub(crate) const ANY: &[u32] = &[1, 2, 16];
+
+/// Which call is made.
+pub(crate) enum Call {
+    Closure,
+    Size,
+    Least,
+    Target,
+    Clash,
+    Member,
+    Steps,
+    End,
+    Halt,
+    Meeting,
+    Often,
+}
+
+/// What a call is asked: of which algebras the coordinates are and how many, the generators, the budget, the
+/// number of workers, and a vector where the call takes one.
+#[derive(Drop)]
+struct Asked<'t> {
+    algebras: &'t str,
+    width: u32,
+    gens: &'t str,
+    budget: u32,
+    workers: u32,
+    vector: &'t str,
+}
+
+/// Reads a text as `meet 2, 01 10, 3, 00`.
+fn asked_by(text: &str, workers: u32) -> Result<Asked<'_>, Fail> {
+    let mut parts = text.split(", ");
+    let frame = parts.next().unwrap_or("");
+    let gens = parts.next().unwrap_or("");
+    let budget = parts.next().unwrap_or("");
+    let vector = parts.next().unwrap_or("");
+    let (algebras, width) = frame.split_once(' ').unwrap_or((frame, ""));
+    Ok(Asked {
+        algebras,
+        width: width.parse()?,
+        gens,
+        budget: budget.parse()?,
+        workers,
+        vector,
+    })
+}
+
+/// Makes the call, and puts its answer.
+fn put_answer<R: Threads + Abort + Sync>(
+    rt: &R,
+    alloc: Global,
+    call: &Call,
+    frame: &Frame,
+    gens: &Vectors,
+    run: &Run<FreeGate>,
+    vector: &str,
+    text: &mut String,
+) -> Result<(), Fail>
+    requires { AllByRecursion (IsVector frame.now) gens.now.items }
+{
+    match call {
+        Call::Closure => put_closure(rt, alloc, frame, gens, run, text),
+        Call::Size => put_size(rt, alloc, frame, gens, run, text),
+        Call::Least => put_least(rt, alloc, frame, gens, run, text),
+        Call::Target => put_target(rt, alloc, frame, gens, run, vector, text),
+        Call::Clash => put_clash(rt, alloc, frame, gens, run, text),
+        Call::Member => put_member(rt, alloc, frame, gens, run, vector, text),
+        Call::Steps => put_steps_for(rt, alloc, frame, gens, run, vector, text),
+        Call::End => put_end(rt, alloc, frame, gens, run, vector, text),
+        Call::Halt => put_halt(rt, alloc, frame, gens, run, text),
+        Call::Meeting => put_meeting(rt, alloc, frame, gens, run, text),
+        Call::Often => put_often(rt, alloc, frame, gens, run, text),
+    }
+}
+
+/// Makes what the call is asked with, and then the call.
+fn put_told<R: Threads + Abort + Sync>(
+    rt: &R,
+    alloc: Global,
+    call: &Call,
+    asked: &Asked,
+    algebras: &[Algebra],
+    text: &mut String,
+) -> Result<(), Fail> {
+    let frame = frame_of(alloc, algebras, asked.width)?;
+    let run = Run::new(asked.budget, asked.workers, &FreeGate).ok_or("out of its limits")?;
+    let gens = generators(rt, alloc, &frame, asked.gens)?;
+    put_answer(rt, alloc, call, &frame, &gens, &run, asked.vector, text)
+}
+
+/// The answer to a call.
+fn told<R: Threads + Abort + Sync>(
+    rt: &R,
+    alloc: Global,
+    call: &Call,
+    asked: &Asked,
+) -> Result<String, Fail> {
+    let algebras = algebras(alloc, asked.algebras)?;
+    let mut text = String::new(alloc);
+    put_told(rt, alloc, call, asked, algebras.as_slice(), &mut text)?;
+    Ok(text)
+}
+
+/// How much of an answer is compared.
+#[derive(Drop)]
+enum Part {
+    All,
+    Vectors,
+    Head,
+}
+
+/// What several workers answer alike: all but the ranks and the origins of closed listings, and the rows of
+/// others. The rows of one are compared where they are given.
+fn part_of(call: &Call, workers: u32, wanted: &str) -> Part {
+    match call {
+        Call::Closure if workers > 1 && !wanted.starts_with("exceeds") => Part::Vectors,
+        Call::Closure | Call::Target | Call::Clash if workers > 1 || !wanted.contains(", ") => {
+            Part::Head
+        }
+        Call::Size => Part::Head,
+        _ => Part::All,
+    }
+}
+
+/// This part of an answer.
+fn cut(alloc: Global, part: &Part, text: &str) -> Result<String, AllocError> {
+    match part {
+        Part::All => String::from_str(alloc, text),
+        Part::Head => String::from_str(alloc, text.split(", ").next().unwrap_or("")),
+        Part::Vectors => {
+            let mut vectors = String::new(alloc);
+            put_vectors_of(&mut vectors, text)?;
+            Ok(vectors)
+        }
+    }
+}
+
+/// This part of the answer to a call.
+fn told_part<R: Threads + Abort + Sync>(
+    rt: &R,
+    alloc: Global,
+    call: &Call,
+    asked: &Asked,
+    part: &Part,
+) -> Result<String, Fail> {
+    let text = told(rt, alloc, call, asked)?;
+    Ok(cut(alloc, part, text.as_str())?)
+}
+
+fn compare(rt: &impl Abort, text: &str, workers: u32, found: &str, wanted: &str) {
+    assert_eq!(rt; found, wanted, "{text}, {workers} workers");
+}
+
+/// Compares what so many workers answer alike.
+fn expect_of<R: Threads + Abort + Sync>(
+    rt: &R,
+    alloc: Global,
+    call: &Call,
+    workers: u32,
+    (text, wanted): (&str, &str),
+) -> Result<(), Fail> {
+    let asked = asked_by(text, workers)?;
+    let part = part_of(call, workers, wanted);
+    let found = told_part(rt, alloc, call, &asked, &part)?;
+    let wanted = cut(alloc, &part, wanted)?;
+    compare(rt, text, workers, found.as_str(), wanted.as_str());
+    Ok(())
+}
+
+/// Makes the call that each line begins with for each number of workers, and compares the answer with the rest
+/// of the line.
+pub(crate) fn expect<R: Threads + Abort + Sync>(
+    rt: &R,
+    alloc: Global,
+    call: &Call,
+    workers: &[u32],
+    cases: &str,
+) -> Result<(), Fail> {
+    for line in cases.trim().lines() {
+        let case = line.trim().split_once(" => ").ok_or("no answer")?;
+        for count in workers {
+            expect_of(rt, alloc, call, *count, case)?;
+        }
+    }
+    Ok(())
+}
