@@ -1,10 +1,10 @@
 -- What is known stays right as subtraces are met and pairs are settled.
-use Rattle.std.proofs.Common.{◌≡◌, ◌≢◌, ◌⊎◌, inl, inr, ⊎_elim, ℕ, ◌+◌, ◌<◌, ◌≤◌, Bool, true, false, cond, List, [], ◌∷◌, length, replicate, refl, sym, ap, ◌∙◌, subst, arith, Option, Some, None}
+use Rattle.std.proofs.Common.{◌≡◌, ◌≢◌, ◌⊎◌, inl, inr, ⊎_elim, ℕ, ◌+◌, ◌<◌, ◌≤◌, ◌==◌, ◌&&◌, Bool, true, false, cond, List, [], ◌∷◌, length, replicate, refl, sym, ap, ◌∙◌, subst, arith, Option, Some, None}
 use Rattle.std.specs.Prelude.{Contains, IfSome, slice_index, slice_index_or}
 use Rattle.std.specs.List.{AllByRecursion}
 use Rattle.std.specs.Option.{IsSomeAnd}
 use Rattle.std.specs.HashSet.{contains}
-use Rattle.std.proofs.lemmas.Bool.{cases_lt}
+use Rattle.std.proofs.lemmas.Bool.{cases_lt, eq-eqb}
 use Rattle.ua_table.specs.Algebras.{Vector, FiniteAlgebra}
 use Rattle.ua_table.specs.Listings.{Row, vectors_of}
 use Rattle.ua_table.proofs.Lists.{any_default, all_at}
@@ -267,3 +267,16 @@ put_in before after first pair pairs put there h q e = by (same_labels pair q) r
     by : (t : Bool) → t ≡ same_labels pair q → (first q ≡ true) ⊎ Contains pairs q
     by true is = inr (subst (Contains pairs) (same_from pair q (sym is)) there)
     by false is = h q (sym (put q ∙ ap (λ t. cond t true (before q)) (sym is)) ∙ e)
+
+pub put_kept : (before after : ℕ × ℕ → Bool) (pair : ℕ × ℕ) → ((q : ℕ × ℕ) → after q ≡ cond (same_labels pair q) true (before q)) → (q : ℕ × ℕ) → before q ≡ true → after q ≡ true
+put_kept before after pair put q e = put q ∙ by (same_labels pair q)
+  where
+    by : (t : Bool) → cond t true (before q) ≡ true
+    by true = refl
+    by false = e
+
+pub put_there : (before after : ℕ × ℕ → Bool) (pair : ℕ × ℕ) → ((q : ℕ × ℕ) → after q ≡ cond (same_labels pair q) true (before q)) → after pair ≡ true
+put_there before after pair put = put pair ∙ ap (λ t. cond t true (before pair)) (same_itself pair)
+  where
+    same_itself : (p : ℕ × ℕ) → same_labels p p ≡ true
+    same_itself p = ap (λ b. b && (p.1 == p.1)) (eq-eqb p.0 p.0 refl) ∙ eq-eqb p.1 p.1 refl

@@ -79,10 +79,12 @@ impl Known {
         }
     }
 
-    /// Settles pairs.
+    /// Settles pairs: these are settled then, with those that were, and no others.
     pub fn settle(&mut self, pairs: &[(Elem, Elem)]) -> Result<(), AllocError>
         ensures least { self.new.least ≡ self.old.least }
         ensures settled { OnOk result ((q : ℕ × ℕ) → set.contains same_labels self.new.settled q ≡ true → (set.contains same_labels self.old.settled q ≡ true) ⊎ Contains pairs.now q) }
+        ensures kept { OnOk result ((q : ℕ × ℕ) → set.contains same_labels self.old.settled q ≡ true → set.contains same_labels self.new.settled q ≡ true) }
+        ensures added { OnOk result ((q : ℕ × ℕ) → Contains pairs.now q → set.contains same_labels self.new.settled q ≡ true) }
     {
         for pair in pairs {
             self.settled.insert(*pair)?;
