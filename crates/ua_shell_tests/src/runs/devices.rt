@@ -1,11 +1,12 @@
 //! Devices that fail at each of their calls in turn, and that give or take one byte at a call.
 
-use super::{Ended, run_by, run_with, words_of};
-use std::alloc::{AllocError, Global};
+use super::{run_by, same, tell, told, words_of};
+use std::alloc::Global;
+use std::process::Abort;
 use std::sync::Wait;
 use std::test::Fail;
 use std::thread::Threads;
-use ua_shell::Status;
+use ua_table::FreeGate;
 
 /// Three blocks, and a command for each kind of reply: rows, steps, a value, partitions, a certificate, an error.
 const SCRIPT: &str = "algebra M size 2 op meet 2 = 0 0 0 1 end
@@ -19,39 +20,51 @@ cert member M 1 [0] = [1]
 sub M [2]
 ";
 
-/// Runs the script with one byte at a call, where the call of this number of the source, and that of the sink, fails.
+/// What is told of the script with one byte at a call, where the call of this number of the source, and that of the
+/// sink, fails.
 fn slowly<R: Threads + Wait + Sync>(
     rt: &R,
     alloc: Global,
     source_fails: &[u32],
     sink_fails: &[u32],
-) -> Result<Ended, AllocError> {
-    let words = words_of(alloc, &["--workers", "1"])?;
-    run_by(
+) -> Result<String, Fail> {
+    let words = words_of(alloc, "--workers 1")?;
+    let script = SCRIPT.as_bytes();
+    let ended = run_by(
         rt,
         alloc,
         &words,
-        SCRIPT.as_bytes(),
+        script,
         1,
         source_fails,
         sink_fails,
-    )
+        &FreeGate,
+    )?;
+    tell(alloc, &ended)
 }
 
-/// What the script is answered where nothing fails.
-fn undisturbed<R: Threads + Wait + Sync>(rt: &R, alloc: Global) -> Result<Ended, AllocError> {
-    let words = words_of(alloc, &["--workers", "1"])?;
-    run_with(rt, alloc, &words, SCRIPT.as_bytes(), &[], &[])
+/// What is told of the script where nothing fails.
+fn undisturbed<R: Threads + Wait + Sync>(rt: &R, alloc: Global) -> Result<String, Fail> {
+    told(rt, alloc, "--workers 1", SCRIPT.as_bytes(), &[], &[])
 }
 
 #[test]
 fn one_byte_at_a_call(rt: HostRuntime) -> Result<(), Fail> {
     let whole = undisturbed(&rt, rt.alloc())?;
-    assert_eq!(rt; whole.status, Status::Done);
-    assert!(rt; whole.out.len() > 200);
-    let ended = slowly(&rt, rt.alloc(), &[], &[])?;
-    assert_eq!(rt; ended.status, Status::Done);
-    assert_eq!(rt; ended.out.as_slice(), whole.out.as_slice());
+    let found = slowly(&rt, rt.alloc(), &[], &[])?;
+    assert!(rt; whole.starts_with("Done: ") && whole.len() > 206);
+    same(&rt, "one byte at a call", found.as_str(), whole.as_str());
+    Ok(())
+}
+
+/// Fails at this read.
+fn read_fails<R: Threads + Wait + Abort + Sync>(
+    rt: &R,
+    alloc: Global,
+    call: u32,
+) -> Result<(), Fail> {
+    let found = slowly(rt, alloc, &[call], &[])?;
+    assert_eq!(rt; found.as_str(), "ReadFault: ", "{call}");
     Ok(())
 }
 
@@ -59,9 +72,34 @@ fn one_byte_at_a_call(rt: HostRuntime) -> Result<(), Fail> {
 #[test]
 fn reads_fail_in_turn(rt: HostRuntime) -> Result<(), Fail> {
     for call in 0..=SCRIPT.len() as u32 {
-        let ended = slowly(&rt, rt.alloc(), &[call], &[])?;
-        assert_eq!(rt; ended.status, Status::ReadFault, "{call}");
-        assert!(rt; ended.out.is_empty(), "{call}");
+        read_fails(&rt, rt.alloc(), call)?;
+    }
+    Ok(())
+}
+
+/// Fails at this write, with what stands before it written.
+fn write_fails<R: Threads + Wait + Abort + Sync>(
+    rt: &R,
+    alloc: Global,
+    whole: &str,
+    call: u32,
+) -> Result<(), Fail> {
+    let found = slowly(rt, alloc, &[], &[call])?;
+    let before = whole.get(..call as usize).ok_or("too short")?;
+    let wanted = format!(in alloc; "WriteFault: {before}")?;
+    same(rt, "a failed write", found.as_str(), wanted.as_str());
+    Ok(())
+}
+
+/// Fails at each write of the whole.
+fn writes_fail<R: Threads + Wait + Abort + Sync>(
+    rt: &R,
+    alloc: Global,
+    whole: &str,
+) -> Result<(), Fail> {
+    assert!(rt; whole.len() < 1_000);
+    for call in 0..whole.len() as u32 {
+        write_fails(rt, alloc, whole, call)?;
     }
     Ok(())
 }
@@ -69,12 +107,7 @@ fn reads_fail_in_turn(rt: HostRuntime) -> Result<(), Fail> {
 /// Where any write fails, what stands before it is written.
 #[test]
 fn writes_fail_in_turn(rt: HostRuntime) -> Result<(), Fail> {
-    let whole = undisturbed(&rt, rt.alloc())?.out;
-    assert!(rt; whole.len() < 1_000);
-    for call in 0..whole.len() {
-        let ended = slowly(&rt, rt.alloc(), &[], &[call as u32])?;
-        assert_eq!(rt; ended.status, Status::WriteFault, "{call}");
-        assert_eq!(rt; ended.out.as_slice(), &whole[..call], "{call}");
-    }
-    Ok(())
+    let told = undisturbed(&rt, rt.alloc())?;
+    let (_, whole) = told.split_once(": ").ok_or("nothing is written")?;
+    writes_fail(&rt, rt.alloc(), whole)
 }

@@ -1,33 +1,45 @@
 //! Faults of the source and the sink, and the longest script.
 
-use super::{MEET, run_with};
+use super::{same, told};
+use std::alloc::Global;
+use std::sync::Wait;
 use std::test::Fail;
+use std::thread::Threads;
 use ua_shell::Status;
 use ua_table::limits::SCRIPT;
+
+const SCRIPT_OF_THREE: &[u8] = b"algebra M size 2
+op meet 2 = 0 0 0 1
+end
+close M 2 close M 2 close M 2";
 
 #[test]
 fn faults_of_the_source_and_the_sink(rt: HostRuntime) -> Result<(), Fail> {
     let alloc = rt.alloc();
-    let script = format!(in alloc; "{MEET}close M 2 close M 2 close M 2")?;
-    let ended = run_with(&rt, alloc, &[], script.as_bytes(), &[0], &[])?;
-    assert_eq!(rt; ended.status, Status::ReadFault);
-    assert!(rt; ended.out.is_empty());
-    let ended = run_with(&rt, alloc, &[], script.as_bytes(), &[], &[2])?;
-    assert_eq!(rt; ended.status, Status::WriteFault);
-    assert_eq!(rt; ended.out.as_slice(), b"closed 0\nclosed 0\n".as_slice());
+    let read = told(&rt, alloc, "", SCRIPT_OF_THREE, &[0], &[])?;
+    let written = told(&rt, alloc, "", SCRIPT_OF_THREE, &[], &[2])?;
+    same(&rt, "the first read", read.as_str(), "ReadFault: ");
+    let wanted = "WriteFault: closed 0\nclosed 0\n";
+    same(&rt, "the third write", written.as_str(), wanted);
     Ok(())
+}
+
+/// How a script of so many blanks ends.
+fn told_blanks<R: Threads + Wait + Sync>(
+    rt: &R,
+    alloc: Global,
+    count: usize,
+) -> Result<String, Fail> {
+    let blanks = vec![in alloc; b' '; count]?;
+    told(rt, alloc, "", blanks.as_slice(), &[], &[])
 }
 
 #[test]
 fn the_longest_script(rt: HostRuntime) -> Result<(), Fail> {
-    let alloc = rt.alloc();
-    let mut blanks = vec![in alloc; b' '; SCRIPT]?;
-    let ended = run_with(&rt, alloc, &[], &blanks, &[], &[])?;
-    assert_eq!(rt; ended.status, Status::Done);
-    assert!(rt; ended.out.is_empty());
-    blanks.push(b' ')?;
-    let ended = run_with(&rt, alloc, &[], &blanks, &[], &[])?;
-    assert_eq!(rt; ended.status, Status::TooLong);
+    let longest = told_blanks(&rt, rt.alloc(), SCRIPT)?;
+    let longer = told_blanks(&rt, rt.alloc(), SCRIPT + 1)?;
+    same(&rt, "as long as may be", longest.as_str(), "Done: ");
+    same(&rt, "one blank more", longer.as_str(), "TooLong: ");
     Ok(())
 }
 

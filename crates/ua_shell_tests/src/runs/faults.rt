@@ -1,101 +1,110 @@
 //! Texts that are no scripts.
 
-use super::run_with;
-use std::alloc::Global;
+use super::{run_with, same};
+use std::alloc::{AllocError, Global};
 use std::process::Abort;
 use std::sync::Wait;
 use std::test::Fail;
 use std::thread::Threads;
 use ua_shell::Status;
-use ua_text::{FaultKind, TextFault};
 
-/// Runs a text that is no script, and compares its fault.
+/// Where a script is refused behind so many lines of a front, and why; how it ends otherwise. What is written follows.
+fn refusal<R: Threads + Wait + Sync>(
+    rt: &R,
+    alloc: Global,
+    script: &str,
+    lines: u32,
+) -> Result<String, Fail> {
+    let ended = run_with(rt, alloc, &[], script.as_bytes(), &[], &[])?;
+    let status = ended.status;
+    let out = str::from_utf8(ended.out.as_slice())?;
+    Ok(match status {
+        Status::Syntax(fault) => {
+            let line = fault.line.wrapping_sub(lines);
+            format!(in alloc; "{line} {} {:?}{out}", fault.column, fault.kind)?
+        }
+        _ => format!(in alloc; "{status:?}: {out}")?,
+    })
+}
+
+/// A text behind a front, with a newline for each `~`.
+fn spelled(alloc: Global, front: &str, text: &str) -> Result<String, AllocError> {
+    let mut script = String::from_str(alloc, front)?;
+    for letter in text.chars() {
+        script.push(if letter == '~' { '\n' } else { letter })?;
+    }
+    Ok(script)
+}
+
+/// Runs a text behind a front of so many lines, and compares why it is refused.
 fn refuses<R: Threads + Wait + Abort + Sync>(
     rt: &R,
     alloc: Global,
-    script: &str,
-    fault: TextFault,
+    (front, lines): (&str, u32),
+    text: &str,
+    fault: &str,
 ) -> Result<(), Fail> {
-    let ended = run_with(rt, alloc, &[], script.as_bytes(), &[], &[])?;
-    assert_eq!(rt; ended.status, Status::Syntax(fault), "{script}");
-    assert!(rt; ended.out.is_empty(), "{script}");
+    let script = spelled(alloc, front, text)?;
+    let found = refusal(rt, alloc, script.as_str(), lines)?;
+    same(rt, text, found.as_str(), fault);
     Ok(())
 }
 
-/// The same fault in both versions, one line further down behind the line of the second.
-fn refuses_both<R: Threads + Wait + Abort + Sync>(
+/// Runs the text of each line behind a front of so many lines, and compares the fault with the rest of the line.
+fn expect<R: Threads + Wait + Abort + Sync>(
     rt: &R,
     alloc: Global,
-    script: &str,
-    fault: TextFault,
+    front: (&str, u32),
+    cases: &str,
 ) -> Result<(), Fail> {
-    refuses(rt, alloc, script, fault)?;
-    let TextFault { line, column, kind } = fault;
-    let line = line.saturating_add(1);
-    let script = format!(in alloc; "version 2\n{script}")?;
-    refuses(rt, alloc, &script, TextFault { line, column, kind })
+    for line in cases.trim().lines() {
+        let (text, fault) = line.trim().split_once(" => ").ok_or("no fault")?;
+        refuses(rt, alloc, front, text, fault)?;
+    }
+    Ok(())
+}
+
+/// The same faults in both versions, one line further down behind the line of the second.
+fn expect_both<R: Threads + Wait + Abort + Sync>(
+    rt: &R,
+    alloc: Global,
+    cases: &str,
+) -> Result<(), Fail> {
+    expect(rt, alloc, ("", 0), cases)?;
+    expect(rt, alloc, ("version 2\n", 1), cases)
 }
 
 #[test]
 fn faults_of_blocks(rt: HostRuntime) -> Result<(), Fail> {
-    for (script, line, column, kind) in [
-        (
-            "algebra M size 2\nop meet 2 = 0 0 0\nend\nclose M 2",
-            3,
-            1,
-            FaultKind::Value,
-        ),
-        (
-            "algebra M size 2\nop meet 2 = 0 0 0 2\nend",
-            2,
-            19,
-            FaultKind::Value,
-        ),
-        ("algebra M size 2 end check M 1", 1, 30, FaultKind::Word),
-        ("algebra M size 2 end algebra M", 1, 30, FaultKind::Name),
-        ("algebra", 1, 8, FaultKind::End),
-    ] {
-        refuses_both(&rt, rt.alloc(), script, TextFault { line, column, kind })?;
-    }
-    Ok(())
+    let cases = "
+        algebra M size 2~op meet 2 = 0 0 0~end~close M 2 => 3 1 Value
+        algebra M size 2~op meet 2 = 0 0 0 2~end => 2 19 Value
+        algebra M size 2 end check M 1 => 1 30 Word
+        algebra M size 2 end algebra M => 1 30 Name
+        algebra => 1 8 End";
+    expect_both(&rt, rt.alloc(), cases)
 }
 
 #[test]
 fn faults_of_commands(rt: HostRuntime) -> Result<(), Fail> {
-    for (script, column, kind) in [
-        (
-            "algebra M size 2 end close M 2 least count",
-            38,
-            FaultKind::Word,
-        ),
-        ("algebra M size 2 end close M 2 [0 ?]", 35, FaultKind::Byte),
-        ("algebra M size 2 end close M 2 [0 =]", 35, FaultKind::Item),
-        ("close M 2 =", 11, FaultKind::Word),
-        ("con M version 2", 7, FaultKind::Word),
-    ] {
-        let line = 1;
-        refuses_both(&rt, rt.alloc(), script, TextFault { line, column, kind })?;
-    }
-    Ok(())
+    let cases = "
+        algebra M size 2 end close M 2 least count => 1 38 Word
+        algebra M size 2 end close M 2 [0 ?] => 1 35 Byte
+        algebra M size 2 end close M 2 [0 =] => 1 35 Item
+        close M 2 = => 1 11 Word
+        con M version 2 => 1 7 Word";
+    expect_both(&rt, rt.alloc(), cases)
 }
 
 #[test]
 fn faults_of_one_version(rt: HostRuntime) -> Result<(), Fail> {
-    for (script, column, kind) in [
-        ("version 3", 9, FaultKind::Number),
-        ("algebra A size 256", 16, FaultKind::Number),
-        ("version 2 algebra A size 1001", 26, FaultKind::Number),
-        ("algebra A size 1 names", 18, FaultKind::Word),
-        ("algebra A size 1 end close A 1 [a", 33, FaultKind::Item),
-        (
-            "version 2 algebra A size 1000 op f 4 = 0 end",
-            42,
-            FaultKind::Value,
-        ),
-        ("version 2 algebra A size 2 names (a a", 37, FaultKind::Name),
-    ] {
-        let line = 1;
-        refuses(&rt, rt.alloc(), script, TextFault { line, column, kind })?;
-    }
-    Ok(())
+    let cases = "
+        version 3 => 1 9 Number
+        algebra A size 256 => 1 16 Number
+        version 2 algebra A size 1001 => 1 26 Number
+        algebra A size 1 names => 1 18 Word
+        algebra A size 1 end close A 1 [a => 1 33 Item
+        version 2 algebra A size 1000 op f 4 = 0 end => 1 42 Value
+        version 2 algebra A size 2 names (a a => 1 37 Name";
+    expect(&rt, rt.alloc(), ("", 0), cases)
 }

@@ -1,21 +1,21 @@
 //! Scripts that are generated from a number.
 
-use super::{run_with, words_of};
+use super::{same, told};
 use std::alloc::Global;
 use std::process::Abort;
 use std::sync::Wait;
 use std::test::Fail;
 use std::thread::Threads;
 use ua_script::print;
-use ua_shell::{Status, generated_script};
+use ua_shell::generated_script;
 
 /// Runs the script that is generated from 0. The source fails at its first call, so nothing is read.
 fn writes_zero<R: Threads + Wait + Abort + Sync>(
     rt: &R,
     alloc: Global,
-    words: &[&str],
+    words: &str,
 ) -> Result<(), Fail> {
-    let reply = b"closed 180
+    let reply = "Done: closed 180
 congruences 3
 0 |0|1|2|
 1 |0 1|2|
@@ -25,21 +25,18 @@ covers 2
 1 2
 join irreducibles 1 2
 ";
-    let words = words_of(alloc, words)?;
-    let ended = run_with(rt, alloc, &words, b"con", &[0], &[])?;
-    assert_eq!(rt; ended.status, Status::Done, "{words:?}");
-    assert_eq!(rt; ended.out.as_slice(), reply.as_slice(), "{words:?}");
+    let found = told(rt, alloc, words, b"con", &[0], &[])?;
+    same(rt, words, found.as_str(), reply);
     Ok(())
 }
 
 #[test]
 fn output_is_fixed(rt: HostRuntime) -> Result<(), Fail> {
-    for words in [
-        ["--generate", "0"].as_slice(),
-        &["--generate=0", "--workers", "1"],
-        &["--workers=2", "--generate", "0"],
-        &["--workers=16", "--generate=0", "--budget", "180"],
-    ] {
+    let lines = "--generate 0
+--generate=0 --workers 1
+--workers=2 --generate 0
+--workers=16 --generate=0 --budget 180";
+    for words in lines.lines() {
         writes_zero(&rt, rt.alloc(), words)?;
     }
     Ok(())
@@ -47,10 +44,9 @@ fn output_is_fixed(rt: HostRuntime) -> Result<(), Fail> {
 
 #[test]
 fn greatest_number_is_taken(rt: HostRuntime) -> Result<(), Fail> {
-    let alloc = rt.alloc();
-    let words = words_of(alloc, &["--generate", "2147483647"])?;
-    let ended = run_with(&rt, alloc, &words, b"con", &[0], &[])?;
-    assert_eq!(rt; ended.status, Status::Done);
+    let words = "--generate 2147483647";
+    let found = told(&rt, rt.alloc(), words, b"con", &[0], &[])?;
+    assert!(rt; found.starts_with("Done: "));
     Ok(())
 }
 

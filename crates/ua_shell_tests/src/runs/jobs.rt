@@ -1,21 +1,19 @@
 //! Runs that answer commands side by side.
 
-use super::{ALGEBRAS, MEET, run_with, words_of, writes};
+use super::{ALGEBRAS, MEET, run_by, same, tell, told, words_of, writes};
 use std::alloc::{AllocError, Global};
 use std::process::Abort;
 use std::sync::Wait;
 use std::sync::atomic::{AtomicBool, AtomicU32, Ordering};
 use std::test::Fail;
 use std::thread::{self, Threads};
-use ua_io::{MemSink, MemSource};
-use ua_shell::{Status, run};
 use ua_table::Gate;
 
 /// The words for one job, for two jobs and for as many as there can be, each with one worker.
-const WORDS: &[&[&str]] = &[
-    &["--workers", "1"],
-    &["--workers", "1", "--jobs", "2"],
-    &["--workers", "1", "--jobs", "16"],
+const WORDS: &[&str] = &[
+    "--workers 1",
+    "--workers 1 --jobs 2",
+    "--workers 1 --jobs 16",
 ];
 
 /// A gate at which whoever begins the first slice of a closure waits until a second closure begins its own.
@@ -26,6 +24,13 @@ struct Meeting {
 }
 
 impl Meeting {
+    fn new() -> Meeting {
+        Meeting {
+            begun: AtomicU32::new(0),
+            met: AtomicBool::new(false),
+        }
+    }
+
     /// Whether a second closure was begun within a million looks, behind each of which another thread
     /// may go on.
     fn waits(&self) -> bool {
@@ -49,52 +54,65 @@ impl Gate for Meeting {
     fn after(&self, _worker: u32, _slice: u64) {}
 }
 
+/// How the run of two jobs ends, and whether two commands met.
+fn told_of<R: Threads + Wait + Sync>(
+    rt: &R,
+    alloc: Global,
+    script: &str,
+    meeting: &Meeting,
+) -> Result<String, Fail> {
+    let words = words_of(alloc, "--jobs 2 --workers 1")?;
+    let ended = run_by(
+        rt,
+        alloc,
+        &words,
+        script.as_bytes(),
+        1_000,
+        &[],
+        &[],
+        meeting,
+    )?;
+    tell(alloc, &ended)
+}
+
 #[test]
 fn two_commands_meet(rt: HostRuntime) -> Result<(), Fail> {
-    let alloc = rt.alloc();
-    let script = format!(in alloc;
-        "{MEET}close M 2 [0 1] [1 0] count close M 2 [0 1] [1 0] count"
-    )?;
-    let words = words_of(alloc, &["--jobs", "2", "--workers", "1"])?;
-    let mut source = MemSource::new(script.as_bytes().to_vec(alloc)?, 1_000, Vec::new(alloc));
-    let room = vec![in alloc; 0; 1_000]?;
-    let mut sink = MemSink::new(room, 1_000, Vec::new(alloc));
-    let meeting = Meeting {
-        begun: AtomicU32::new(0),
-        met: AtomicBool::new(false),
-    };
-    let status = run(&rt, alloc, &words, &mut source, &mut sink, &meeting);
-    assert_eq!(rt; status, Status::Done);
-    assert!(rt; meeting.met.load(Ordering::SeqCst));
-    let out = sink.into_bytes();
-    assert_eq!(rt; out.as_slice(), b"closed 3\nclosed 3\n".as_slice());
+    let meeting = Meeting::new();
+    let script = "algebra M size 2
+op meet 2 = 0 0 0 1
+end
+close M 2 [0 1] [1 0] count close M 2 [0 1] [1 0] count";
+    let found = told_of(&rt, rt.alloc(), script, &meeting)?;
+    let met = meeting.met.load(Ordering::SeqCst);
+    let wanted = "Done: closed 3\nclosed 3\n";
+    assert!(rt; met);
+    same(&rt, "a meeting", found.as_str(), wanted);
     Ok(())
 }
 
-/// Runs a script with one job, and compares what it writes with several.
+/// Compares what a script writes with one job and with so many.
 fn same_bytes<R: Threads + Wait + Abort + Sync>(
     rt: &R,
     alloc: Global,
-    script: &[u8],
-    jobs: &[&str],
+    script: &str,
+    one: &str,
+    jobs: &str,
 ) -> Result<(), Fail> {
-    let one = run_with(
-        rt,
-        alloc,
-        &words_of(alloc, &["--workers", "1"])?,
-        script,
-        &[],
-        &[],
-    )?;
-    assert_eq!(rt; one.status, Status::Done);
-    assert!(rt; !one.out.is_empty());
-    for number in jobs {
-        let words = words_of(alloc, &["--workers", "1", "--jobs", number])?;
-        let ended = run_with(rt, alloc, &words, script, &[], &[])?;
-        assert_eq!(rt; ended.status, Status::Done);
-        assert_eq!(rt; ended.out.as_slice(), one.out.as_slice(), "{number}");
-    }
+    let words = format!(in alloc; "--workers 1 --jobs {jobs}")?;
+    let found = told(rt, alloc, words.as_str(), script.as_bytes(), &[], &[])?;
+    same(rt, jobs, found.as_str(), one);
     Ok(())
+}
+
+/// What a script writes with one job, which is not nothing.
+fn told_by_one<R: Threads + Wait + Abort + Sync>(
+    rt: &R,
+    alloc: Global,
+    script: &str,
+) -> Result<String, Fail> {
+    let one = told(rt, alloc, "--workers 1", script.as_bytes(), &[], &[])?;
+    assert!(rt; one.starts_with("Done: ") && one.len() > 6);
+    Ok(one)
 }
 
 #[test]
@@ -103,18 +121,20 @@ fn a_session_by_four_jobs(rt: HostRuntime) -> Result<(), Fail> {
     let script = format!(in alloc;
         "{ALGEBRAS}con Q types Q free Q 2 count cond Q maltsev jonsson Q"
     )?;
-    same_bytes(&rt, alloc, script.as_bytes(), &["4"])
+    let one = told_by_one(&rt, alloc, script.as_str())?;
+    same_bytes(&rt, alloc, script.as_str(), one.as_str(), "4")
 }
 
 /// What a sink takes before it fails is written, whatever the number of jobs.
 #[test]
 fn a_sink_fails_between_replies(rt: HostRuntime) -> Result<(), Fail> {
-    let alloc = rt.alloc();
-    let script = format!(in alloc; "{MEET}close M 2 close M 2 close M 2")?;
-    let words = words_of(alloc, &["--jobs", "2"])?;
-    let ended = run_with(&rt, alloc, &words, script.as_bytes(), &[], &[2])?;
-    assert_eq!(rt; ended.status, Status::WriteFault);
-    assert_eq!(rt; ended.out.as_slice(), b"closed 0\nclosed 0\n".as_slice());
+    let script = b"algebra M size 2
+op meet 2 = 0 0 0 1
+end
+close M 2 close M 2 close M 2";
+    let found = told(&rt, rt.alloc(), "--jobs 2", script, &[], &[2])?;
+    let wanted = "WriteFault: closed 0\nclosed 0\n";
+    same(&rt, "the third write", found.as_str(), wanted);
     Ok(())
 }
 
@@ -135,57 +155,104 @@ fn commands(alloc: Global, count: usize) -> Result<(String, String), AllocError>
     Ok((script, replies))
 }
 
+/// Compares what a script writes with each number of jobs.
+fn write_alike<R: Threads + Wait + Abort + Sync>(
+    rt: &R,
+    alloc: Global,
+    script: &str,
+    replies: &str,
+) -> Result<(), Fail> {
+    for words in WORDS {
+        writes(rt, alloc, words, script, replies)?;
+    }
+    Ok(())
+}
+
+/// So many commands.
+fn batch<R: Threads + Wait + Abort + Sync>(
+    rt: &R,
+    alloc: Global,
+    count: usize,
+) -> Result<(), Fail> {
+    let (script, replies) = commands(alloc, count)?;
+    write_alike(rt, alloc, script.as_str(), replies.as_str())
+}
+
 /// Batches are full, or not, or there is none; and one more begins behind a full one.
 #[test]
 fn batches_of_many_sizes(rt: HostRuntime) -> Result<(), Fail> {
-    let alloc = rt.alloc();
     for count in [0, 1, 2, 63, 64, 65, 130] {
-        let (script, replies) = commands(alloc, count)?;
-        for words in WORDS {
-            let words = words_of(alloc, words)?;
-            writes(&rt, alloc, &words, script.as_bytes(), replies.as_bytes())?;
-        }
+        batch(&rt, rt.alloc(), count)?;
     }
     Ok(())
+}
+
+/// A block, what is made of blocks, or a command.
+fn item(alloc: Global, number: u32) -> Result<String, AllocError> {
+    let size = number % 5 + 1;
+    let block = u32::wrapping_mul(number, 7) % 77 * 13;
+    let made = u32::saturating_sub(number, 7);
+    match number % 13 {
+        0 => format!(in alloc; "algebra A{number} size {size} op f 0 = 0 end\n"),
+        4 => format!(in alloc; "make A{number} product A{block} A{block}\n"),
+        7 => format!(in alloc; "sub A{block} [{size}]\n"),
+        9 => format!(in alloc; "ones A{block}\n"),
+        11 => format!(in alloc; "ones A{made}\n"),
+        _ => format!(in alloc; "close A{block} 1 [{size}] count\n"),
+    }
+}
+
+fn thousand_items(alloc: Global) -> Result<String, AllocError> {
+    let mut script = String::new(alloc);
+    for number in 0..1_000_u32 {
+        let item = item(alloc, number)?;
+        script.push_str(item.as_str())?;
+    }
+    Ok(script)
 }
 
 /// A thousand items: blocks, what is made of them, and commands that name those before them and those behind them.
 #[test]
 fn a_thousand_items(rt: HostRuntime) -> Result<(), Fail> {
     let alloc = rt.alloc();
-    let mut script = String::new(alloc);
-    for number in 0..1_000_u32 {
-        let size = number % 5 + 1;
-        let block = number * 7 % 77 * 13;
-        let made = u32::saturating_sub(number, 7);
-        let item = match number % 13 {
-            0 => format!(in alloc; "algebra A{number} size {size} op f 0 = 0 end\n")?,
-            4 => format!(in alloc; "make A{number} product A{block} A{block}\n")?,
-            7 => format!(in alloc; "sub A{block} [{size}]\n")?,
-            9 => format!(in alloc; "ones A{block}\n")?,
-            11 => format!(in alloc; "ones A{made}\n")?,
-            _ => format!(in alloc; "close A{block} 1 [{size}] count\n")?,
-        };
-        script.push_str(item.as_str())?;
-    }
-    same_bytes(&rt, alloc, script.as_bytes(), &["2", "16"])
+    let script = thousand_items(alloc)?;
+    let one = told_by_one(&rt, alloc, script.as_str())?;
+    same_bytes(&rt, alloc, script.as_str(), one.as_str(), "2")?;
+    same_bytes(&rt, alloc, script.as_str(), one.as_str(), "16")
+}
+
+/// Compares how what a script writes begins and ends.
+fn writes_ends<R: Threads + Wait + Abort + Sync>(
+    rt: &R,
+    alloc: Global,
+    words: &str,
+    script: &str,
+    front: &str,
+    back: &str,
+) -> Result<(), Fail> {
+    let found = told(rt, alloc, words, script.as_bytes(), &[], &[])?;
+    assert!(rt;
+        found.starts_with(front) && found.ends_with(back),
+        "{words}"
+    );
+    Ok(())
 }
 
 /// A command sees what a `make` before it made, and not what one behind it makes.
 #[test]
 fn constructions_amid_a_batch(rt: HostRuntime) -> Result<(), Fail> {
-    let alloc = rt.alloc();
-    let script = format!(in alloc;
-        "{MEET}close P 1 count
+    let script = "algebra M size 2
+op meet 2 = 0 0 0 1
+end
+close P 1 count
 make P product M M
 ones M
 close P 1 [3] count
 make R product P P
 close R 1 [3] [2] count
 make N sub P [9]
-ones N"
-    )?;
-    let front = "error unknown 4:7
+ones N";
+    let front = "Done: error unknown 4:7
 algebra P size 4
 op meet 2 = 0 0 0 0 0 1 0 1 0 0 2 2 0 1 2 3
 end
@@ -197,11 +264,7 @@ algebra R size 16
 op meet 2 =";
     let back = "end\nclosed 2\nerror range 10:15\nerror unknown 11:6\n";
     for words in WORDS {
-        let words = words_of(alloc, words)?;
-        let ended = run_with(&rt, alloc, &words, script.as_bytes(), &[], &[])?;
-        assert_eq!(rt; ended.status, Status::Done);
-        assert!(rt; ended.out.starts_with(front.as_bytes()), "{words:?}");
-        assert!(rt; ended.out.ends_with(back.as_bytes()), "{words:?}");
+        writes_ends(&rt, rt.alloc(), words, script, front, back)?;
     }
     Ok(())
 }
@@ -209,14 +272,22 @@ op meet 2 =";
 /// A command does not see a block that comes behind it.
 #[test]
 fn blocks_behind_a_command(rt: HostRuntime) -> Result<(), Fail> {
-    let alloc = rt.alloc();
     let script = "con A algebra A size 1 end con A con B
 algebra B size 1 end con B con A";
-    let one = "congruences 1\n0 |0|\ncovers 0\njoin irreducibles\n";
-    let replies = format!(in alloc; "error unknown 1:5\n{one}error unknown 1:38\n{one}{one}")?;
-    for words in WORDS {
-        let words = words_of(alloc, words)?;
-        writes(&rt, alloc, &words, script.as_bytes(), replies.as_bytes())?;
-    }
-    Ok(())
+    let replies = "error unknown 1:5
+congruences 1
+0 |0|
+covers 0
+join irreducibles
+error unknown 1:38
+congruences 1
+0 |0|
+covers 0
+join irreducibles
+congruences 1
+0 |0|
+covers 0
+join irreducibles
+";
+    write_alike(&rt, rt.alloc(), script, replies)
 }

@@ -10,71 +10,63 @@ const LARGEST: Trial = Trial {
     blocks: "algebra One size 1 end algebra Many size 255 end
 algebra a23456789_123456789_123456789_12 size 2 op m23456789_123456789_123456789_12 2 = 0 0 0 1 end
 ",
-    words: &[],
+    words: "",
     workers: ANY,
 };
 
 #[test]
 fn names_and_sizes(rt: HostRuntime) -> Result<(), Fail> {
-    rows(
-        &rt,
-        rt.alloc(),
-        LARGEST,
-        &[
-            (
-                "close a23456789_123456789_123456789_12 2 [0 1] [1 0] least",
-                "closed 3\n[0 0] 2 m23456789_123456789_123456789_12 1 2\n[0 1] 0 gen 0\n[1 0] 1 gen 1\n",
-            ),
-            ("sub Many [254 0]", "{0 254}\n"),
-            ("sub Many [255]", "error range 3:11\n"),
-        ],
-    )
+    let cases = "
+        close a23456789_123456789_123456789_12 2 [0 1] [1 0] least => closed 3
+            [0 0] 2 m23456789_123456789_123456789_12 1 2
+            [0 1] 0 gen 0
+            [1 0] 1 gen 1
+        sub Many [254 0] => {0 254}
+        sub Many [255] => error range 3:11";
+    rows(&rt, rt.alloc(), LARGEST, cases)
 }
 
 #[test]
 fn the_least_budget(rt: HostRuntime) -> Result<(), Fail> {
     let trial = Trial {
-        words: &["--budget=1"],
+        words: "--budget=1",
         ..LARGEST
     };
-    rows(
-        &rt,
-        rt.alloc(),
-        trial,
-        &[
-            ("close One 1", "closed 0\n"),
-            ("close One 1 [0] [0]", "closed 1\n[0] 0 gen 0\n"),
-            ("close One 999999999", "error wide 1 999999999\n"),
-            ("member One 1 [0] = [0]", "yes 1\n0 gen 0\n"),
-            ("free One 0", "closed 0\n"),
-            ("free One 8", "closed 1\n[0] 0 gen 0\n"),
-            ("nu One 3", "yes 1\n0 gen 0\n"),
-            ("nu One 16", "yes 1\n0 gen 0\n"),
-            (
-                "con One",
-                "congruences 1\n0 |0|\ncovers 0\njoin irreducibles\n",
-            ),
-        ],
-    )
+    let cases = "
+        close One 1 => closed 0
+        close One 1 [0] [0] => closed 1
+            [0] 0 gen 0
+        close One 999999999 => error wide 1 999999999
+        member One 1 [0] = [0] => yes 1
+            0 gen 0
+        free One 0 => closed 0
+        free One 8 => closed 1
+            [0] 0 gen 0
+        nu One 3 => yes 1
+            0 gen 0
+        nu One 16 => yes 1
+            0 gen 0
+        con One => congruences 1
+            0 |0|
+            covers 0
+            join irreducibles";
+    rows(&rt, rt.alloc(), trial, cases)
 }
 
 #[test]
 fn the_greatest_budget(rt: HostRuntime) -> Result<(), Fail> {
     let trial = Trial {
-        words: &["--budget=1000000"],
+        words: "--budget=1000000",
         ..LARGEST
     };
-    rows(
-        &rt,
-        rt.alloc(),
-        trial,
-        &[
-            ("close One 67", "closed 0\n"),
-            ("close One 68", "error wide 1 68000000\n"),
-            ("close One 1 [0]", "closed 1\n[0] 0 gen 0\n"),
-            ("free One 8", "closed 1\n[0] 0 gen 0\n"),
-        ],
-    )
+    let cases = "
+        close One 67 => closed 0
+        close One 68 => error wide 1 68000000
+        close One 1 [0] => closed 1
+            [0] 0 gen 0
+        free One 8 => closed 1
+            [0] 0 gen 0";
+    rows(&rt, rt.alloc(), trial, cases)
 }
 
 /// A script with 64 operations, of which the last is asked for.
@@ -109,10 +101,13 @@ fn many_parentheses(alloc: Global) -> Result<String, AllocError> {
 }
 
 #[test]
-fn sixty_four(rt: HostRuntime) -> Result<(), Fail> {
-    let alloc = rt.alloc();
-    let script = many_operations(alloc)?;
-    writes(&rt, alloc, &[], script.as_bytes(), b"value 63\n")?;
-    let script = many_parentheses(alloc)?;
-    writes(&rt, alloc, &[], script.as_bytes(), b"value 0\n")
+fn sixty_four_operations(rt: HostRuntime) -> Result<(), Fail> {
+    let script = many_operations(rt.alloc())?;
+    writes(&rt, rt.alloc(), "", script.as_str(), "value 63\n")
+}
+
+#[test]
+fn sixty_four_parentheses(rt: HostRuntime) -> Result<(), Fail> {
+    let script = many_parentheses(rt.alloc())?;
+    writes(&rt, rt.alloc(), "", script.as_str(), "value 0\n")
 }

@@ -16,22 +16,22 @@ fn two_elements(rt: HostRuntime) -> Result<(), Fail> {
     let trial = Trial {
         fronts: BOTH,
         blocks: TWO,
-        words: &[],
+        words: "",
         workers: ANY,
     };
-    rows(
-        &rt,
-        rt.alloc(),
-        trial,
-        &[
-            ("types E", "types 1\n0 1 type 1 pair 0 1\n"),
-            ("types Z2", "types 1\n0 1 type 2 pair 0 1\n"),
-            ("types B", "types 1\n0 1 type 3 pair 0 1\n"),
-            ("types L", "types 1\n0 1 type 4 pair 0 1\n"),
-            ("types M", "types 1\n0 1 type 5 pair 0 1\n"),
-            ("types X", "error unknown 6:7\n"),
-        ],
-    )
+    let cases = "
+        types E => types 1
+            0 1 type 1 pair 0 1
+        types Z2 => types 1
+            0 1 type 2 pair 0 1
+        types B => types 1
+            0 1 type 3 pair 0 1
+        types L => types 1
+            0 1 type 4 pair 0 1
+        types M => types 1
+            0 1 type 5 pair 0 1
+        types X => error unknown 6:7";
+    rows(&rt, rt.alloc(), trial, cases)
 }
 
 #[test]
@@ -39,21 +39,17 @@ fn each_cover(rt: HostRuntime) -> Result<(), Fail> {
     let trial = Trial {
         fronts: BOTH,
         blocks: ALGEBRAS,
-        words: &[],
+        words: "",
         workers: ANY,
     };
-    rows(
-        &rt,
-        rt.alloc(),
-        trial,
-        &[
-            (
-                "types Q",
-                "types 4\n0 1 type 3 pair 0 1\n0 2 type 3 pair 0 2\n1 3 type 3 pair 0 2\n2 3 type 3 pair 0 1\n",
-            ),
-            ("types One", "types 0\n"),
-        ],
-    )
+    let cases = "
+        types Q => types 4
+            0 1 type 3 pair 0 1
+            0 2 type 3 pair 0 2
+            1 3 type 3 pair 0 2
+            2 3 type 3 pair 0 1
+        types One => types 0";
+    rows(&rt, rt.alloc(), trial, cases)
 }
 
 /// A set has three members, and there are two congruences.
@@ -62,14 +58,17 @@ fn types_beyond_the_budget(rt: HostRuntime) -> Result<(), Fail> {
     let trial = Trial {
         fronts: BOTH,
         blocks: MEET,
-        words: &["--budget", "2"],
+        words: "--budget 2",
         workers: ANY,
     };
     let less = Trial {
-        words: &["--budget", "1"],
+        words: "--budget 1",
         ..trial
     };
     let alloc = rt.alloc();
-    rows(&rt, alloc, trial, &[("types M", "types 1\n0 1 exceeds\n")])?;
-    rows(&rt, alloc, less, &[("types M", "exceeds 1\n")])
+    let cases = "
+        types M => types 1
+            0 1 exceeds";
+    rows(&rt, alloc, trial, cases)?;
+    rows(&rt, alloc, less, "types M => exceeds 1")
 }
