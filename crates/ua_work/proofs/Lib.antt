@@ -14,3 +14,4 @@ pub mod LoneSlices
 pub mod BeginLaws
 pub mod TupleRuns
 pub mod SliceRuns
+pub mod OneTuple

@@ -160,7 +160,13 @@ fn settle_run(
 }
 
 /// Settles each tuple of a slice, which is looked for from the mark.
-fn finish(job: &Job, seat: &mut Seat, replica: &mut Replica, mark: &mut Mark, s: u64) -> Option<End>
+fn settle_slice(
+    job: &Job,
+    seat: &mut Seat,
+    replica: &mut Replica,
+    mark: &mut Mark,
+    s: u64,
+) -> Option<End>
     requires home { seat.old.home ≡ job.now.board.now }
     requires job { IsJobOf replica.old job.now }
     requires working { GoesOn job.now.goal.now replica.old seat.old.own }
@@ -191,6 +197,30 @@ fn finish(job: &Job, seat: &mut Seat, replica: &mut Replica, mark: &mut Mark, s:
         from += u64::from(run.count);
     }
     None
+}
+
+/// Settles each tuple of a slice, which is looked for from the mark. A unary operation has one there.
+#[inline]
+fn finish(job: &Job, seat: &mut Seat, replica: &mut Replica, mark: &mut Mark, s: u64) -> Option<End>
+    requires home { seat.old.home ≡ job.now.board.now }
+    requires job { IsJobOf replica.old job.now }
+    requires working { GoesOn job.now.goal.now replica.old seat.old.own }
+    requires below { s < bound replica.old.shape (length seat.old.own.seen) }
+    requires mark { IsMark replica.old.shape mark.old }
+    requires earlier { mark.old.first ≤ s }
+    ensures closure { SameClosure replica.old replica.new }
+    ensures seat { IsFurther seat.old seat.new }
+    ensures mark { IsMark replica.new.shape mark.new }
+    ensures earlier { mark.new.first ≤ s }
+    ensures done { MatchOption result (GoesOn job.now.goal.now replica.new seat.new.own × IsDone replica.new.operations replica.new.gens.now.items seat.new.own.seen s) (Stops job.now.goal.now job.now.board.now.plan replica.new seat.new.own) }
+    ensures lone { IsAlone seat.old.made seat.old.own → Comes replica.old seat.old.own (turn_from replica.old.shape s) → MatchOption result (Comes replica.new seat.new.own (turn_from replica.new.shape (suc s))) (StopsSerial replica.new seat.new.own) }
+{
+    replica.shape.slice_from(Board::seen(seat), mark, s);
+    let unit = mark.parts;
+    if replica.shape.arity(unit.op) == 1 {
+        return settle_tuple(job, seat, replica, unit.op, [unit.row, 0, 0, 0]);
+    }
+    settle_slice(job, seat, replica, mark, s)
 }
 
 /// Looks for a record where all slices of those seen are claimed, and enters it.

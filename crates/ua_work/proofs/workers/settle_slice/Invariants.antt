@@ -5,7 +5,7 @@ use Rattle.ua_work.specs.Serials.{turn_from}
 use Rattle.ua_work.specs.Replicas.{SameClosure}
 use Rattle.ua_work.specs.Workings.{GoesOn, IsFurther, Comes}
 use Rattle.ua_work.specs.Walks.{tuples_in, IsLeftOf, turn_at}
-use Rattle.ua_work.proofs.workers.finish.Given as goal
+use Rattle.ua_work.proofs.workers.settle_slice.Given as goal
 
 abbrev pub invariant-loop-args : goal.invariant-loop-args
 invariant-loop-args l = record {
