@@ -10,7 +10,7 @@ small : (n : ℕ) → n % 65536 < 65536
 small n = mod-lt n (let p : 0 < 65536 = omega arith in p)
 
 -- the elements of a number that is told by its elements
-lanes_are : (a b c d x : ℕ) → a < 65536 → b < 65536 → c < 65536 → d < 65536 → x ≡ a + b * 65536 + c * 4294967296 + d * 281474976710656 → lanes_of x ≡ a ∷ b ∷ c ∷ d ∷ []
+pub lanes_are : (a b c d x : ℕ) → a < 65536 → b < 65536 → c < 65536 → d < 65536 → x ≡ a + b * 65536 + c * 4294967296 + d * 281474976710656 → lanes_of x ≡ a ∷ b ∷ c ∷ d ∷ []
 lanes_are a b c d x i j k l is =
     let one = mod-add-div' x 65536 in
     let one_low = small x in

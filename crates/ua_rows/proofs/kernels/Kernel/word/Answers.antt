@@ -1,8 +1,10 @@
-use Rattle.std.proofs.Common.{◌<◌, ◌^◌, length, ap, subst, arith}
-use Rattle.std.specs.List.{AllByRecursion}
+use Rattle.std.proofs.Common.{◌≡◌, ◌<◌, ◌^◌, [], length, map, get_or, sym, ap, subst, arith}
+use Rattle.std.specs.List.{AllByRecursion, range_with_len}
 use Rattle.ua_rows.specs.declared.kernels.Kernel.{Kernel}
 use Rattle.ua_rows.specs.Gathered.{vectors_behind}
-use Rattle.ua_rows.specs.Kernels.{base_of, Reads}
+use Rattle.ua_rows.specs.Kernels.{looked, base_of, cells_of, Reads}
+use Rattle.ua_rows.specs.Words.{lanes_of}
+use Rattle.ua_rows.proofs.LineLaws.{line_read, one_behind}
 use Rattle.ua_rows.proofs.KernelLaws.{lanes_within, length_behind}
 use Rattle.ua_rows.proofs.kernels.Kernel.word.Goals as goal
 
@@ -17,3 +19,12 @@ look-requires c =
 
 pub values_at-requires-clause-below : goal.values_at-requires-clause-below
 values_at-requires-clause-below c = subst (λ (k : Kernel). AllByRecursion (AllByRecursion (λ x. x < base_of k)) (vectors_behind c.args.rows.now)) c.in-Many.is c.requires.below
+
+pub returns-in-Line : goal.returns-in-Line
+returns-in-Line c =
+    let rows = c.args.rows.now in
+    let is = c.in-Line.is in
+    let reads = subst (λ (k : Kernel). Reads k (length rows)) is c.requires.reads in
+    let below = subst (λ (k : Kernel). AllByRecursion (AllByRecursion (λ x. x < base_of k)) (vectors_behind rows)) is c.requires.below in
+    let read = line_read c.in-Line.line c.in-Line.values.now (vectors_behind rows) (get_or rows 0 (record { ref_ptr = (0, 0); now = [] })).now c.word_at.result c.look_in_line.result c.args.i (one_behind rows reads.2) reads.0 reads.3 below c.word_at.ensures c.look_in_line.ensures in
+    subst (λ (k : Kernel). lanes_of c.look_in_line.result ≡ map (looked (cells_of k) (base_of k) (vectors_behind rows)) (range_with_len c.args.i 4)) (sym is) read

@@ -1,0 +1,112 @@
+-- The elements of a word, looked up byte by byte in a line.
+use Rattle.std.proofs.Common.{◌≡◌, ℕ, zero, suc, ◌+◌, ◌*◌, ◌/◌, ◌%◌, ◌^◌, ◌<◌, List, [], ◌∷◌, length, map, get_or, refl, sym, ap, ◌∙◌, subst, arith, Bor}
+use Rattle.std.specs.Prelude.{cond, leb, slice_index, slice_index_or}
+use Rattle.std.specs.List.{AllByRecursion, range_with_len}
+use Rattle.std.proofs.lemmas.Bool.{lt-leb}
+use Rattle.ua_table.specs.Algebras.{Vector, numeral}
+use Rattle.ua_rows.specs.Words.{lanes_of}
+use Rattle.ua_rows.specs.Gathered.{vectors_behind}
+use Rattle.ua_rows.specs.Kernels.{IsLineOf, looked}
+use Rattle.ua_rows.proofs.LaneLaws.{lanes_are, word_of_lanes}
+
+-- what a byte looks up in a line: from 128 on 0
+abbrev value : List ℕ → ℕ → ℕ
+value line j = cond (leb 128 j) 0 (slice_index_or line (0 + j) 0)
+
+-- the number whose bytes are what so many bytes of a number look up
+abbrev values : List ℕ → ℕ → ℕ → ℕ
+values line n zero = 0
+values line n (suc k) = value line (n % 256) + 256 * values line (n / 256) k
+
+-- the first byte, and those behind it
+first_byte : (line : List ℕ) (n x m k : ℕ) → n ≡ x + 256 * m → x < 256 → values line n (suc k) ≡ value line x + 256 * values line m k
+first_byte line n x m k is low =
+    let byte : n % 256 ≡ x = omega (arith, is, low) in
+    let rest : n / 256 ≡ m = omega (arith, is, low) in
+    λ i. value line (byte i) + 256 * values line (rest i) k
+
+-- an element below 16, and its high byte
+first_element : (line : List ℕ) (n x m k : ℕ) → n ≡ x + 256 * (128 + 256 * m) → x < 16 → values line n (suc (suc k)) ≡ slice_index line x + 65536 * values line m k
+first_element line n x m k is low =
+    let one = first_byte line n x (128 + 256 * m) (suc k) is (omega (arith, low)) in
+    let two = first_byte line (128 + 256 * m) 128 m k refl (omega arith) in
+    let found : value line x ≡ slice_index line x = ap (λ b. cond b 0 (slice_index_or line (0 + x) 0)) (lt-leb 128 x (omega (arith, low))) ∙ ap (slice_index line) (let e : 0 + x ≡ x = omega arith in e) in
+    let none : value line 128 ≡ 0 = refl in
+    omega (arith, one, two, found, none)
+
+-- an entry of a list of numbers below b, or 0 behind it
+pub index_below : (b : ℕ) (v : List ℕ) (k : ℕ) → 0 < b → AllByRecursion (λ x. x < b) v → slice_index v k < b
+index_below b [] k some h = some
+index_below b (x ∷ v) zero some h = h.0
+index_below b (x ∷ v) (suc k) some h = index_below b v k some h.1
+
+-- the elements of a word below 16, with 128 as the high byte of each, and another word behind it
+pub looked_lanes : (line : List ℕ) (word : ℕ) → word < 2 ^ 64 → AllByRecursion (λ x. x < 256) line → AllByRecursion (λ x. x < 16) (lanes_of word)
+    → lanes_of (values line (word + 9223512776490647552 + 170143779648513184865543545075408044032) 16 % 18446744073709551616) ≡ map (slice_index line) (lanes_of word)
+looked_lanes line word fits bytes low =
+    lanes_are (slice_index line a) (slice_index line b) (slice_index line c) (slice_index line d) number (wide a) (wide b) (wide c) (wide d)
+    (let ka = index_below 256 line a (omega arith) bytes in let kb = index_below 256 line b (omega arith) bytes in let kc = index_below 256 line c (omega arith) bytes in let kd = index_below 256 line d (omega arith) bytes in omega (arith, whole, ka, kb, kc, kd))
+  where
+    a : ℕ
+    a = word % 65536
+
+    b : ℕ
+    b = word / 65536 % 65536
+
+    c : ℕ
+    c = word / 4294967296 % 65536
+
+    d : ℕ
+    d = word / 281474976710656 % 65536
+
+    number : ℕ
+    number = values line (word + 9223512776490647552 + 170143779648513184865543545075408044032) 16 % 18446744073709551616
+
+    wide : (x : ℕ) → slice_index line x < 65536
+    wide x = let k = index_below 256 line x (omega arith) bytes in omega (arith, k)
+
+    parts : word ≡ a + b * 65536 + c * 4294967296 + d * 281474976710656
+    parts = sym (word_of_lanes word fits)
+
+    high : ℕ
+    high = 9223512776490647552
+
+    fourth : ℕ
+    fourth = d + 256 * (128 + 256 * high)
+
+    third : ℕ
+    third = c + 256 * (128 + 256 * fourth)
+
+    second : ℕ
+    second = b + 256 * (128 + 256 * third)
+
+    all : word + 9223512776490647552 + 170143779648513184865543545075408044032 ≡ a + 256 * (128 + 256 * second)
+    all = omega (arith, parts)
+
+    whole : values line (word + 9223512776490647552 + 170143779648513184865543545075408044032) 16 ≡ slice_index line a + 65536 * (slice_index line b + 65536 * (slice_index line c + 65536 * (slice_index line d + 65536 * values line high 8)))
+    whole =
+        let one = first_element line (word + 9223512776490647552 + 170143779648513184865543545075408044032) a second 14 all low.0 in
+        let two = first_element line second b third 12 refl low.1.0 in
+        let three = first_element line third c fourth 10 refl low.1.1.0 in
+        let four = first_element line fourth d high 8 refl low.1.1.1.0 in
+        omega (arith, one, two, three, four)
+
+-- what is looked up at the elements of one row is what the kernel reads there
+pub line_read : (line cells : List ℕ) (rows : List Vector) (row : Vector) (word found i : ℕ) → rows ≡ row ∷ [] → 0 < length cells → IsLineOf cells line → AllByRecursion (AllByRecursion (λ x. x < length cells)) rows
+    → lanes_of word ≡ map (slice_index row) (range_with_len i 4) → lanes_of found ≡ map (slice_index line) (lanes_of word) → lanes_of found ≡ map (looked cells (length cells) rows) (range_with_len i 4)
+line_read line cells rows row word found i one some are below read is = is ∙ ap (map (slice_index line)) read ∙ (λ l. at i l ∷ at (i + 1) l ∷ at (i + 1 + 1) l ∷ at (i + 1 + 1 + 1) l ∷ [])
+  where
+    row_below : AllByRecursion (λ x. x < length cells) row
+    row_below = (subst (AllByRecursion (AllByRecursion (λ x. x < length cells))) one below).0
+
+    at : (k : ℕ) → slice_index line (slice_index row k) ≡ looked cells (length cells) rows k
+    at k =
+        are.values_are (slice_index row k) (index_below (length cells) row k some row_below)
+        ∙ ap (slice_index cells) (let e : slice_index row k ≡ numeral (length cells) (slice_index row k ∷ []) = omega arith in e)
+        ∙ ap (λ (vs : List Vector). looked cells (length cells) vs k) (sym one)
+
+-- one reference, and the row behind it
+pub one_behind : (rows : List (Bor (List ℕ))) → length rows ≡ 1 → vectors_behind rows ≡ (get_or rows 0 (record { ref_ptr = (0, 0); now = [] })).now ∷ []
+one_behind [] one = absurd (omega (arith, one))
+one_behind (row ∷ []) one = refl
+one_behind (row ∷ next ∷ rows) one = absurd (omega (arith, one))
