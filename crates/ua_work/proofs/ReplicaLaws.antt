@@ -10,16 +10,12 @@ use Rattle.ua_table.proofs.Lists.{found, get_or-slice_get, All-slice_get, all_ap
 use Rattle.ua_rows.specs.RowLists.{RowList, rows_at}
 use Rattle.ua_rows.proofs.OperationLaws.{applied_vector}
 use Rattle.ua_rows.proofs.RowLemmas.{place_below}
+use Rattle.ua_rows.proofs.AppliedLaws.{contains_by}
 use Rattle.ua_work.specs.Values.{with_new, different}
 use Rattle.ua_lanes.specs.LaneLists.{LaneList}
 use Rattle.ua_work.specs.Replicas.{AreLanesOf, values_in, value_in, IsOriginIn, IsReplica}
 use Rattle.ua_work.specs.declared.replicas.Replica.{Replica}
 use Rattle.ua_work.proofs.RowValues.{with_old, with_absent, either_way, in_different, in_all, different_push, rows_at_push, rows_at_new, named_push, rows_twice, length-rows_at}
-
--- a look-up finds what is there
-pub contains_by : (r : Option ℕ) (b : Bool) (rows : List Vector) (v : Vector) → b ≡ is_some r → IfSome r (λ i. slice_get rows i ≡ Some v) → IfNone r (¬ Contains rows v) → IsTrue b ↔ Contains rows v
-contains_by None b rows v e found absent = (λ t. let no : true ≡ false = sym t ∙ e in cc, λ c. absurd (absent c))
-contains_by (Some i) b rows v e found absent = (λ t. Contains-slice_get rows i v found, λ c. e)
 
 -- the rows of records are rows
 below_at : (n : ℕ) (places : List ℕ) (a : ℕ) → AllByRecursion (λ k. k < n) places → a < length places → slice_index places a < n
