@@ -2,7 +2,7 @@
 use Rattle.std.proofs.lemmas.List.{take_all}
 use Rattle.ua_work.specs.declared.harvests.End.{End}
 use Rattle.ua_work.specs.Beginnings.{HasBegun}
-use Rattle.std.specs.Prelude.{MatchOption, Contains, slice_index}
+use Rattle.std.specs.Prelude.{⊤, MatchOption, Contains, slice_index}
 use Rattle.std.proofs.Common.{Option, Some, None, ◌≡◌, ℕ, ◌+◌, ◌<◌, ⊎_elim, List, [], ◌∷◌, length, take, sym, ap, ◌∙◌, subst, arith}
 use Rattle.std.specs.List.{AllByRecursion}
 use Rattle.std.proofs.lemmas.Bool.{cases_lt}
@@ -91,6 +91,11 @@ both (Some end) A B C S T f a b = b
 pub only : (o : Option End) (A C : Type 0) (S : End → Type 0) → (A → C) → MatchOption o A S → MatchOption o C S
 only None A C S f a = f a
 only (Some end) A C S f a = a
+
+-- and what matters only where it does
+pub weaker : (o : Option End) (A C : Type 0) (S : End → Type 0) → (A → C) → MatchOption o A S → MatchOption o C (λ end. ⊤)
+weaker None A C S f a = f a
+weaker (Some end) A C S f a = tt
 
 -- nothing comes before the first turn
 pub come_first : (r : Replica) (w : Worker) → w.seen ≡ [] → Comes r w (0 ∷ 0 ∷ [])

@@ -15,3 +15,4 @@ pub mod BeginLaws
 pub mod TupleRuns
 pub mod SliceRuns
 pub mod OneTuple
+pub mod BlockLaws

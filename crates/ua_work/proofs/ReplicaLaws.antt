@@ -1,5 +1,5 @@
 -- What a replica keeps as records are entered.
-use Rattle.std.proofs.Common.{◌≡◌, ◌↔◌, ℕ, zero, suc, ◌<◌, Bool, true, false, None, List, [], ◌∷◌, ◌++◌, length, take, map, Option, Vec, Result, Ok, refl, sym, ap, ◌∙◌, subst, arith, ⊎_elim, ◌+◌, length-append}
+use Rattle.std.proofs.Common.{◌≡◌, ◌↔◌, ℕ, zero, suc, ◌<◌, Bool, List, [], ◌∷◌, ◌++◌, length, take, map, Option, Vec, Result, Ok, refl, sym, ap, ◌∙◌, subst, arith, ⊎_elim, ◌+◌, length-append}
 use Rattle.std.specs.Prelude.{Contains, slice_index, IsTrue, IfSome, IfNone, slice_get, Some, is_some, if◌then◌else◌, is_ok}
 use Rattle.std.specs.List.{AllByRecursion}
 use Rattle.std.specs.declared.alloc.Global.{Global}

@@ -8,3 +8,4 @@ pub mod Workings
 pub mod Walks
 pub mod Beginnings
 pub mod Runs
+pub mod KnownBlocks

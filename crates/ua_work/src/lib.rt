@@ -4,6 +4,7 @@
 mod beginnings;
 mod goals;
 mod harvests;
+mod known_blocks;
 mod puts;
 mod replicas;
 mod runs;

@@ -1,6 +1,6 @@
 //! One worker's run on a board.
 
-ghost use Rattle.std.specs.Prelude.{◌≡◌, ◌+◌, ◌-◌, ◌/◌, ◌^◌, ◌<◌, ◌≤◌, [], ℕ, List, suc, length, take, slice_index, slice_set, false, IsTrue, None, OnOk, MatchOption};
+ghost use Rattle.std.specs.Prelude.{◌≡◌, ◌+◌, ◌-◌, ◌/◌, ◌^◌, ◌<◌, ◌≤◌, [], ℕ, List, suc, length, take, slice_index, slice_set, false, IsTrue, None, OnOk, MatchOption, ⊤};
 ghost use Rattle.std.specs.List.{AllByRecursion};
 ghost use Rattle.ua_table.specs.declared.origins.Origin.{Origin};
 ghost use Rattle.ua_table.specs.declared.origins.Origin.TheVariants.{Op};
@@ -15,10 +15,12 @@ ghost use Rattle.ua_work.specs.Runs.{run_of, AreBitsIn, IsRunIn};
 ghost use Rattle.ua_work.specs.Serials.{turn_from};
 ghost use Rattle.ua_work.specs.Harvests.{IsPlanOf, IsLater, PutsNew, IsDone, IsHarvestFrom};
 ghost use Rattle.ua_work.specs.Replicas.{values_in, IsOriginIn, IsReplica, SameClosure};
+ghost use Rattle.ua_work.specs.KnownBlocks.{AreKnownBlocks};
 ghost use Rattle.ua_work.specs.Workings.{record_values, GoesOn, IsFurther, IsSettled, Stops, AreDone, IsHalted, IsJobOf, Comes, StopsSerial, turn_of};
 
 use crate::goals::Goal;
 use crate::harvests::{End, Harvest};
+use crate::known_blocks::KnownBlocks;
 use crate::puts::{Job, put_new, take_in};
 use crate::replicas::Replica;
 use crate::runs::{Run, has_bit, run_from, skip, with_number};
@@ -201,15 +203,24 @@ fn settle_slice(
 
 /// Settles each tuple of a slice, which is looked for from the mark. A unary operation has one there.
 #[inline]
-fn finish(job: &Job, seat: &mut Seat, replica: &mut Replica, mark: &mut Mark, s: u64) -> Option<End>
+fn finish(
+    job: &Job,
+    seat: &mut Seat,
+    replica: &mut Replica,
+    blocks: &mut KnownBlocks,
+    mark: &mut Mark,
+    s: u64,
+) -> Option<End>
     requires home { seat.old.home ≡ job.now.board.now }
     requires job { IsJobOf replica.old job.now }
+    requires blocks { AreKnownBlocks replica.old blocks.old }
     requires working { GoesOn job.now.goal.now replica.old seat.old.own }
     requires below { s < bound replica.old.shape (length seat.old.own.seen) }
     requires mark { IsMark replica.old.shape mark.old }
     requires earlier { mark.old.first ≤ s }
     ensures closure { SameClosure replica.old replica.new }
     ensures seat { IsFurther seat.old seat.new }
+    ensures blocks { MatchOption result (AreKnownBlocks replica.new blocks.new) (λ end. ⊤) }
     ensures mark { IsMark replica.new.shape mark.new }
     ensures earlier { mark.new.first ≤ s }
     ensures done { MatchOption result (GoesOn job.now.goal.now replica.new seat.new.own × IsDone replica.new.operations replica.new.gens.now.items seat.new.own.seen s) (Stops job.now.goal.now job.now.board.now.plan replica.new seat.new.own) }
@@ -218,6 +229,9 @@ fn finish(job: &Job, seat: &mut Seat, replica: &mut Replica, mark: &mut Mark, s:
     replica.shape.slice_from(Board::seen(seat), mark, s);
     let unit = mark.parts;
     if replica.shape.arity(unit.op) == 1 {
+        if blocks.is_known(replica, unit.op, unit.row) {
+            return None;
+        }
         return settle_tuple(job, seat, replica, unit.op, [unit.row, 0, 0, 0]);
     }
     settle_slice(job, seat, replica, mark, s)
@@ -255,11 +269,13 @@ fn work_slices<G: Gate>(
     job: &Job,
     seat: &mut Seat,
     replica: &mut Replica,
+    blocks: &mut KnownBlocks,
     worker: u32,
     gate: &G,
 ) -> End
     requires home { seat.old.home ≡ job.now.board.now }
     requires job { IsJobOf replica.old job.now }
+    requires blocks { AreKnownBlocks replica.old blocks.old }
     requires working { GoesOn job.now.goal.now replica.old seat.old.own }
     requires unused { seat.old.own.slices ≡ [] }
     ensures closure { SameClosure replica.old replica.new }
@@ -272,7 +288,7 @@ fn work_slices<G: Gate>(
         match job.board.claim(seat) {
             Claim::Unit(s) => {
                 gate.before(worker, s);
-                if let Some(end) = finish(job, seat, replica, &mut mark, s) {
+                if let Some(end) = finish(job, seat, replica, blocks, &mut mark, s) {
                     return end;
                 }
                 gate.after(worker, s);
@@ -324,7 +340,14 @@ pub(crate) fn harvest(board: &Board, mut seat: Seat, rows: Rows, end: End) -> Ha
 }
 
 /// A worker's run with an empty replica.
-fn run<G: Gate>(job: &Job, mut seat: Seat, mut replica: Replica, worker: u32, gate: &G) -> Harvest
+fn run<G: Gate>(
+    alloc: Global,
+    job: &Job,
+    mut seat: Seat,
+    mut replica: Replica,
+    worker: u32,
+    gate: &G,
+) -> Harvest
     requires home { seat.home ≡ job.now.board.now }
     requires job { IsJobOf replica job.now }
     requires replica { IsReplica replica }
@@ -340,7 +363,10 @@ fn run<G: Gate>(job: &Job, mut seat: Seat, mut replica: Replica, worker: u32, ga
     if job.goal.is_met(&replica.rows, 0) {
         return harvest(job.board, seat, replica.rows, End::Reached);
     }
-    let end = work_slices(job, &mut seat, &mut replica, worker, gate);
+    let Ok(mut blocks) = KnownBlocks::new(alloc, &replica, job.budget) else {
+        return harvest(job.board, seat, replica.rows, End::OutOfMemory);
+    };
+    let end = work_slices(job, &mut seat, &mut replica, &mut blocks, worker, gate);
     harvest(job.board, seat, replica.rows, end)
 }
 
@@ -379,5 +405,5 @@ pub fn work<G: Gate>(
         goal,
         budget: board.budget(),
     };
-    run(&job, seat, replica, worker, gate)
+    run(alloc, &job, seat, replica, worker, gate)
 }

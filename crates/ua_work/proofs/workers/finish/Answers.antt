@@ -1,16 +1,18 @@
 use Rattle.std.proofs.Common.{◌≤◌, suc, ◌∷◌, [], length, sym, ap, ◌∙◌, subst, arith}
-use Rattle.ua_table.specs.declared.limits.TheConstants.{BUDGET}
 use Rattle.ua_table.specs.declared.origins.Origin.TheVariants.{Op}
 use Rattle.ua_table.specs.Numbering.{Fits}
 use Rattle.ua_table.proofs.SliceLaws.{bound_laws}
 use Rattle.ua_log.specs.Seats.{Home}
 use Rattle.ua_work.specs.Serials.{turn_from}
 use Rattle.ua_work.specs.Harvests.{IsDone}
+use Rattle.ua_work.specs.Replicas.{values_in}
 use Rattle.ua_work.specs.Workings.{GoesOn, IsSettled, Stops, Comes, StopsSerial, turn_of}
-use Rattle.ua_work.proofs.WorkLaws.{places_seen, begins_low}
-use Rattle.ua_work.proofs.BeginLaws.{both, only}
-use Rattle.ua_work.proofs.FinishLaws.{grown, shape_of}
-use Rattle.ua_work.proofs.OneTuple.{operation_is, operation_low, one_tuple, origin_one, done_one, comes_one, leaves_one}
+use Rattle.ua_work.specs.KnownBlocks.{AreKnownBlocks}
+use Rattle.ua_work.proofs.WorkLaws.{same_self, places_seen, begins_low, begins_self}
+use Rattle.ua_work.proofs.BeginLaws.{both, only, weaker}
+use Rattle.ua_work.proofs.FinishLaws.{grown}
+use Rattle.ua_work.proofs.BlockLaws.{blocks_grown}
+use Rattle.ua_work.proofs.OneTuple.{operation_low, unary_slice, origin_one, row_low, done_one, comes_one, leaves_one}
 use Rattle.ua_work.proofs.workers.finish.Goals as goal
 
 pub slice_from-requires-clause-fits : goal.slice_from-requires-clause-fits
@@ -24,67 +26,131 @@ slice_from-requires-clause-fits c =
 
 pub arity-requires : goal.arity-requires
 arity-requires c =
+    let t = c.args.seat.now in
     let e = c.slice_from.ensures in
-    let seen = length c.args.seat.now.own.seen in
-    let few : seen ≤ BUDGET = (let a = c.seen.ensures.seen in let b = c.seen.ensures.within in let d = ap (λ (x : Home). x.plan.budget) c.requires.home in let f = c.requires.job.plan.few in omega (arith, a, b, d, f)) in
-    operation_low c.args.replica.now.shape c.args.s seen c.slice_from.new.mark few c.requires.below e.mark e.earlier e.own (shape_of c.args.replica.now c.args.job.now c.requires.job c.requires.working.working)
+    let within : length t.own.seen ≤ t.home.plan.budget = subst (λ n. n ≤ t.home.plan.budget) c.seen.ensures.seen c.seen.ensures.within in
+    operation_low c.args.replica.now c.args.job.now t c.args.s c.slice_from.new.mark c.requires.home c.requires.job c.requires.working.working within c.requires.below e.mark e.earlier e.own
+
+pub is_known-requires-clause-below : goal.is_known-requires-clause-below
+is_known-requires-clause-below c =
+    let r = c.args.replica.now in
+    let t = c.args.seat.now in
+    let k = c.requires.working.working in
+    let e = c.slice_from.ensures in
+    let unit = c.slice_from.new.mark.parts in
+    let rows = length t.own.seen in
+    let count = sym (places_seen r t.own k) in
+    let within : rows ≤ t.home.plan.budget = subst (λ n. n ≤ t.home.plan.budget) c.seen.ensures.seen c.seen.ensures.within in
+    let one = unary_slice r c.args.job.now t c.args.s c.slice_from.new.mark c.requires.home c.requires.job k within c.requires.below e.mark e.earlier e.own (sym c.arity.ensures.arity ∙ c.if-arity-eq1.true) in
+    row_low r rows c.args.s unit one count
+
+pub returns-then-is_known-clause-done : goal.returns-then-is_known-clause-done
+returns-then-is_known-clause-done c =
+    let r = c.args.replica.now in
+    let t = c.args.seat.now in
+    let k = c.requires.working.working in
+    let e = c.slice_from.ensures in
+    let unit = c.slice_from.new.mark.parts in
+    let rows = length t.own.seen in
+    let count = sym (places_seen r t.own k) in
+    let within : rows ≤ t.home.plan.budget = subst (λ n. n ≤ t.home.plan.budget) c.seen.ensures.seen c.seen.ensures.within in
+    let one = unary_slice r c.args.job.now t c.args.s c.slice_from.new.mark c.requires.home c.requires.job k within c.requires.below e.mark e.earlier e.own (sym c.arity.ensures.arity ∙ c.if-arity-eq1.true) in
+    (c.requires.working, done_one r rows c.args.s unit one r t.own count (same_self r) (begins_self (values_in r)) k (omega arith) (c.is_known.ensures.known c.if-is_known.true))
+
+pub returns-then-is_known-clause-lone : goal.returns-then-is_known-clause-lone
+returns-then-is_known-clause-lone c = λ alone come.
+    let r = c.args.replica.now in
+    let t = c.args.seat.now in
+    let k = c.requires.working.working in
+    let e = c.slice_from.ensures in
+    let unit = c.slice_from.new.mark.parts in
+    let rows = length t.own.seen in
+    let count = sym (places_seen r t.own k) in
+    let within : rows ≤ t.home.plan.budget = subst (λ n. n ≤ t.home.plan.budget) c.seen.ensures.seen c.seen.ensures.within in
+    let one = unary_slice r c.args.job.now t c.args.s c.slice_from.new.mark c.requires.home c.requires.job k within c.requires.below e.mark e.earlier e.own (sym c.arity.ensures.arity ∙ c.if-arity-eq1.true) in
+    leaves_one r rows c.args.s unit one r t.own (same_self r) k (c.is_known.ensures.known c.if-is_known.true) (comes_one r rows c.args.s unit one t.own come)
 
 pub settle_tuple-requires-clause-origin : goal.settle_tuple-requires-clause-origin
 settle_tuple-requires-clause-origin c =
     let r = c.args.replica.now in
-    let s = c.args.s in
+    let t = c.args.seat.now in
     let k = c.requires.working.working in
     let e = c.slice_from.ensures in
-    let mark = c.slice_from.new.mark in
-    let seen = length c.args.seat.now.own.seen in
-    let few : seen ≤ BUDGET = (let a = c.seen.ensures.seen in let b = c.seen.ensures.within in let d = ap (λ (x : Home). x.plan.budget) c.requires.home in let f = c.requires.job.plan.few in omega (arith, a, b, d, f)) in
-    let shape = shape_of r c.args.job.now c.requires.job k in
-    let op = operation_is r.shape s seen mark few c.requires.below e.mark e.earlier e.own shape in
-    let one = one_tuple r.shape s seen mark few c.requires.below e.mark e.earlier e.own shape (sym c.arity.ensures.arity ∙ c.if-arity-eq1.true) in
-    origin_one r seen s mark.parts shape k.replica.shape c.requires.below op one (sym (places_seen r c.args.seat.now.own k))
+    let unit = c.slice_from.new.mark.parts in
+    let rows = length t.own.seen in
+    let count = sym (places_seen r t.own k) in
+    let within : rows ≤ t.home.plan.budget = subst (λ n. n ≤ t.home.plan.budget) c.seen.ensures.seen c.seen.ensures.within in
+    let one = unary_slice r c.args.job.now t c.args.s c.slice_from.new.mark c.requires.home c.requires.job k within c.requires.below e.mark e.earlier e.own (sym c.arity.ensures.arity ∙ c.if-arity-eq1.true) in
+    origin_one r rows c.args.s unit one count
+
+pub returns-then-arity-eq1-clause-blocks : goal.returns-then-arity-eq1-clause-blocks
+returns-then-arity-eq1-clause-blocks c =
+    let r = c.args.replica.now in
+    let t = c.args.seat.now in
+    let k = c.requires.working.working in
+    let e = c.slice_from.ensures in
+    let unit = c.slice_from.new.mark.parts in
+    let rows = length t.own.seen in
+    let count = sym (places_seen r t.own k) in
+    let within : rows ≤ t.home.plan.budget = subst (λ n. n ≤ t.home.plan.budget) c.seen.ensures.seen c.seen.ensures.within in
+    let one = unary_slice r c.args.job.now t c.args.s c.slice_from.new.mark c.requires.home c.requires.job k within c.requires.below e.mark e.earlier e.own (sym c.arity.ensures.arity ∙ c.if-arity-eq1.true) in
+    let new = c.settle_tuple.new.replica in
+    let v = c.settle_tuple.new.seat.own in
+    let d = c.settle_tuple.ensures in
+    let goal = c.args.job.now.goal.now in
+    let o = Op unit.op (unit.row ∷ 0 ∷ 0 ∷ 0 ∷ []) in
+    let stops = Stops goal c.args.job.now.board.now.plan new v in
+    weaker c.settle_tuple.result (GoesOn goal new v × IsSettled new o) (AreKnownBlocks new c.is_known.new.self) stops
+    (λ h. blocks_grown r new c.is_known.new.self d.closure (grown r new t.own v k h.0.working d.closure d.seat.seen) c.is_known.ensures.blocks) d.done
 
 pub returns-then-arity-eq1-clause-done : goal.returns-then-arity-eq1-clause-done
 returns-then-arity-eq1-clause-done c =
     let r = c.args.replica.now in
-    let s = c.args.s in
+    let t = c.args.seat.now in
     let k = c.requires.working.working in
     let e = c.slice_from.ensures in
-    let mark = c.slice_from.new.mark in
-    let seen = length c.args.seat.now.own.seen in
-    let few : seen ≤ BUDGET = (let a = c.seen.ensures.seen in let b = c.seen.ensures.within in let d = ap (λ (x : Home). x.plan.budget) c.requires.home in let f = c.requires.job.plan.few in omega (arith, a, b, d, f)) in
-    let shape = shape_of r c.args.job.now c.requires.job k in
-    let op = operation_is r.shape s seen mark few c.requires.below e.mark e.earlier e.own shape in
-    let one = one_tuple r.shape s seen mark few c.requires.below e.mark e.earlier e.own shape (sym c.arity.ensures.arity ∙ c.if-arity-eq1.true) in
+    let unit = c.slice_from.new.mark.parts in
+    let rows = length t.own.seen in
+    let count = sym (places_seen r t.own k) in
+    let within : rows ≤ t.home.plan.budget = subst (λ n. n ≤ t.home.plan.budget) c.seen.ensures.seen c.seen.ensures.within in
+    let one = unary_slice r c.args.job.now t c.args.s c.slice_from.new.mark c.requires.home c.requires.job k within c.requires.below e.mark e.earlier e.own (sym c.arity.ensures.arity ∙ c.if-arity-eq1.true) in
     let new = c.settle_tuple.new.replica in
     let v = c.settle_tuple.new.seat.own in
     let d = c.settle_tuple.ensures in
     let goal = c.args.job.now.goal.now in
-    let o = Op mark.parts.op (mark.parts.row ∷ 0 ∷ 0 ∷ 0 ∷ []) in
-    only c.settle_tuple.result (GoesOn goal new v × IsSettled new o) (GoesOn goal new v × IsDone new.operations new.gens.now.items v.seen s) (Stops goal c.args.job.now.board.now.plan new v)
-    (λ h.
-    let low = begins_low c.args.seat.now.own.seen v.seen d.seat.seen in
-    let wider = (bound_laws r.shape shape).rises seen (length v.seen) low in
-    (h.0, done_one r seen s mark.parts shape k.replica.shape c.requires.below op one new v (sym (places_seen r c.args.seat.now.own k)) d.closure (grown r new c.args.seat.now.own v k h.0.working d.closure d.seat.seen) h.0.working (let b = c.requires.below in omega (arith, wider, b)) h.1))
-    d.done
+    let o = Op unit.op (unit.row ∷ 0 ∷ 0 ∷ 0 ∷ []) in
+    let stops = Stops goal c.args.job.now.board.now.plan new v in
+    only c.settle_tuple.result (GoesOn goal new v × IsSettled new o) (GoesOn goal new v × IsDone new.operations new.gens.now.items v.seen c.args.s) stops
+    (λ h. (h.0, done_one r rows c.args.s unit one new v count d.closure (grown r new t.own v k h.0.working d.closure d.seat.seen) h.0.working (begins_low t.own.seen v.seen d.seat.seen) h.1)) d.done
 
 pub returns-then-arity-eq1-clause-lone : goal.returns-then-arity-eq1-clause-lone
 returns-then-arity-eq1-clause-lone c = λ alone come.
     let r = c.args.replica.now in
-    let s = c.args.s in
+    let t = c.args.seat.now in
     let k = c.requires.working.working in
     let e = c.slice_from.ensures in
-    let mark = c.slice_from.new.mark in
-    let seen = length c.args.seat.now.own.seen in
-    let few : seen ≤ BUDGET = (let a = c.seen.ensures.seen in let b = c.seen.ensures.within in let d = ap (λ (x : Home). x.plan.budget) c.requires.home in let f = c.requires.job.plan.few in omega (arith, a, b, d, f)) in
-    let shape = shape_of r c.args.job.now c.requires.job k in
-    let op = operation_is r.shape s seen mark few c.requires.below e.mark e.earlier e.own shape in
-    let one = one_tuple r.shape s seen mark few c.requires.below e.mark e.earlier e.own shape (sym c.arity.ensures.arity ∙ c.if-arity-eq1.true) in
+    let unit = c.slice_from.new.mark.parts in
+    let rows = length t.own.seen in
+    let count = sym (places_seen r t.own k) in
+    let within : rows ≤ t.home.plan.budget = subst (λ n. n ≤ t.home.plan.budget) c.seen.ensures.seen c.seen.ensures.within in
+    let one = unary_slice r c.args.job.now t c.args.s c.slice_from.new.mark c.requires.home c.requires.job k within c.requires.below e.mark e.earlier e.own (sym c.arity.ensures.arity ∙ c.if-arity-eq1.true) in
     let new = c.settle_tuple.new.replica in
     let v = c.settle_tuple.new.seat.own in
     let d = c.settle_tuple.ensures in
     let goal = c.args.job.now.goal.now in
-    let o = Op mark.parts.op (mark.parts.row ∷ 0 ∷ 0 ∷ 0 ∷ []) in
-    let before = comes_one r seen s mark.parts shape k.replica.shape c.requires.below op one c.args.seat.now.own come in
-    both c.settle_tuple.result (GoesOn goal new v × IsSettled new o) (Comes new v (turn_of new o)) (Comes new v (turn_from new.shape (suc s))) (Stops goal c.args.job.now.board.now.plan new v) (StopsSerial new v)
-    (λ h t. leaves_one r seen s mark.parts shape k.replica.shape c.requires.below op one new v d.closure h.0.working h.1 t)
-    d.done (d.lone alone before)
+    let o = Op unit.op (unit.row ∷ 0 ∷ 0 ∷ 0 ∷ []) in
+    let stops = Stops goal c.args.job.now.board.now.plan new v in
+    both c.settle_tuple.result (GoesOn goal new v × IsSettled new o) (Comes new v (turn_of new o)) (Comes new v (turn_from new.shape (suc c.args.s))) stops (StopsSerial new v)
+    (λ h turn. leaves_one r rows c.args.s unit one new v d.closure h.0.working h.1 turn) d.done (d.lone alone (comes_one r rows c.args.s unit one t.own come))
+
+pub returns-clause-blocks : goal.returns-clause-blocks
+returns-clause-blocks c =
+    let r = c.args.replica.now in
+    let t = c.args.seat.now in
+    let k = c.requires.working.working in
+    let new = c.settle_slice.new.replica in
+    let v = c.settle_slice.new.seat.own in
+    let d = c.settle_slice.ensures in
+    let goal = c.args.job.now.goal.now in
+    weaker c.settle_slice.result (GoesOn goal new v × IsDone new.operations new.gens.now.items v.seen c.args.s) (AreKnownBlocks new c.args.blocks.now) (Stops goal c.args.job.now.board.now.plan new v)
+    (λ h. blocks_grown r new c.args.blocks.now d.closure (grown r new t.own v k h.0.working d.closure d.seat.seen) c.requires.blocks) d.done

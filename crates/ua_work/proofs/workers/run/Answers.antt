@@ -28,6 +28,20 @@ returns-then-is_err g c =
     (record { entered = take n seen; first = first_some n seen; rows_are = rows }, λ lt. absurd (omega (arith, lt))) tt
     (λ lone begun. ends_serial first.operations first.gens.now.items seen (2 ∷ 0 ∷ 0 ∷ []) OutOfMemory refl begun)
 
+pub returns-in_default : goal.returns-in_default
+returns-in_default g c =
+    let s = c.args.seat in
+    let first = c.args.replica in
+    let e = c.recall_all.ensures in
+    let r = c.recall_all.new.replica in
+    let seen = s.own.seen in
+    let n = e.some.0 in
+    let rows = subst (λ (q : Product × List Vector). AreRowsOf q.0 q.1 (take n seen) r.rows.items) (λ i. (e.closure.operations i, (e.closure.gens i).now.items)) (rows_of_replica r (take n seen) e.replica e.some.1) in
+    harvest_from first.operations first.gens.now.items c.args.job.now.goal.now s s r.rows (later_self s) (e.replica.width ∙ ap (length {A = FiniteAlgebra}) e.closure.operations) c.requires.puts c.requires.note
+    OutOfMemory c.harvest-in_default.result (subst (λ (t : SeatView). IsHalted t OutOfMemory c.harvest-in_default.result.seat) e.seat c.harvest-in_default.ensures.seat) c.harvest-in_default.ensures.rows c.harvest-in_default.ensures.end
+    (record { entered = take n seen; first = first_some n seen; rows_are = rows }, λ lt. absurd (omega (arith, lt))) tt
+    (λ lone begun. ends_serial first.operations first.gens.now.items seen (2 ∷ 0 ∷ 0 ∷ []) OutOfMemory refl begun)
+
 pub is_met-requires-clause-fitting : goal.is_met-requires-clause-fitting
 is_met-requires-clause-fitting g c =
     let e = c.recall_all.ensures in

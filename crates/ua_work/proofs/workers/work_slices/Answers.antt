@@ -3,7 +3,8 @@ use Rattle.ua_table.specs.Numbering.{IsShape}
 use Rattle.ua_table.specs.Slices.{IsMark}
 use Rattle.ua_log.specs.Seats.{SeatView}
 use Rattle.ua_work.proofs.WorkLaws.{same_job, same_trans}
-use Rattle.ua_work.proofs.FinishLaws.{shape_of}
+use Rattle.ua_work.proofs.FinishLaws.{shape_of, grown}
+use Rattle.ua_work.proofs.BlockLaws.{blocks_grown}
 use Rattle.ua_work.proofs.RunLaws.{later_further, later_claims, later_knows, working_knows, goes_knows, done_knows, done_grown, done_more}
 use Rattle.ua_work.specs.Serials.{turn_from}
 use Rattle.ua_work.specs.Workings.{Comes}
@@ -32,6 +33,7 @@ loop-s-preserved-in-Unit g c =
           let n_is = (c.in-Unit.ensures.alone one).0 in
           subst (λ m. Comes c.finish.new.replica u.own (turn_from c.finish.new.replica.shape m)) (sym known)
           (e.lone (claimed_alone r s t n told.2 one) (claimed_come r s t n told.2 n_is (i.lone alone come)));
+      blocks = e.blocks;
       working = e.done.0;
       done = done_more r c.finish.new.replica s t u n shape e.closure i.done told.2 e.seat e.done.1;
       mark = e.mark;
@@ -53,6 +55,7 @@ loop-s-preserved-in-Lost g c =
       closure = i.closure;
       later = later_knows c.args.seat.now s t n false i.later told.1;
       lone = λ alone come. absurd (c.in-Lost.ensures.alone (alone_later c.args.seat.now s i.later alone));
+      blocks = i.blocks;
       working = goes_knows c.args.job.now.goal.now r s t n false i.working told.1;
       done = done_knows r s t n false i.done told.1;
       mark = i.mark;
@@ -84,6 +87,7 @@ loop-s-preserved g c =
       later = later_further s0 t u (later_knows s0 s t n false i.later told.2) e.seat;
       lone = λ alone come.
           absurd (e.lone (known_alone r s t n false told.2 (alone_later s0 s i.later alone)) (turn_from r.shape s.own.known) (known_come r s t n false (turn_from r.shape s.own.known) told.2 (i.lone alone come)));
+      blocks = blocks_grown r c.rest.new.replica c.loop-s.blocks e.closure (grown r c.rest.new.replica t.own u.own (goes_knows c.args.job.now.goal.now r s t n false i.working told.2).working e.done.0.working e.closure e.seat.seen) i.blocks;
       working = e.done.0;
       done = done_grown r c.rest.new.replica t.own u.own shape e.closure e.seat.seen e.seat.slices (done_knows r s t n false i.done told.2);
       mark = subst (λ (ks : List ℕ). IsMark ks c.loop-s.mark) (sym e.closure.shape) i.mark;
