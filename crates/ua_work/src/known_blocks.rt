@@ -55,7 +55,7 @@ fn block_from(replica: &Replica, ahead: &mut Ahead, op: u32, first: u32) -> Know
 }
 
 impl KnownBlocks {
-    /// Blocks of which nothing is known. They stay so where the closure has at most a few rows, or wide ones.
+    /// Blocks of which nothing is known. They stay so where there are lanes, a few rows at most, or wide ones.
     pub(crate) fn new(
         alloc: Global,
         replica: &Replica,
@@ -65,7 +65,7 @@ impl KnownBlocks {
         ensures { IfOk result (AreKnownBlocks replica.now) }
     {
         let width = replica.rows.width();
-        let pays = budget >= LARGE && width <= NARROW;
+        let pays = replica.lanes.is_none() && budget >= LARGE && width <= NARROW;
         let none = KnownBlock {
             block: 0,
             known: [false; AHEAD],

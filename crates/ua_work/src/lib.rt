@@ -8,6 +8,7 @@ mod known_blocks;
 mod puts;
 mod replicas;
 mod runs;
+mod slices;
 mod workers;
 
 pub use beginnings::{Begun, start};

@@ -13,7 +13,7 @@ use Rattle.ua_work.proofs.BeginLaws.{both, only, weaker}
 use Rattle.ua_work.proofs.FinishLaws.{grown}
 use Rattle.ua_work.proofs.BlockLaws.{blocks_grown}
 use Rattle.ua_work.proofs.OneTuple.{operation_low, unary_slice, origin_one, row_low, done_one, comes_one, leaves_one}
-use Rattle.ua_work.proofs.workers.finish.Goals as goal
+use Rattle.ua_work.proofs.slices.finish.Goals as goal
 
 pub slice_from-requires-clause-fits : goal.slice_from-requires-clause-fits
 slice_from-requires-clause-fits c =

@@ -20,7 +20,7 @@ use Rattle.ua_work.proofs.LoneLaws.{alone_further}
 use Rattle.ua_work.proofs.LoneSlices.{count_done}
 use Rattle.ua_work.proofs.SerialLaws.{next_turn}
 use Rattle.ua_work.proofs.SliceRuns.{AreParts, are_parts, some_left, has_number, parted, behind_first, behind_run}
-use Rattle.ua_work.proofs.workers.settle_slice.Goals as goal
+use Rattle.ua_work.proofs.slices.settle_slice.Goals as goal
 
 pub slice_from-unit-requires-clause-fits : goal.slice_from-unit-requires-clause-fits
 slice_from-unit-requires-clause-fits c =
