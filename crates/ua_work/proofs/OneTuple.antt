@@ -1,7 +1,6 @@
 -- The one tuple of a slice of a unary operation.
 use Rattle.std.proofs.Common.{◌≡◌, ℕ, suc, ◌+◌, ◌-◌, ◌*◌, ◌<◌, ◌≤◌, List, [], ◌∷◌, ◌++◌, length, map, take, drop, replicate, refl, sym, ap, ◌∙◌, subst, arith}
 use Rattle.std.specs.Prelude.{min, slice_index}
-use Rattle.std.specs.List.{AllByRecursion}
 use Rattle.std.proofs.lemmas.List.{length-map}
 use Rattle.ua_table.specs.declared.limits.TheConstants.{BUDGET, SLICE}
 use Rattle.ua_table.specs.declared.shapes.Unit.{Unit}
@@ -21,6 +20,7 @@ use Rattle.ua_work.specs.Replicas.{values_in, IsOriginIn, SameClosure}
 use Rattle.ua_work.specs.Serials.{turn_from}
 use Rattle.ua_work.specs.Workings.{IsWorking, IsSettled, IsJobOf, Comes, turn_of}
 use Rattle.ua_work.specs.Walks.{tuples_in, turn_at, IsLeftOf}
+use Rattle.ua_work.proofs.ReplicaLaws.{unary_low}
 use Rattle.ua_work.proofs.FinishLaws.{left_start, left_on, left_end, shape_of}
 use Rattle.ua_work.proofs.LoneSlices.{tuple_comes, tuple_done}
 use Rattle.ua_work.proofs.SerialLaws.{next_turn}
@@ -93,7 +93,7 @@ module _ (r : Replica) (seen s : ℕ) (unit : Unit) (h : IsUnarySlice r seen s u
   origin_one count = (left count).origins.0
 
   pub row_low : seen ≡ length r.places.items → unit.row < length r.places.items
-  row_low count = (subst (λ k. AllByRecursion (λ a. a < length r.places.items) (take k tuple)) h.unary (origin_one count).earlier).0
+  row_low count = unary_low r unit.op unit.row (origin_one count) h.unary
 
   -- where it is settled, the slice is done
   pub done_one : (new : Replica) (v : Worker) → seen ≡ length r.places.items → SameClosure r new → IsPrefix (values_in r) (values_in new) → IsWorking new v → seen ≤ length v.seen → IsSettled new (Op unit.op tuple) → IsDone new.operations new.gens.now.items v.seen s

@@ -46,6 +46,10 @@ module _ (r : Replica) (op arity : ℕ) (args four : List ℕ) (replica : IsRepl
       ∙ ap (apply r.operations op) (rows_twice r.rows.items r.places.items (take arity args) earlier)
       ∙ ap (λ k. apply r.operations op (rows_at (values_in r) (take k args))) count
 
+-- the record that a unary operation takes
+pub unary_low : (r : Replica) (op a : ℕ) → IsOriginIn r (Op op (a ∷ 0 ∷ 0 ∷ 0 ∷ [])) → slice_index (arities r.operations) op ≡ 1 → a < length r.places.items
+unary_low r op a origin unary = (subst (λ k. AllByRecursion (λ n. n < length r.places.items) (take k (a ∷ 0 ∷ 0 ∷ 0 ∷ []))) unary origin.earlier).0
+
 -- what is looked up among the rows is looked up among the values
 pub has_value : (r : Replica) (v : Vector) (found : Option ℕ) (b : Bool) → IsReplica r → b ≡ is_some found → IfSome found (λ i. slice_get r.rows.items i ≡ Some v) → IfNone found (¬ Contains r.rows.items v) → IsTrue b ↔ Contains (values_in r) v
 has_value r v found b replica e some none =

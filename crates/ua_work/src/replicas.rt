@@ -192,6 +192,24 @@ impl<'a> Replica<'a> {
         self.has_scratch()
     }
 
+    /// Whether the value of a unary operation at a record is the value of a record. If it is none, the scratch
+    /// has it. It takes no memory.
+    #[inline(always)]
+    pub(crate) fn has_unary(&mut self, op: u32, a: u32) -> bool
+        requires replica { IsReplica self.old }
+        requires unary { slice_index (arities self.old.operations) op ≡ 1 }
+        requires origin { IsOriginIn self.old (Op op (a ∷ 0 ∷ 0 ∷ 0 ∷ [])) }
+        ensures replica { IsReplica self.new }
+        ensures same { self.new ≡ record self.old { scratch = self.new.scratch } }
+        ensures value { self.new.scratch ≡ value_in self.old (Op op (a ∷ 0 ∷ 0 ∷ 0 ∷ [])) }
+        ensures has { IsTrue result ↔ Contains (values_in self.old) (value_in self.old (Op op (a ∷ 0 ∷ 0 ∷ 0 ∷ []))) }
+    {
+        let row = self.places[a as usize];
+        self.operations
+            .apply(op, &self.rows, &[row], &mut self.scratch);
+        self.has_scratch()
+    }
+
     /// Writes the value of an origin into the scratch, and answers whether it is the value of a record. It
     /// takes no memory.
     pub(crate) fn holds(&mut self, o: &Origin) -> bool

@@ -1,6 +1,6 @@
 //! Settles the tuples of a slice: sees to it that the value of each is the value of a record.
 
-ghost use Rattle.std.specs.Prelude.{◌≡◌, ◌+◌, ◌-◌, ◌/◌, ◌^◌, ◌<◌, ◌≤◌, ℕ, List, suc, length, slice_index, slice_set, IsTrue, None, MatchOption, ⊤};
+ghost use Rattle.std.specs.Prelude.{◌≡◌, ◌∷◌, [], ◌+◌, ◌-◌, ◌/◌, ◌^◌, ◌<◌, ◌≤◌, ℕ, List, suc, length, slice_index, slice_set, IsTrue, None, MatchOption, ⊤};
 ghost use Rattle.std.specs.List.{AllByRecursion};
 ghost use Rattle.ua_table.specs.declared.origins.Origin.{Origin};
 ghost use Rattle.ua_table.specs.declared.origins.Origin.TheVariants.{Op};
@@ -177,6 +177,26 @@ fn settle_slice(
     None
 }
 
+/// Sees to it that the value of a unary operation at a record is the value of a record.
+#[inline(always)]
+fn settle_unary(job: &Job, seat: &mut Seat, replica: &mut Replica, op: u32, a: u32) -> Option<End>
+    requires home { seat.old.home ≡ job.now.board.now }
+    requires job { IsJobOf replica.old job.now }
+    requires working { GoesOn job.now.goal.now replica.old seat.old.own }
+    requires unary { slice_index (arities replica.old.operations) op ≡ 1 }
+    requires origin { IsOriginIn replica.old (Op op (a ∷ 0 ∷ 0 ∷ 0 ∷ [])) }
+    ensures closure { SameClosure replica.old replica.new }
+    ensures seat { IsFurther seat.old seat.new }
+    ensures done { MatchOption result (GoesOn job.now.goal.now replica.new seat.new.own × IsSettled replica.new (Op op (a ∷ 0 ∷ 0 ∷ 0 ∷ []))) (Stops job.now.goal.now job.now.board.now.plan replica.new seat.new.own) }
+    ensures lone { IsAlone seat.old.made seat.old.own → Comes replica.old seat.old.own (turn_of replica.old (Op op (a ∷ 0 ∷ 0 ∷ 0 ∷ []))) → MatchOption result (Comes replica.new seat.new.own (turn_of replica.new (Op op (a ∷ 0 ∷ 0 ∷ 0 ∷ [])))) (StopsSerial replica.new seat.new.own) }
+{
+    if replica.has_unary(op, a) {
+        return None;
+    }
+    let args = [a, 0, 0, 0];
+    put_new(job, seat, replica, Origin::Op { op, args })
+}
+
 /// Settles each tuple of a slice, which is looked for from the mark. A unary operation has one there, which the
 /// lanes tell of, where there are any, and else its block.
 #[inline]
@@ -209,7 +229,7 @@ pub(crate) fn finish(
         if blocks.is_known(replica, unit.op, unit.row) {
             return None;
         }
-        return settle_tuple(job, seat, replica, unit.op, [unit.row, 0, 0, 0]);
+        return settle_unary(job, seat, replica, unit.op, unit.row);
     }
     settle_slice(job, seat, replica, mark, s)
 }

@@ -70,8 +70,8 @@ returns-then-is_known-clause-lone c = λ alone come.
     let one = unary_slice r c.args.job.now t c.args.s c.slice_from.new.mark c.requires.home c.requires.job k within c.requires.below e.mark e.earlier e.own (sym c.arity.ensures.arity ∙ c.if-arity-eq1.true) in
     leaves_one r rows c.args.s unit one r t.own (same_self r) k (c.is_known.ensures.known c.if-is_known.true) (comes_one r rows c.args.s unit one t.own come)
 
-pub settle_tuple-requires-clause-origin : goal.settle_tuple-requires-clause-origin
-settle_tuple-requires-clause-origin c =
+pub settle_unary-requires-clause-origin : goal.settle_unary-requires-clause-origin
+settle_unary-requires-clause-origin c =
     let r = c.args.replica.now in
     let t = c.args.seat.now in
     let k = c.requires.working.working in
@@ -94,13 +94,13 @@ returns-then-arity-eq1-clause-blocks c =
     let count = sym (places_seen r t.own k) in
     let within : rows ≤ t.home.plan.budget = subst (λ n. n ≤ t.home.plan.budget) c.seen.ensures.seen c.seen.ensures.within in
     let one = unary_slice r c.args.job.now t c.args.s c.slice_from.new.mark c.requires.home c.requires.job k within c.requires.below e.mark e.earlier e.own (sym c.arity.ensures.arity ∙ c.if-arity-eq1.true) in
-    let new = c.settle_tuple.new.replica in
-    let v = c.settle_tuple.new.seat.own in
-    let d = c.settle_tuple.ensures in
+    let new = c.settle_unary.new.replica in
+    let v = c.settle_unary.new.seat.own in
+    let d = c.settle_unary.ensures in
     let goal = c.args.job.now.goal.now in
     let o = Op unit.op (unit.row ∷ 0 ∷ 0 ∷ 0 ∷ []) in
     let stops = Stops goal c.args.job.now.board.now.plan new v in
-    weaker c.settle_tuple.result (GoesOn goal new v × IsSettled new o) (AreKnownBlocks new c.is_known.new.self) stops
+    weaker c.settle_unary.result (GoesOn goal new v × IsSettled new o) (AreKnownBlocks new c.is_known.new.self) stops
     (λ h. blocks_grown r new c.is_known.new.self d.closure (grown r new t.own v k h.0.working d.closure d.seat.seen) c.is_known.ensures.blocks) d.done
 
 pub returns-then-arity-eq1-clause-done : goal.returns-then-arity-eq1-clause-done
@@ -114,13 +114,13 @@ returns-then-arity-eq1-clause-done c =
     let count = sym (places_seen r t.own k) in
     let within : rows ≤ t.home.plan.budget = subst (λ n. n ≤ t.home.plan.budget) c.seen.ensures.seen c.seen.ensures.within in
     let one = unary_slice r c.args.job.now t c.args.s c.slice_from.new.mark c.requires.home c.requires.job k within c.requires.below e.mark e.earlier e.own (sym c.arity.ensures.arity ∙ c.if-arity-eq1.true) in
-    let new = c.settle_tuple.new.replica in
-    let v = c.settle_tuple.new.seat.own in
-    let d = c.settle_tuple.ensures in
+    let new = c.settle_unary.new.replica in
+    let v = c.settle_unary.new.seat.own in
+    let d = c.settle_unary.ensures in
     let goal = c.args.job.now.goal.now in
     let o = Op unit.op (unit.row ∷ 0 ∷ 0 ∷ 0 ∷ []) in
     let stops = Stops goal c.args.job.now.board.now.plan new v in
-    only c.settle_tuple.result (GoesOn goal new v × IsSettled new o) (GoesOn goal new v × IsDone new.operations new.gens.now.items v.seen c.args.s) stops
+    only c.settle_unary.result (GoesOn goal new v × IsSettled new o) (GoesOn goal new v × IsDone new.operations new.gens.now.items v.seen c.args.s) stops
     (λ h. (h.0, done_one r rows c.args.s unit one new v count d.closure (grown r new t.own v k h.0.working d.closure d.seat.seen) h.0.working (begins_low t.own.seen v.seen d.seat.seen) h.1)) d.done
 
 pub returns-then-arity-eq1-clause-lone : goal.returns-then-arity-eq1-clause-lone
@@ -134,13 +134,13 @@ returns-then-arity-eq1-clause-lone c = λ alone come.
     let count = sym (places_seen r t.own k) in
     let within : rows ≤ t.home.plan.budget = subst (λ n. n ≤ t.home.plan.budget) c.seen.ensures.seen c.seen.ensures.within in
     let one = unary_slice r c.args.job.now t c.args.s c.slice_from.new.mark c.requires.home c.requires.job k within c.requires.below e.mark e.earlier e.own (sym c.arity.ensures.arity ∙ c.if-arity-eq1.true) in
-    let new = c.settle_tuple.new.replica in
-    let v = c.settle_tuple.new.seat.own in
-    let d = c.settle_tuple.ensures in
+    let new = c.settle_unary.new.replica in
+    let v = c.settle_unary.new.seat.own in
+    let d = c.settle_unary.ensures in
     let goal = c.args.job.now.goal.now in
     let o = Op unit.op (unit.row ∷ 0 ∷ 0 ∷ 0 ∷ []) in
     let stops = Stops goal c.args.job.now.board.now.plan new v in
-    both c.settle_tuple.result (GoesOn goal new v × IsSettled new o) (Comes new v (turn_of new o)) (Comes new v (turn_from new.shape (suc c.args.s))) stops (StopsSerial new v)
+    both c.settle_unary.result (GoesOn goal new v × IsSettled new o) (Comes new v (turn_of new o)) (Comes new v (turn_from new.shape (suc c.args.s))) stops (StopsSerial new v)
     (λ h turn. leaves_one r rows c.args.s unit one new v d.closure h.0.working h.1 turn) d.done (d.lone alone (comes_one r rows c.args.s unit one t.own come))
 
 pub returns-clause-blocks : goal.returns-clause-blocks
