@@ -49,11 +49,11 @@ impl Ahead {
         })
     }
 
-    /// Of a unary operation at some rows, which of its vectors are known to stand among the rows, of as many of the
-    /// first as there is room for. It takes no memory.
+    /// Of a unary operation at some rows, which of its vectors are known to stand among the rows: of as many of
+    /// the first as there is room for, whether each does. It takes no memory.
     ///
-    /// The buckets of all the vectors are read before any vector is looked for, and the rows that have their tags
-    /// before any is compared. So close together the reads do not wait for one another.
+    /// The buckets of all the vectors are read before any vector is looked for. So close together the reads do
+    /// not wait for one another.
     pub fn known(
         &mut self,
         operations: &Operations,
@@ -75,16 +75,11 @@ impl Ahead {
             operations.apply(op, rows, &[args[k]], &mut self.vectors[k]);
         }
         for k in 0..count {
-            self.near |= rows.read_bucket(self.vectors[k].hash());
-        }
-        let mut guesses = [u32::MAX; AHEAD];
-        for k in 0..count {
-            guesses[k] = rows.guess(self.vectors[k].hash());
-            self.near |= rows.read_row(guesses[k]);
+            self.near |= rows.near(self.vectors[k].hash());
         }
         let mut known = [false; AHEAD];
         for k in 0..count {
-            known[k] = rows.is_at(guesses[k], &self.vectors[k]);
+            known[k] = rows.find_scratch(&self.vectors[k]).is_some();
         }
         known
     }

@@ -22,15 +22,6 @@ invariant-loop-k-2 l = record {
 
 abbrev pub invariant-loop-k-3 : goal.invariant-loop-k-3
 invariant-loop-k-3 l = record {
-  long : length l.guesses ≡ 16;
-  width : l.self-inside.width ≡ l.fn.self;
-  room : l.count ≤ length l.self-inside.vectors.items;
-  widths : AllByRecursion (λ (v : Vector). length v ≡ l.self-inside.width) l.self-inside.vectors.items;
-  applied : AreApplied l.operations l.op l.rows.items l.args l.count l.self-inside.vectors.items;
-}
-
-abbrev pub invariant-loop-k-4 : goal.invariant-loop-k-4
-invariant-loop-k-4 l = record {
   long : length l.known ≡ 16;
   known : AreKnown l.operations l.op l.rows.items l.args l.k l.known;
 }
