@@ -4,6 +4,7 @@ use Rattle.std.specs.Prelude.{Contains, ◌↔◌, slice_index}
 use Rattle.std.specs.List.{AllByRecursion}
 use Rattle.std.proofs.lemmas.List.{length-map, length-replicate, get_or-set_same, get_or-set_other, length-set, get_or-replicate}
 use Rattle.std.proofs.lemmas.Bool.{cases_lt}
+use Rattle.ua_rows.proofs.PageLaws.{all_set}
 use Rattle.ua_table.specs.Algebras.{Vector, FiniteAlgebra, arities, arities_of}
 use Rattle.ua_table.specs.Terms.{Tree, Generator, IsTerm, eval}
 use Rattle.ua_table.specs.Generated.{Sg}
@@ -112,7 +113,7 @@ two_elements a n v w x y lv lw apart lx ly =
     let xs = set (replicate n x) w y in
     let long = length-replicate n x in (
       xs,
-      record { count = length-set (replicate n x) w y ∙ long; elements = all_set (replicate n x) w (all_same n) },
+      record { count = length-set (replicate n x) w y ∙ long; elements = all_set (λ z. z < a.size) (replicate n x) w y ly (all_same n) },
       get_or-set_other (replicate n x) w v y 0 apart ∙ get_or-replicate n v x 0 lv,
       get_or-set_same (replicate n x) w y 0 (omega (arith, long, lw)),
     )
@@ -120,11 +121,6 @@ two_elements a n v w x y lv lw apart lx ly =
     all_same : (n : ℕ) → AllByRecursion (λ z. z < a.size) (replicate n x)
     all_same zero = tt
     all_same (suc n) = (lx, all_same n)
-
-    all_set : (zs : List ℕ) (w : ℕ) → AllByRecursion (λ z. z < a.size) zs → AllByRecursion (λ z. z < a.size) (set zs w y)
-    all_set [] w h = tt
-    all_set (z ∷ zs) zero h = (ly, h.1)
-    all_set (z ∷ zs) (suc w) h = (h.0, all_set zs w h.1)
 
 all_zero : (n k : ℕ) → 0 < n → AllByRecursion (λ x. x < n) (replicate {A = ℕ} k 0)
 all_zero n zero some = tt

@@ -11,7 +11,8 @@ use Rattle.ua_lanes.specs.Tiles.{key_at}
 use Rattle.ua_lanes.specs.Columns.{AreSmall, entry_of, lane_of, key_of, words_for, block_of, vector_in, vectors_in, HasRoom, AreColumns}
 use Rattle.std.proofs.lemmas.Bool.{cases_lt}
 use borrow.Rule.Slice.PartMut.{put_mid}
-use Rattle.ua_lanes.proofs.ListLaws.{all_or, all_map_range, map_range_same, mapped_or, range_before, range_put, range_put_before, range_put_after}
+use Rattle.ua_rows.proofs.LineLaws.{all_or}
+use Rattle.ua_lanes.proofs.ListLaws.{all_map_range, map_range_same, mapped_or, range_before, range_put, range_put_before, range_put_after}
 
 -- ---- entries
 

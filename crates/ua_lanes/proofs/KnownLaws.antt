@@ -10,7 +10,8 @@ use Rattle.ua_table.specs.Algebras.{Vector}
 use Rattle.ua_lanes.specs.Tiles.{looked_at, word_at, IsKeyAt}
 use Rattle.ua_lanes.specs.Columns.{AreSmall, entry_of, lane_of, key_of, words_for, block_of, vector_in, vectors_in, AreColumns, AreLines, values_at}
 use Rattle.ua_lanes.proofs.TileLaws.{digits_of_word, same_digits}
-use Rattle.ua_lanes.proofs.ListLaws.{all_or, all_take, all_drop, all_map_range, map_range_same, mapped_or}
+use Rattle.ua_rows.proofs.LineLaws.{all_or}
+use Rattle.ua_lanes.proofs.ListLaws.{all_take, all_drop, all_map_range, map_range_same, mapped_or}
 use Rattle.ua_lanes.proofs.ColumnLaws.{lane_small}
 use Rattle.ua_lanes.proofs.PushLaws.{block_whole, length_block}
 

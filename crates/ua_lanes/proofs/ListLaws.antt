@@ -11,22 +11,12 @@ use Rattle.std.proofs.Math.Seq.{take-append_seam}
 use borrow.Rule.Slice.PartMut.{put_mid, post_of, drop_put}
 use Rattle.std.proofs.lemmas.List.FromFn.{map-range_with_len_more}
 use Rattle.std.proofs.lemmas.Bool.{cases_lt}
-
--- what holds of each element, and of what stands past the end, holds at every place
-pub all_or : {X : Type 0} (P : X → Type 0) (xs : List X) (k : ℕ) (d : X) → P d → AllByRecursion P xs → P (get_or xs k d)
-all_or P [] k d past all = past
-all_or P (x ∷ xs) zero d past all = all.0
-all_or P (x ∷ xs) (suc k) d past all = all_or P xs k d past all.1
+use Rattle.ua_table.proofs.Lists.{all_weaker, all_append}
 
 pub all_below : {X : Type 0} (P : X → Type 0) (xs : List X) (k : ℕ) (d : X) → k < length xs → AllByRecursion P xs → P (get_or xs k d)
 all_below P [] k d low all = absurd (omega (arith, low))
 all_below P (x ∷ xs) zero d low all = all.0
 all_below P (x ∷ xs) (suc k) d low all = all_below P xs k d (omega (arith, low)) all.1
-
-pub all_set : {X : Type 0} (P : X → Type 0) (xs : List X) (i : ℕ) (x : X) → P x → AllByRecursion P xs → AllByRecursion P (set xs i x)
-all_set P [] i x here all = tt
-all_set P (y ∷ ys) zero x here all = (here, all.1)
-all_set P (y ∷ ys) (suc i) x here all = (all.0, all_set P ys i x here all.1)
 
 pub all_drop : {X : Type 0} (P : X → Type 0) (xs : List X) (n : ℕ) → AllByRecursion P xs → AllByRecursion P (drop n xs)
 all_drop P [] zero all = tt
@@ -39,14 +29,6 @@ all_take P [] zero all = tt
 all_take P [] (suc n) all = tt
 all_take P (x ∷ xs) zero all = tt
 all_take P (x ∷ xs) (suc n) all = (all.0, all_take P xs n all.1)
-
-pub all_weaker : {X : Type 0} (P Q : X → Type 0) → ((x : X) → P x → Q x) → (xs : List X) → AllByRecursion P xs → AllByRecursion Q xs
-all_weaker P Q each [] all = tt
-all_weaker P Q each (x ∷ xs) all = (each x all.0, all_weaker P Q each xs all.1)
-
-pub all_append : {X : Type 0} (P : X → Type 0) (xs ys : List X) → AllByRecursion P xs → AllByRecursion P ys → AllByRecursion P (xs ++ ys)
-all_append P [] ys all more = more
-all_append P (x ∷ xs) ys all more = (all.0, all_append P xs ys all.1 more)
 
 pub all_replicate : {X : Type 0} (P : X → Type 0) (n : ℕ) (x : X) → P x → AllByRecursion P (replicate n x)
 all_replicate P zero x here = tt

@@ -10,7 +10,7 @@ use Rattle.ua_lanes.specs.Quads.{QuadVectors, AreLongLines}
 use Rattle.ua_lanes.specs.LargeLanes.{AreQuadVectors, HasLongLines, IsLongWindow}
 use Rattle.ua_lanes.specs.Windows.{tuple_of}
 use Rattle.ua_lanes.specs.declared.long_windows.LongWindow.{LongWindow}
-use Rattle.ua_lanes.proofs.ListLaws.{all_append}
+use Rattle.ua_table.proofs.Lists.{all_append}
 use Rattle.ua_lanes.proofs.WindowLaws.{named_more, rows_more}
 use Rattle.ua_lanes.proofs.QuadLaws.{words_wide}
 

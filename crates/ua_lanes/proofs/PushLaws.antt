@@ -13,7 +13,8 @@ use Rattle.ua_table.specs.Algebras.{Vector}
 use Rattle.ua_table.specs.Counting.{one_if}
 use Rattle.ua_lanes.specs.Tiles.{key_at}
 use Rattle.ua_lanes.specs.Columns.{AreSmall, entry_of, key_of, words_for, block_of, vectors_in, AreColumns}
-use Rattle.ua_lanes.proofs.ListLaws.{map_range_same, range_before, all_weaker}
+use Rattle.ua_table.proofs.Lists.{all_weaker}
+use Rattle.ua_lanes.proofs.ListLaws.{map_range_same, range_before}
 use Rattle.ua_lanes.proofs.ColumnLaws.{key_same}
 
 -- a vector was written at the next lane: its entries stand there, and all others as before

@@ -13,7 +13,9 @@ use Rattle.ua_rows.specs.Words.{lanes_of, words_for}
 use Rattle.ua_lanes.specs.Tiles.{key_at, IsKeyAt}
 use Rattle.ua_lanes.specs.Columns.{values_at}
 use Rattle.ua_lanes.specs.Quads.{IsBelow, quad_entry, quad_vector, quad_vectors, AreQuads, AreLongLines, values_in_word}
-use Rattle.ua_lanes.proofs.ListLaws.{range_put, range_put_before, all_or, all_below, all_weaker, all_append, map_range_same}
+use Rattle.ua_rows.proofs.LineLaws.{all_or}
+use Rattle.ua_table.proofs.Lists.{all_weaker, all_append}
+use Rattle.ua_lanes.proofs.ListLaws.{range_put, range_put_before, all_below, map_range_same}
 
 -- ---- places
 

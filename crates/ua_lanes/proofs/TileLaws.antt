@@ -8,6 +8,7 @@ use Rattle.std.specs.Prelude.{slice_index, slice_index_or}
 use Rattle.std.specs.List.{AllByRecursion, range_with_len}
 use lib.Lanes.{Each1, number_l, zip2}
 use mir.Val.{zeroes, bool_byte}
+use Rattle.ua_rows.proofs.LineLaws.{all_or}
 use Rattle.ua_lanes.specs.Tiles.{word_across, looked_at, word_at}
 use Rattle.std.proofs.lemmas.Simd.{swz_l, get_or-zip2}
 
@@ -32,14 +33,9 @@ swizzled line i (j ∷ js) room low =
     let rest = swizzled line (suc i) js (omega arith) low.1 in
     λ l. here l ∷ rest l
 
-index_below : (b : ℕ) (v : List ℕ) (k : ℕ) → 0 < b → AllByRecursion (λ x. x < b) v → slice_index v k < b
-index_below b [] k some h = some
-index_below b (x ∷ v) zero some h = h.0
-index_below b (x ∷ v) (suc k) some h = index_below b v k some h.1
-
 pub looked_below : (b : ℕ) (line js : List ℕ) → 0 < b → AllByRecursion (λ x. x < b) line → AllByRecursion (λ x. x < b) (map (slice_index line) js)
 looked_below b line [] some h = tt
-looked_below b line (j ∷ js) some h = (index_below b line j some h, looked_below b line js some h)
+looked_below b line (j ∷ js) some h = (all_or (λ x. x < b) line j 0 some h, looked_below b line js some h)
 
 -- sums of bytes are bytes
 pub sums_below : (xs ys : List ℕ) → AllByRecursion (λ x. x < 256) (zip2 (λ a b. (a + b) % 256) xs ys)
@@ -91,7 +87,7 @@ looked_sum_at line js line' js' xs ys r low long long' is is' l l' =
 
 pub column_below : (columns : List (List ℕ)) (k r : ℕ) → AllByRecursion (AllByRecursion (λ x. x < 16)) columns → slice_index (slice_index_or columns k []) r < 16
 column_below [] k r h = omega arith
-column_below (v ∷ columns) zero r h = index_below 16 v r (omega arith) h.0
+column_below (v ∷ columns) zero r h = all_or (λ x. x < 16) v r 0 (omega arith) h.0
 column_below (v ∷ columns) (suc k) r h = column_below columns k r h.1
 
 two_digits : (a b x y p q : ℕ) → a ≡ 1 * p → b ≡ 16 * q → p < 16 → q < 16 → x ≡ y → (a + b) % 256 + 256 * x ≡ p + 16 * (q + 16 * y)

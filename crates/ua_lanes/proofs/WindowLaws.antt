@@ -13,7 +13,9 @@ use Rattle.ua_lanes.specs.Columns.{AreLines, values_at}
 use Rattle.ua_lanes.specs.Lines.{IsSmallProduct, line_value}
 use Rattle.ua_lanes.specs.Windows.{tuple_of, IsKnown, HasLines, IsWindow}
 use Rattle.ua_lanes.specs.declared.windows.Window.{Window}
-use Rattle.ua_lanes.proofs.ListLaws.{all_below, all_set, all_weaker}
+use Rattle.ua_rows.proofs.PageLaws.{all_set}
+use Rattle.ua_table.proofs.Lists.{all_weaker}
+use Rattle.ua_lanes.proofs.ListLaws.{all_below}
 use Rattle.ua_lanes.proofs.LineLaws.{lines_apply}
 
 -- ---- tuples that agree but at one place

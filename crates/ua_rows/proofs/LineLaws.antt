@@ -34,18 +34,18 @@ first_element line n x m k is low =
     let none : value line 128 ≡ 0 = refl in
     omega (arith, one, two, found, none)
 
--- an entry of a list of numbers below b, or 0 behind it
-pub index_below : (b : ℕ) (v : List ℕ) (k : ℕ) → 0 < b → AllByRecursion (λ x. x < b) v → slice_index v k < b
-index_below b [] k some h = some
-index_below b (x ∷ v) zero some h = h.0
-index_below b (x ∷ v) (suc k) some h = index_below b v k some h.1
+-- what holds of each element, and of what stands past the end, holds at every place
+pub all_or : {X : Type 0} (P : X → Type 0) (xs : List X) (k : ℕ) (d : X) → P d → AllByRecursion P xs → P (get_or xs k d)
+all_or P [] k d past all = past
+all_or P (x ∷ xs) zero d past all = all.0
+all_or P (x ∷ xs) (suc k) d past all = all_or P xs k d past all.1
 
 -- the elements of a word below 16, with 128 as the high byte of each, and another word behind it
 pub looked_lanes : (line : List ℕ) (word : ℕ) → word < 2 ^ 64 → AllByRecursion (λ x. x < 256) line → AllByRecursion (λ x. x < 16) (lanes_of word)
     → lanes_of (values line (word + 9223512776490647552 + 170143779648513184865543545075408044032) 16 % 18446744073709551616) ≡ map (slice_index line) (lanes_of word)
 looked_lanes line word fits bytes low =
     lanes_are (slice_index line a) (slice_index line b) (slice_index line c) (slice_index line d) number (wide a) (wide b) (wide c) (wide d)
-    (let ka = index_below 256 line a (omega arith) bytes in let kb = index_below 256 line b (omega arith) bytes in let kc = index_below 256 line c (omega arith) bytes in let kd = index_below 256 line d (omega arith) bytes in omega (arith, whole, ka, kb, kc, kd))
+    (let ka = all_or (λ v. v < 256) line a 0 (omega arith) bytes in let kb = all_or (λ v. v < 256) line b 0 (omega arith) bytes in let kc = all_or (λ v. v < 256) line c 0 (omega arith) bytes in let kd = all_or (λ v. v < 256) line d 0 (omega arith) bytes in omega (arith, whole, ka, kb, kc, kd))
   where
     a : ℕ
     a = word % 65536
@@ -63,7 +63,7 @@ looked_lanes line word fits bytes low =
     number = values line (word + 9223512776490647552 + 170143779648513184865543545075408044032) 16 % 18446744073709551616
 
     wide : (x : ℕ) → slice_index line x < 65536
-    wide x = let k = index_below 256 line x (omega arith) bytes in omega (arith, k)
+    wide x = let k = all_or (λ v. v < 256) line x 0 (omega arith) bytes in omega (arith, k)
 
     parts : word ≡ a + b * 65536 + c * 4294967296 + d * 281474976710656
     parts = sym (word_of_lanes word fits)
@@ -101,7 +101,7 @@ line_read line cells rows row word found i one some are below read is = is ∙ a
 
     at : (k : ℕ) → slice_index line (slice_index row k) ≡ looked cells (length cells) rows k
     at k =
-        are.values_are (slice_index row k) (index_below (length cells) row k some row_below)
+        are.values_are (slice_index row k) (all_or (λ x. x < length cells) row k 0 some row_below)
         ∙ ap (slice_index cells) (let e : slice_index row k ≡ numeral (length cells) (slice_index row k ∷ []) = omega arith in e)
         ∙ ap (λ (vs : List Vector). looked cells (length cells) vs k) (sym one)
 

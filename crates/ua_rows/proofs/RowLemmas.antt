@@ -77,11 +77,6 @@ module _ {X : Type 0} where
   at_last [] x = refl
   at_last (z ∷ zs) x = at_last zs x
 
-  pub all_set : (P : X → Type 0) (xs : List X) (i : ℕ) (x : X) → AllByRecursion P xs → P x → AllByRecursion P (set xs i x)
-  all_set P [] i x a p = tt
-  all_set P (y ∷ ys) zero x a p = (p, a.1)
-  all_set P (y ∷ ys) (suc i) x a p = (a.0, all_set P ys i x a.1 p)
-
   pub all_both : (P Q : X → Type 0) (xs : List X) → AllByRecursion P xs → AllByRecursion Q xs → AllByRecursion (λ x. P x × Q x) xs
   all_both P Q [] p q = tt
   all_both P Q (x ∷ xs) p q = ((p.0, q.0), all_both P Q xs p.1 q.1)

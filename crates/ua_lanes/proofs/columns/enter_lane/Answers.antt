@@ -2,7 +2,8 @@ use Rattle.std.proofs.Common.{◌≡◌, ◌+◌, ◌*◌, ◌-◌, ◌<◌, ◌
 use Rattle.std.specs.List.{AllByRecursion}
 use borrow.Rule.Slice.PartMut.{mid_len}
 use Rattle.ua_lanes.specs.Columns.{entry_of}
-use Rattle.ua_lanes.proofs.ListLaws.{all_append, all_take, all_drop}
+use Rattle.ua_table.proofs.Lists.{all_append}
+use Rattle.ua_lanes.proofs.ListLaws.{all_take, all_drop}
 use Rattle.ua_lanes.proofs.ColumnLaws.{block_put, block_put_other}
 use Rattle.ua_lanes.proofs.columns.enter_lane.Goals as goal
 

@@ -5,7 +5,8 @@ use Rattle.std.specs.Simd.Lanes.{number_l}
 use Rattle.std.proofs.lemmas.List.{length-drop}
 use Rattle.std.proofs.lemmas.List.FromFn.{length-map-range_with_len, get_or-map-range_with_len}
 use Rattle.ua_lanes.specs.Columns.{lane_of}
-use Rattle.ua_lanes.proofs.ListLaws.{all_or, all_drop, number_small, drop_more}
+use Rattle.ua_rows.proofs.LineLaws.{all_or}
+use Rattle.ua_lanes.proofs.ListLaws.{all_drop, number_small, drop_more}
 use Rattle.ua_lanes.proofs.ColumnLaws.{lane_small}
 use Rattle.ua_lanes.proofs.columns.word_in.Goals as goal
 

@@ -5,7 +5,8 @@ use Rattle.std.proofs.Math.Nat.{pow-le-pow_right}
 use Rattle.std.proofs.Math.Seq.{take-set-lt}
 use Rattle.std.proofs.lemmas.List.{length-take-le}
 use Rattle.ua_table.specs.Algebras.{numeral}
-use Rattle.ua_lanes.proofs.ListLaws.{all_below, all_set}
+use Rattle.ua_rows.proofs.PageLaws.{all_set}
+use Rattle.ua_lanes.proofs.ListLaws.{all_below}
 use Rattle.ua_lanes.proofs.LineLaws.{numeral_set, numeral_within}
 use Rattle.ua_lanes.proofs.lines.line_in.Goals as goal
 

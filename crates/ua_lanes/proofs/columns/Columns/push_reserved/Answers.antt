@@ -3,7 +3,8 @@ use Rattle.std.specs.Prelude.{is_ok}
 use Rattle.std.proofs.lemmas.List.{length-map}
 use Rattle.ua_table.specs.Algebras.{Vector}
 use Rattle.ua_lanes.specs.Columns.{VectorColumns, key_of, block_of, vectors_in, HasRoom, AreColumns}
-use Rattle.ua_lanes.proofs.ListLaws.{all_weaker, rewritten}
+use Rattle.ua_table.proofs.Lists.{all_weaker}
+use Rattle.ua_lanes.proofs.ListLaws.{rewritten}
 use Rattle.ua_lanes.proofs.PushLaws.{some_one, block_whole, IsEntered, pushed_vectors, pushed_columns}
 use Rattle.ua_lanes.proofs.columns.Columns.push_reserved.Goals as goal
 

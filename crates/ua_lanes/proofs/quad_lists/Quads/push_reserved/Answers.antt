@@ -3,7 +3,8 @@ use Rattle.std.specs.Prelude.{is_ok}
 use Rattle.std.specs.List.{AllByRecursion}
 use Rattle.ua_table.specs.Algebras.{Vector}
 use Rattle.ua_lanes.specs.Quads.{QuadVectors, quad_vectors, AreQuads}
-use Rattle.ua_lanes.proofs.ListLaws.{all_weaker, rewritten}
+use Rattle.ua_table.proofs.Lists.{all_weaker}
+use Rattle.ua_lanes.proofs.ListLaws.{rewritten}
 use Rattle.ua_lanes.proofs.PushLaws.{some_one}
 use Rattle.ua_lanes.proofs.QuadLaws.{pushed_quads, pushed_invariant}
 use Rattle.ua_lanes.proofs.quad_lists.Quads.push_reserved.Goals as goal

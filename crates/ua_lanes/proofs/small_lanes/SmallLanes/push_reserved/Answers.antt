@@ -1,10 +1,9 @@
 use Rattle.std.proofs.Common.{◌<◌, ◌∷◌, ◌++◌, [], List, sym, ap, ◌∙◌, subst}
 use Rattle.std.specs.List.{AllByRecursion}
 use Rattle.ua_table.specs.Algebras.{Vector, FiniteAlgebra, Product, IsVector}
-use Rattle.ua_table.proofs.Lists.{AllZip-length}
+use Rattle.ua_table.proofs.Lists.{AllZip-length, all_append, all_weaker}
 use Rattle.ua_lanes.specs.LaneLists.{LaneList}
 use Rattle.ua_lanes.specs.Windows.{IsWindow}
-use Rattle.ua_lanes.proofs.ListLaws.{all_append, all_weaker}
 use Rattle.ua_lanes.proofs.WindowLaws.{window_more, entries_small}
 use Rattle.ua_lanes.proofs.small_lanes.SmallLanes.push_reserved.Goals as goal
 
