@@ -2,8 +2,7 @@
 // vectors under addition modulo the size, `fill COUNT TIMES`, which pushes vectors of width 8 and then
 // finds each, or `apply SIZE WIDTH TIMES`, which adds two vectors again and again.
 //
-// Rows lie end to end, padded with zeros to words of 64 bits. Their index is, by the word of the command
-// line, `table`, an open table of slots of 8 bytes, or `buckets`, the buckets of crates/ua_rows.
+// Rows lie end to end, padded with zeros to words of 64 bits. Their index is an open table of slots of 8 bytes.
 #include <cstdint>
 #include <cstdio>
 #include <cstdlib>
@@ -55,75 +54,11 @@ struct Table {
   }
 };
 
-struct Entry { u32 tag, row; };
-
-// As many entries as in a bucket of crates/ua_rows, and always room for one more.
-struct Bucket {
-  static constexpr u64 inside = 12;
-  u64 capacity = inside;
-  union { Entry entries[inside]; Entry* heap; };
-  u64 len = 0;
-
-  const Entry* data() const { return capacity == inside ? entries : heap; }
-
-  void push(Entry entry) {
-    if (len + 1 == capacity) spill();
-    (capacity == inside ? entries : heap)[len++] = entry;
-  }
-
-  void spill() {
-    Entry* more = (Entry*)std::malloc(2 * capacity * sizeof(Entry));
-    std::memcpy(more, data(), len * sizeof(Entry));
-    if (capacity != inside) std::free(heap);
-    heap = more;
-    capacity *= 2;
-  }
-};
-
-struct Buckets {
-  std::size_t size = 16;
-  Bucket* buckets = empty(size);
-
-  static Bucket* empty(std::size_t size) {
-    Bucket* buckets = (Bucket*)std::malloc(size * sizeof(Bucket));
-    for (std::size_t i = 0; i < size; i++) buckets[i].capacity = Bucket::inside, buckets[i].len = 0;
-    return buckets;
-  }
-
-  template <class Is> bool find(u64 hash, Is is) const {
-    const u32 tag = hash >> 32;
-    const Bucket& bucket = buckets[tag & (size - 1)];
-    const Entry* entries = bucket.data();
-    for (u64 i = 0; i < bucket.len; i++)
-      if (entries[i].tag == tag && is(entries[i].row)) return true;
-    return false;
-  }
-
-  template <class Is, class HashOf> void add(u64 hash, u32 row, Is, HashOf) {
-    if (size <= (size <= 16384 ? row : row / 8)) grow();
-    const u32 tag = hash >> 32;
-    buckets[tag & (size - 1)].push({tag, row});
-  }
-
-  void grow() {
-    Bucket* old = buckets;
-    const std::size_t count = size;
-    size *= 2;
-    buckets = empty(size);
-    for (std::size_t i = 0; i < count; i++) {
-      const Entry* entries = old[i].data();
-      for (u64 k = 0; k < old[i].len; k++) buckets[entries[k].tag & (size - 1)].push(entries[k]);
-      if (old[i].capacity != Bucket::inside) std::free(old[i].heap);
-    }
-    std::free(old);
-  }
-};
-
-template <class Index> struct Rows {
+struct Rows {
   std::size_t stride;
   u32 count = 0;
   std::vector<u8> cells;
-  Index index;
+  Table index;
 
   explicit Rows(std::size_t width) : stride((width + 7) / 8 * 8) {}
 
@@ -177,9 +112,9 @@ static u64 last_of(u32 width) {
   return used == 0 ? ~0ull : (1ull << (8 * used)) - 1;
 }
 
-template <class Index> static u32 close(u32 size, u32 generators, u32 width) {
+static u32 close(u32 size, u32 generators, u32 width) {
   const std::vector<u8> table = sums(size);
-  Rows<Index> rows(width);
+  Rows rows(width);
   std::vector<u8> out(rows.stride, 0);
   for (u32 j = 0; j < generators; j++) {
     for (u32 i = 0; i < width; i++) out[i] = i % generators == j;
@@ -196,8 +131,8 @@ template <class Index> static u32 close(u32 size, u32 generators, u32 width) {
   return rows.count;
 }
 
-template <class Index> static u32 fill(u32 count, u32 times) {
-  Rows<Index> rows(8);
+static u32 fill(u32 count, u32 times) {
+  Rows rows(8);
   for (u32 i = 0; i < count; i++) {
     const u64 v = (u64)i * 0x9E3779B9ull;
     rows.add((const u8*)&v);
@@ -213,9 +148,9 @@ template <class Index> static u32 fill(u32 count, u32 times) {
   return found;
 }
 
-template <class Index> static u32 apply_often(u32 size, u32 width, u32 times) {
+static u32 apply_often(u32 size, u32 width, u32 times) {
   const std::vector<u8> table = sums(size);
-  Rows<Index> rows(width);
+  Rows rows(width);
   std::vector<u8> out(rows.stride, 0);
   for (u32 j = 0; j < 2; j++) {
     for (u32 i = 0; i < width; i++) out[i] = i % 2 == j;
@@ -227,21 +162,13 @@ template <class Index> static u32 apply_often(u32 size, u32 width, u32 times) {
   return out[0];
 }
 
-template <class Index> static int run() {
+int main() {
   char task[16];
   u32 first = 0, second = 0, third = 0;
   if (std::scanf("%15s %u %u %u", task, &first, &second, &third) < 3) return 1;
   u32 answer = 0;
-  if (std::strcmp(task, "close") == 0) answer = close<Index>(first, second, third);
-  if (std::strcmp(task, "fill") == 0) answer = fill<Index>(first, second);
-  if (std::strcmp(task, "apply") == 0) answer = apply_often<Index>(first, second, third);
+  if (std::strcmp(task, "close") == 0) answer = close(first, second, third);
+  if (std::strcmp(task, "fill") == 0) answer = fill(first, second);
+  if (std::strcmp(task, "apply") == 0) answer = apply_often(first, second, third);
   std::printf("%u\n", answer);
-  return 0;
-}
-
-int main(int count, char** words) {
-  if (count != 2) return 1;
-  if (std::strcmp(words[1], "table") == 0) return run<Table>();
-  if (std::strcmp(words[1], "buckets") == 0) return run<Buckets>();
-  return 1;
 }

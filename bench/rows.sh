@@ -1,6 +1,6 @@
 #!/usr/bin/env bash
-# Times the rows of crates/bench_rows beside the same loops in C++ (bench/rows.cpp), once with an open table
-# and once with the same buckets: the least processor time of three runs each, taken in turn, and the ratios.
+# Times the rows of crates/bench_rows beside the same loops in C++ (bench/rows.cpp): the least processor time of
+# three runs each, taken in turn, and the ratio.
 # A `close` is counted in tuples, a `fill` in pushes and look-ups, an `apply` in calls.
 set -euo pipefail
 cd "$(dirname "$0")/.."
@@ -22,14 +22,13 @@ least() {
 
 # A line of the table, for an input and how many steps it has.
 compare() {
-    local input=$1 steps=$2 ours="" table="" buckets=""
+    local input=$1 steps=$2 ours="" theirs=""
     for _ in 1 2 3; do
         ours=$(least "$ours" "$(seconds "$input" "$program")")
-        table=$(least "$table" "$(seconds "$input" "$peer" table)")
-        buckets=$(least "$buckets" "$(seconds "$input" "$peer" buckets)")
+        theirs=$(least "$theirs" "$(seconds "$input" "$peer")")
     done
-    awk -v i="$input" -v n="$steps" -v a="$ours" -v t="$table" -v b="$buckets" \
-        'BEGIN { n /= 1e9; printf "%-18s %8.1f ns  table %8.1f ns x%.2f  buckets %8.1f ns x%.2f\n", i, a / n, t / n, a / t, b / n, a / b }'
+    awk -v i="$input" -v n="$steps" -v a="$ours" -v t="$theirs" \
+        'BEGIN { n /= 1e9; printf "%-18s %8.1f ns  C++ %8.1f ns  x%.2f\n", i, a / n, t / n, a / t }'
 }
 
 compare "close 10 4 8" 100010000

@@ -1,7 +1,6 @@
-use Rattle.std.proofs.Common.{◌<◌, false, refl, arith}
+use Rattle.std.proofs.Common.{false, refl, arith}
 use Rattle.std.specs.Prelude.{IsTrue}
 use Rattle.std.proofs.lemmas.Option.{slice_get-get_or}
-use Rattle.ua_rows.specs.declared.index.Entry.{Entry}
 use Rattle.ua_rows.proofs.IndexLaws.{behind_none, taken_more, all_round}
 use Rattle.ua_rows.proofs.index.free_from.Goals as goal
 
