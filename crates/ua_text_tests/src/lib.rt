@@ -6,6 +6,8 @@ mod algebras;
 #[cfg(test)]
 mod blocks;
 #[cfg(test)]
+mod cases;
+#[cfg(test)]
 mod faults;
 #[cfg(test)]
 mod printing;
@@ -15,6 +17,8 @@ mod scripts;
 mod steps;
 #[cfg(test)]
 mod terms;
+#[cfg(test)]
+mod texts;
 #[cfg(test)]
 mod values;
 #[cfg(test)]
