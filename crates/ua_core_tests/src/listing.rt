@@ -35,16 +35,42 @@ fn is_row(rows: &Rows, number: u32, v: &[Elem]) -> bool {
         && rows.find(v) == Some(number)
 }
 
+/// Pushes the vector of a number.
+fn expect_entered(
+    rt: &impl Abort,
+    alloc: Global,
+    rows: &mut Rows,
+    width: u32,
+    number: u32,
+) -> Result<(), Fail> {
+    let v = vector(alloc, width, number)?;
+    let place = entered(rows, v.as_slice())?;
+    assert_eq!(rt; place, Some(number));
+    Ok(())
+}
+
+/// Reads and finds the vector of a number.
+fn expect_row(
+    rt: &impl Abort,
+    alloc: Global,
+    rows: &Rows,
+    width: u32,
+    number: u32,
+) -> Result<(), Fail> {
+    let v = vector(alloc, width, number)?;
+    let stands = is_row(rows, number, v.as_slice());
+    assert!(rt; stands, "{number}");
+    Ok(())
+}
+
 /// Pushes the vectors of the numbers below a count, and reads and finds each.
 fn expect_listed(rt: &impl Abort, alloc: Global, width: u32, count: u32) -> Result<(), Fail> {
     let mut rows = Rows::new(alloc, width);
     for number in 0..count {
-        let v = vector(alloc, width, number)?;
-        assert_eq!(rt; entered(&mut rows, v.as_slice())?, Some(number));
+        expect_entered(rt, alloc, &mut rows, width, number)?;
     }
     for number in 0..count {
-        let v = vector(alloc, width, number)?;
-        assert!(rt; is_row(&rows, number, v.as_slice()), "{number}");
+        expect_row(rt, alloc, &rows, width, number)?;
     }
     Ok(())
 }
@@ -70,11 +96,6 @@ fn a_million_rows_are_read_and_found(rt: HostRuntime) -> Result<(), Fail> {
     expect_listed(&rt, rt.alloc(), 8, 1_000_000)
 }
 
-/// Moves a value to where another thread may take it.
-fn handed_over<T: Send>(value: T) -> T {
-    value
-}
-
 /// A list of two vectors of width 3.
 fn two_vectors(alloc: Global) -> Result<Rows, Fail> {
     let mut rows = Rows::new(alloc, 3);
@@ -84,12 +105,25 @@ fn two_vectors(alloc: Global) -> Result<Rows, Fail> {
     Ok(rows)
 }
 
+/// Compares what is read in order with the two vectors.
+fn expect_in_order(rt: &impl Abort, rows: &Rows) {
+    let mut iter = rows.iter();
+    let found = [iter.next(), iter.next(), iter.next()];
+    let wanted = [Some([4, 5, 6].as_slice()), Some(&[4, 5, 7]), None];
+    assert_eq!(rt; found, wanted);
+}
+
 #[test]
 fn rows_come_in_order(rt: HostRuntime) -> Result<(), Fail> {
-    let rows = handed_over(two_vectors(rt.alloc())?);
-    let mut iter = rows.iter();
-    assert_eq!(rt; iter.next(), Some([4, 5, 6].as_slice()));
-    assert_eq!(rt; iter.next(), Some([4, 5, 7].as_slice()));
-    assert!(rt; iter.next().is_none());
+    let rows = two_vectors(rt.alloc())?;
+    expect_in_order(&rt, &rows);
     Ok(())
+}
+
+fn handed_over<T: Send>() {}
+
+/// What one thread hands to another.
+#[test]
+fn types_of_threads() {
+    handed_over::<Rows>();
 }

@@ -1,61 +1,93 @@
 //! Pieces, faults in mid-stream, and a reader and a writer of std.
 
+use crate::asked::{Call, expect, number, part, put_bytes, put_flag};
 use std::alloc::Global;
 use std::io::{self, Read, Write};
 use std::test::Fail;
-use ua_io::{MemSink, MemSource, ReadError, StdSink, StdSource, WriteFault, read_all, write_all};
+use ua_io::{MemSink, MemSource, Source, StdSink, StdSource, WriteFault, read_all, write_all};
 
-/// All of a source that gives so many bytes a call at most, or why there are none.
-fn read(
-    alloc: Global,
-    most: u32,
-    fails: &[u32],
-    limit: u32,
-) -> Result<(Vec<u8>, Option<ReadError>), Fail> {
-    let bytes = b"lattice".to_vec(alloc)?;
-    let mut source = MemSource::new(bytes, most.max(1), fails.to_vec(alloc)?);
-    Ok(match read_all(alloc, &mut source, limit) {
-        Ok(bytes) => (bytes, None),
-        Err(error) => (Vec::new(alloc), Some(error)),
-    })
+/// The calls of a text, each by its number.
+fn calls(alloc: Global, text: &str) -> Result<Vec<u32>, Fail> {
+    let mut calls = Vec::new(alloc);
+    for word in text.split_whitespace() {
+        calls.push(word.parse()?)?;
+    }
+    Ok(calls)
 }
 
-/// What a sink with so much room, which takes so many bytes a call at most, took, and whether it was all.
-fn write(alloc: Global, room: usize, most: u32, fails: &[u32]) -> Result<(Vec<u8>, bool), Fail> {
-    let room = vec![in alloc; 0; room]?;
-    let mut sink = MemSink::new(room, most.max(1), fails.to_vec(alloc)?);
+/// The source of a text as `3, 1`, which gives so many bytes a call at most; the calls listed fail.
+fn source(alloc: Global, asked: &str) -> Result<MemSource, Fail> {
+    let most = number(asked, 0)?;
+    let fails = calls(alloc, part(asked, 1))?;
+    Ok(MemSource::new(b"lattice".to_vec(alloc)?, most.max(1), fails))
+}
+
+/// All bytes of a source, or why there are none.
+fn put_all<S: Source>(
+    alloc: Global,
+    source: &mut S,
+    limit: u32,
+    text: &mut String,
+) -> Result<(), Fail> {
+    match read_all(alloc, source, limit) {
+        Ok(bytes) => put_bytes(text, bytes.as_slice()),
+        Err(error) => {
+            write!(text, "{error:?}")?;
+            Ok(())
+        }
+    }
+}
+
+/// All bytes of the source of a text as `3, 1, 9`, where they are within the limit.
+pub(crate) fn put_read(alloc: Global, asked: &str, text: &mut String) -> Result<(), Fail> {
+    let limit = number(asked, 2)?;
+    let mut source = source(alloc, asked)?;
+    put_all(alloc, &mut source, limit, text)
+}
+
+/// The sink of a text as `9, 3, 1`, which has so much room and takes so many bytes a call at most; the calls
+/// listed fail.
+fn sink(alloc: Global, asked: &str) -> Result<MemSink, Fail> {
+    let room = number(asked, 0)? as usize;
+    let most = number(asked, 1)?;
+    let fails = calls(alloc, part(asked, 2))?;
+    Ok(MemSink::new(vec![in alloc; 0; room]?, most.max(1), fails))
+}
+
+/// What a sink takes, and whether it is all.
+fn written(mut sink: MemSink) -> (Vec<u8>, bool) {
     let all = write_all(&mut sink, b"lattice").is_ok();
-    Ok((sink.into_bytes(), all))
+    (sink.into_bytes(), all)
+}
+
+/// What the sink of a text takes, and whether it is all.
+pub(crate) fn put_written(alloc: Global, asked: &str, text: &mut String) -> Result<(), Fail> {
+    let (bytes, all) = written(sink(alloc, asked)?);
+    put_bytes(text, bytes.as_slice())?;
+    text.push(' ')?;
+    put_flag(text, all)
 }
 
 #[test]
 fn pieces_read(rt: HostRuntime) -> Result<(), Fail> {
-    for (most, fails, limit, wanted, error) in [
-        (1, [].as_slice(), 7, b"lattice".as_slice(), None),
-        (2, &[], 7, b"lattice", None),
-        (100, &[9], 7, b"lattice", None),
-        (5, &[], 6, b"", Some(ReadError::TooLong)),
-        (3, &[1], 9, b"", Some(ReadError::Fault)),
-    ] {
-        let (bytes, why) = read(rt.alloc(), most, fails, limit)?;
-        assert_eq!(rt; (bytes.as_slice(), why), (wanted, error), "{most} {limit}");
-    }
-    Ok(())
+    let cases = "
+        1, , 7 => lattice
+        2, , 7 => lattice
+        100, 9, 7 => lattice
+        5, , 6 => TooLong
+        3, 1, 9 => Fault";
+    expect(&rt, rt.alloc(), &Call::Read, cases)
 }
 
 #[test]
 fn pieces_written(rt: HostRuntime) -> Result<(), Fail> {
-    for (room, most, fails, wanted, all) in [
-        (9, 1, [].as_slice(), b"lattice".as_slice(), true),
-        (7, 2, &[], b"lattice", true),
-        (9, 100, &[9], b"lattice", true),
-        (9, 3, &[1], b"lat", false),
-        (4, 9, &[], b"latt", false),
-    ] {
-        let (bytes, done) = write(rt.alloc(), room, most, fails)?;
-        assert_eq!(rt; (bytes.as_slice(), done), (wanted, all), "{room} {most}");
-    }
-    Ok(())
+    let cases = "
+        9, 1, => lattice true
+        7, 2, => lattice true
+        9, 100, 9 => lattice true
+        9, 3, 1 => lat false
+        4, 9, => latt false";
+    expect(&rt, rt.alloc(), &Call::Write, cases)
 }
 
 /// Gives an error, then two bytes, then the end; takes nothing, then an error, then all.
@@ -96,13 +128,20 @@ impl Write for Uneven {
     }
 }
 
+/// What two reads of a reader of std answer.
+fn read_twice(alloc: Global) -> Result<String, Fail> {
+    let mut source = StdSource::new(Uneven { call: 0 });
+    let mut text = String::new(alloc);
+    put_all(alloc, &mut source, 9, &mut text)?;
+    text.push(' ')?;
+    put_all(alloc, &mut source, 9, &mut text)?;
+    Ok(text)
+}
+
 #[test]
 fn a_reader_of_std(rt: HostRuntime) -> Result<(), Fail> {
-    let mut source = StdSource::new(Uneven { call: 0 });
-    let first = read_all(rt.alloc(), &mut source, 9).err();
-    assert_eq!(rt; first, Some(ReadError::Fault));
-    let bytes = read_all(rt.alloc(), &mut source, 9)?;
-    assert_eq!(rt; bytes.as_slice(), b"op".as_slice());
+    let text = read_twice(rt.alloc())?;
+    assert_eq!(rt; text.as_str(), "Fault op");
     Ok(())
 }
 

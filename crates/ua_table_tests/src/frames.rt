@@ -1,103 +1,123 @@
 //! Powers and products of several algebras.
 
+use crate::asked::{Call, digits, elements, expect, number, part, put_flag};
+use crate::tables::operation;
 use std::alloc::Global;
 use std::test::Fail;
-use ua_table::{Algebra, Elem, Frame, FrameError, Name, OpTable};
+use ua_table::{Algebra, Frame, FrameError, Name, OpTable};
 
-/// The algebra of this size whose one operation, of this name, has so many arguments and the value 0.
-fn zero(alloc: Global, size: u32, op: &[u8], arity: u8, values: usize) -> Result<Algebra, Fail> {
-    let name = Name::new(alloc, op)?;
-    let values = vec![in alloc; 0; values]?;
+/// The operation of the algebra with this letter: unary on two and on five elements, binary on two, unary with
+/// another name, and binary on three.
+fn table(letter: u8) -> &'static str {
+    match letter {
+        b'a' => "f, 2, 1, 0 0",
+        b'b' => "f, 5, 1, 0 0 0 0 0",
+        b'c' => "f, 2, 2, 0 0 0 0",
+        b'd' => "g, 2, 1, 0 0",
+        _ => "f, 3, 2, 0 0 0 0 0 0 0 0 0",
+    }
+}
+
+/// The algebra with one operation.
+fn algebra_of(alloc: Global, op: OpTable) -> Result<Algebra, Fail> {
+    let size = op.size();
     let mut ops = Vec::new(alloc);
-    ops.push(OpTable::new(name, size, arity, values)?)?;
+    ops.push(op)?;
     Ok(Algebra::new(Name::new(alloc, b"A")?, size, ops)?)
 }
 
-/// Algebras of two and of five elements with a unary operation, one where it is binary, and one where it has
-/// another name.
-fn four(alloc: Global) -> Result<Vec<Algebra>, Fail> {
+/// The algebra with this letter.
+fn algebra(alloc: Global, letter: u8) -> Result<Algebra, Fail> {
+    algebra_of(alloc, operation(alloc, table(letter))??)
+}
+
+/// The algebras with these letters.
+fn algebras(alloc: Global, letters: &str) -> Result<Vec<Algebra>, Fail> {
     let mut algebras = Vec::new(alloc);
-    for (size, op, arity, values) in [
-        (2, b"f", 1, 2),
-        (5, b"f", 1, 5),
-        (2, b"f", 2, 4),
-        (2, b"g", 1, 2),
-    ] {
-        algebras.push(zero(alloc, size, op, arity, values)?)?;
+    for letter in letters.as_bytes() {
+        algebras.push(algebra(alloc, *letter)?)?;
     }
     Ok(algebras)
 }
 
-/// Why there is no product of these algebras, or its width.
-fn mixed(
-    alloc: Global,
-    algebras: &[Algebra],
-    coords: &[u8],
-) -> Result<Result<u32, FrameError>, Fail> {
-    if algebras.len() >= 1 << 32 {
-        return Err(Fail::from("too many"));
+/// The width of a frame, or why there is none.
+fn put_frame(text: &mut String, made: Result<Frame, FrameError>) -> Result<(), Fail> {
+    match made {
+        Ok(frame) => write!(text, "{}", frame.width())?,
+        Err(error) => write!(text, "{error:?}")?,
     }
-    Ok(match Frame::mixed(algebras, coords.to_vec(alloc)?) {
-        Ok(frame) => Ok(frame.width()),
-        Err(error) => Err(error),
-    })
+    Ok(())
 }
 
-/// Whether the product of algebras 1, 0 and 1 admits a vector.
-fn admits(alloc: Global, algebras: &[Algebra], v: &[Elem]) -> Result<bool, Fail> {
+/// The width of the power of an algebra, or why there is none.
+pub(crate) fn put_power(alloc: Global, asked: &str, text: &mut String) -> Result<(), Fail> {
+    let width = number(asked, 0)?;
+    let algebra = algebra(alloc, b'e')?;
+    put_frame(text, Frame::power(&algebra, width))
+}
+
+/// The product of algebras whose coordinates have these numbers, or why there is none.
+fn product<'a>(
+    alloc: Global,
+    algebras: &'a [Algebra],
+    coords: &str,
+) -> Result<Result<Frame<'a>, FrameError>, Fail> {
     if algebras.len() >= 1 << 32 {
-        return Err(Fail::from("too many"));
+        return Err("too many".into());
     }
-    let frame = Frame::mixed(algebras, [1, 0, 1].to_vec(alloc)?)?;
-    Ok(frame.admits(v))
+    Ok(Frame::mixed(algebras, digits(alloc, coords)?))
+}
+
+/// The width of the product of a text as `ab, 101`, or why there is none.
+pub(crate) fn put_product(alloc: Global, asked: &str, text: &mut String) -> Result<(), Fail> {
+    let algebras = algebras(alloc, part(asked, 0))?;
+    let made = product(alloc, algebras.as_slice(), part(asked, 1))?;
+    put_frame(text, made)
+}
+
+/// Whether the product of a text as `ab, 101, 4 1 0` admits the vector.
+fn admits(alloc: Global, algebras: &[Algebra], asked: &str) -> Result<bool, Fail> {
+    let v = elements(alloc, part(asked, 2))?;
+    let frame = product(alloc, algebras, part(asked, 1))??;
+    Ok(frame.admits(v.as_slice()))
+}
+
+/// Puts whether the product admits the vector.
+pub(crate) fn put_admitted(alloc: Global, asked: &str, text: &mut String) -> Result<(), Fail> {
+    let algebras = algebras(alloc, part(asked, 0))?;
+    put_flag(text, admits(alloc, algebras.as_slice(), asked)?)
 }
 
 #[test]
 fn powers(rt: HostRuntime) -> Result<(), Fail> {
-    let algebra = zero(rt.alloc(), 3, b"f", 2, 9)?;
-    for (width, made) in [
-        (0, false),
-        (1, true),
-        (67_108_864, true),
-        (67_108_865, false),
-    ] {
-        assert_eq!(rt; Frame::power(&algebra, width).is_ok(), made, "{width}");
-    }
-    Ok(())
+    let cases = "
+        0 => Width
+        1 => 1
+        67108864 => 67108864
+        67108865 => Width";
+    expect(&rt, rt.alloc(), &Call::Power, cases)
 }
 
 #[test]
 fn vectors_of_products(rt: HostRuntime) -> Result<(), Fail> {
-    let algebras = four(rt.alloc())?;
-    let similar = algebras.get(..2).ok_or("range")?;
-    for (v, is_one) in [
-        ([4, 1, 0].as_slice(), true),
-        (&[4, 2, 0], false),
-        (&[5, 1, 0], false),
-        (&[4, 1], false),
-        (&[4, 1, 0, 0], false),
-    ] {
-        let answer = admits(rt.alloc(), similar, v)?;
-        assert_eq!(rt; answer, is_one, "{v:?}");
-    }
-    Ok(())
+    let cases = "
+        ab, 101, 4 1 0 => true
+        ab, 101, 4 2 0 => false
+        ab, 101, 5 1 0 => false
+        ab, 101, 4 1 => false
+        ab, 101, 4 1 0 0 => false";
+    expect(&rt, rt.alloc(), &Call::Admits, cases)
 }
 
 #[test]
 fn products_refused_in_order(rt: HostRuntime) -> Result<(), Fail> {
-    let all = four(rt.alloc())?;
-    for (from, to, coords, answer) in [
-        (0, 4, b"".as_slice(), Err(FrameError::Width)),
-        (0, 4, &[0, 4, 5], Err(FrameError::Coordinate(1))),
-        (0, 0, &[0], Err(FrameError::Coordinate(0))),
-        (0, 4, &[0, 1], Err(FrameError::Signature(2))),
-        (2, 4, &[0], Err(FrameError::Signature(1))),
-        (0, 2, &[0, 1], Ok(2)),
-        (1, 2, &[0], Ok(1)),
-    ] {
-        let algebras = all.get(from..to).ok_or("range")?;
-        let found = mixed(rt.alloc(), algebras, coords)?;
-        assert_eq!(rt; found, answer, "{from} {to} {coords:?}");
-    }
-    Ok(())
+    let cases = "
+        abcd, => Width
+        abcd, 045 => Coordinate(1)
+        , 0 => Coordinate(0)
+        abcd, 01 => Signature(2)
+        cd, 0 => Signature(1)
+        ab, 01 => 2
+        b, 0 => 1";
+    expect(&rt, rt.alloc(), &Call::Product, cases)
 }

@@ -3,10 +3,30 @@
 ghost use Rattle.std.specs.Prelude.{◌≡◌, ◌<◌, ◌≤◌, ◌*◌, length, sum};
 ghost use Rattle.ua_table.specs.Numbering.{IsShape};
 
+use crate::asked::{Call, digits, expect, number, part, put_word};
 use std::alloc::Global;
 use std::test::Fail;
 use ua_table::limits::{ARITY, OPERATIONS};
 use ua_table::{Origin, Shape, Slice, Unit};
+
+/// Which call of a shape is made.
+pub(crate) enum Numbering {
+    Unit,
+    Tuple,
+    Bound,
+    Slice,
+    Rows,
+    Code,
+    Records,
+}
+
+/// The arities of a text as `21`, or as `4*64` where all are the same.
+fn arities(alloc: Global, text: &str) -> Result<Vec<u8>, Fail> {
+    match text.split_once('*') {
+        Some((arity, times)) => Ok(vec![in alloc; arity.parse()?; times.parse()?]?),
+        None => Ok(digits(alloc, text)?),
+    }
+}
 
 /// The shape of operations with these arities.
 fn shape(alloc: Global, arities: &[u8]) -> Result<Shape, Fail> {
@@ -52,32 +72,6 @@ fn slice(shape: &Shape, rows: u32, s: u64) -> Option<Slice> {
     None
 }
 
-/// How many codes there are, and whether they fit in a word.
-fn records(shape: &Shape, gens: u32, budget: u32) -> Option<(u128, bool)> {
-    if budget <= 1_000_000 {
-        return Some((shape.records(gens, budget), shape.fits(gens, budget)));
-    }
-    None
-}
-
-fn unpack(shape: &Shape, gens: u32, budget: u32, code: u64) -> Option<Origin> {
-    if budget > 0 && budget <= 1_000_000 && shape.fits(gens, budget) {
-        return shape.unpack(gens, budget, code);
-    }
-    None
-}
-
-/// The code that the origin of a code packs to.
-fn again(shape: &Shape, gens: u32, budget: u32, code: u64) -> Option<u64> {
-    if budget > 0 && budget <= 1_000_000 && shape.fits(gens, budget) {
-        return match shape.unpack(gens, budget, code) {
-            None => None,
-            Some(o) => Some(shape.pack(gens, budget, &o)),
-        };
-    }
-    None
-}
-
 /// How many tuples the slices of the rows below this number have, claimed one after another.
 fn tuples_of_rows(shape: &Shape, rows: u32) -> Option<u64> {
     if rows <= 1_000_000 && shape.fits(0, rows) {
@@ -94,159 +88,202 @@ fn tuples_of_rows(shape: &Shape, rows: u32) -> Option<u64> {
     None
 }
 
+/// The origin of a code, and the code that it packs to.
+fn unpack(shape: &Shape, gens: u32, budget: u32, code: u64) -> Option<(Origin, u64)> {
+    if budget > 0 && budget <= 1_000_000 && shape.fits(gens, budget) {
+        return match shape.unpack(gens, budget, code) {
+            None => None,
+            Some(o) => Some((o, shape.pack(gens, budget, &o))),
+        };
+    }
+    None
+}
+
+/// How many codes there are, and whether they fit in a word.
+fn records(shape: &Shape, gens: u32, budget: u32) -> Option<(u128, bool)> {
+    if budget <= 1_000_000 {
+        return Some((shape.records(gens, budget), shape.fits(gens, budget)));
+    }
+    None
+}
+
+fn put_unit(text: &mut String, found: Option<(Unit, u64)>) -> Result<(), Fail> {
+    let (unit, tuples) = found.ok_or("no unit")?;
+    write!(text, "{unit:?} {tuples}")?;
+    Ok(())
+}
+
+fn put_entries(text: &mut String, entries: &[u32]) -> Result<(), Fail> {
+    write!(text, "{entries:?}")?;
+    Ok(())
+}
+
+fn put_tuple(text: &mut String, found: Option<[u32; 4]>) -> Result<(), Fail> {
+    match found {
+        None => put_word(text, "none"),
+        Some(entries) => put_entries(text, &entries),
+    }
+}
+
+fn put_slice(text: &mut String, found: Option<Slice>) -> Result<(), Fail> {
+    let slice = found.ok_or("no slice")?;
+    write!(text, "{slice:?}")?;
+    Ok(())
+}
+
+/// An origin, and the code that it packs to.
+fn put_code(text: &mut String, found: Option<(Origin, u64)>) -> Result<(), Fail> {
+    let Some((origin, code)) = found else {
+        return put_word(text, "none");
+    };
+    write!(text, "{origin:?} {code}")?;
+    Ok(())
+}
+
+fn put_records(text: &mut String, found: Option<(u128, bool)>) -> Result<(), Fail> {
+    let (count, fits) = found.ok_or("no numbers")?;
+    write!(text, "{count} {fits}")?;
+    Ok(())
+}
+
+fn put_count(text: &mut String, found: Option<u64>) -> Result<(), Fail> {
+    let count = found.ok_or("no count")?;
+    write!(text, "{count}")?;
+    Ok(())
+}
+
+/// The number of a text at this place, of up to 64 bits.
+fn long(text: &str, place: usize) -> Result<u64, Fail> {
+    Ok(part(text, place).parse()?)
+}
+
+/// The origin of the code of a text as `2, 2, 10, 13`, and the code that it packs to.
+fn code(shape: &Shape, asked: &str) -> Result<Option<(Origin, u64)>, Fail> {
+    let gens = number(asked, 1)?;
+    let budget = number(asked, 2)?;
+    Ok(unpack(shape, gens, budget, long(asked, 3)?))
+}
+
+/// Makes a call of a shape, and puts its answer.
+fn put_of_shape(
+    which: &Numbering,
+    shape: &Shape,
+    asked: &str,
+    text: &mut String,
+) -> Result<(), Fail> {
+    match which {
+        Numbering::Unit => put_unit(text, unit(shape, long(asked, 1)?)),
+        Numbering::Tuple => put_tuple(text, tuple(shape, long(asked, 1)?, long(asked, 2)?)),
+        Numbering::Bound => put_count(text, bound(shape, number(asked, 1)?)),
+        Numbering::Slice => put_slice(text, slice(shape, number(asked, 1)?, long(asked, 2)?)),
+        Numbering::Rows => put_count(text, tuples_of_rows(shape, number(asked, 1)?)),
+        Numbering::Code => put_code(text, code(shape, asked)?),
+        Numbering::Records => put_records(
+            text,
+            records(shape, number(asked, 1)?, number(asked, 2)?),
+        ),
+    }
+}
+
+/// The same of the shape whose arities a text begins with.
+pub(crate) fn put_numbered(
+    alloc: Global,
+    which: &Numbering,
+    asked: &str,
+    text: &mut String,
+) -> Result<(), Fail> {
+    let arities = arities(alloc, part(asked, 0))?;
+    let shape = shape(alloc, arities.as_slice())?;
+    put_of_shape(which, &shape, asked, text)
+}
+
 #[test]
 fn units(rt: HostRuntime) -> Result<(), Fail> {
-    for (arities, u, row, op, place, tuples) in [
-        ([2, 1].as_slice(), 1, 0, 0, 1, 0),
-        (&[2, 1], 3, 1, 0, 0, 2),
-        (&[2, 1], 4, 1, 0, 1, 1),
-        (&[2, 1], 5, 1, 1, 0, 1),
-        (
-            &[4; 64],
-            255_999_996,
-            999_999,
-            63,
-            0,
-            1_000_000_000_000_000_000,
-        ),
-        (
-            &[4; 64],
-            255_999_999,
-            999_999,
-            63,
-            3,
-            999_997_000_002_999_999,
-        ),
-    ] {
-        let found = unit(&shape(rt.alloc(), arities)?, u);
-        let unit = Unit { row, op, place };
-        assert_eq!(rt; found, Some((unit, tuples)), "unit {u} of {arities:?}");
-    }
-    Ok(())
+    let cases = "
+        21, 1 => Unit { row: 0, op: 0, place: 1 } 0
+        21, 3 => Unit { row: 1, op: 0, place: 0 } 2
+        21, 4 => Unit { row: 1, op: 0, place: 1 } 1
+        21, 5 => Unit { row: 1, op: 1, place: 0 } 1
+        4*64, 255999996 => Unit { row: 999999, op: 63, place: 0 } 1000000000000000000
+        4*64, 255999999 => Unit { row: 999999, op: 63, place: 3 } 999997000002999999";
+    expect(&rt, rt.alloc(), &Call::Numbering(Numbering::Unit), cases)
 }
 
 #[test]
 fn tuples(rt: HostRuntime) -> Result<(), Fail> {
-    for (arities, u, t, entries) in [
-        ([2, 1].as_slice(), 1, 0, None),
-        (&[2, 1], 3, 0, Some([1, 0, 0, 0])),
-        (&[2, 1], 3, 1, Some([1, 1, 0, 0])),
-        (&[2, 1], 4, 0, Some([0, 1, 0, 0])),
-        (&[2, 1], 5, 0, Some([1, 0, 0, 0])),
-        (&[3], 7, 1, Some([0, 2, 1, 0])),
-        (&[3], 7, 2, Some([0, 2, 2, 0])),
-        (&[3], 7, 3, Some([1, 2, 0, 0])),
-        (&[3], 7, 6, None),
-        (
-            &[4; 64],
-            255_999_996,
-            999_999_999_999_999_999,
-            Some([999_999; 4]),
-        ),
-    ] {
-        let found = tuple(&shape(rt.alloc(), arities)?, u, t);
-        assert_eq!(rt; found, entries, "tuple {t} of unit {u} of {arities:?}");
-    }
-    Ok(())
+    let cases = "
+        21, 1, 0 => none
+        21, 3, 0 => [1, 0, 0, 0]
+        21, 3, 1 => [1, 1, 0, 0]
+        21, 4, 0 => [0, 1, 0, 0]
+        21, 5, 0 => [1, 0, 0, 0]
+        3, 7, 1 => [0, 2, 1, 0]
+        3, 7, 2 => [0, 2, 2, 0]
+        3, 7, 3 => [1, 2, 0, 0]
+        3, 7, 6 => none
+        4*64, 255999996, 999999999999999999 => [999999, 999999, 999999, 999999]";
+    expect(&rt, rt.alloc(), &Call::Numbering(Numbering::Tuple), cases)
+}
+
+#[test]
+fn counts_of_slices(rt: HostRuntime) -> Result<(), Fail> {
+    let cases = "
+        2, 0 => 0
+        2, 4096 => 8192
+        2, 4097 => 8195
+        2013, 3000 => 6605333
+        00, 3000 => 0
+        1, 1000000 => 1000000";
+    expect(&rt, rt.alloc(), &Call::Numbering(Numbering::Bound), cases)
 }
 
 #[test]
 fn slices(rt: HostRuntime) -> Result<(), Fail> {
-    for (arities, rows, count) in [
-        ([2].as_slice(), 0, 0),
-        (&[2], 4096, 8192),
-        (&[2], 4097, 8195),
-        (&[2, 0, 1, 3], 3000, 6_605_333),
-        (&[0, 0], 3000, 0),
-        (&[1], 1_000_000, 1_000_000),
-    ] {
-        let found = bound(&shape(rt.alloc(), arities)?, rows);
-        assert_eq!(rt; found, Some(count), "{rows} rows of {arities:?}");
-    }
-    for (s, unit, from, to) in [
-        (8191, 8191, 0, 4095),
-        (8192, 8192, 0, 4096),
-        (8193, 8192, 4096, 4097),
-        (8194, 8193, 0, 4096),
-    ] {
-        let found = slice(&shape(rt.alloc(), &[2])?, 4097, s);
-        assert_eq!(rt; found, Some(Slice { unit, from, to }), "slice {s}");
-    }
-    Ok(())
+    let cases = "
+        2, 4097, 8191 => Slice { unit: 8191, from: 0, to: 4095 }
+        2, 4097, 8192 => Slice { unit: 8192, from: 0, to: 4096 }
+        2, 4097, 8193 => Slice { unit: 8192, from: 4096, to: 4097 }
+        2, 4097, 8194 => Slice { unit: 8193, from: 0, to: 4096 }";
+    expect(&rt, rt.alloc(), &Call::Numbering(Numbering::Slice), cases)
 }
 
 #[test]
 fn all_tuples_of_some_rows(rt: HostRuntime) -> Result<(), Fail> {
-    for (arities, rows, count) in [
-        ([3].as_slice(), 70, 343_000),
-        (&[2, 0, 4, 1], 12, 144 + 20_736 + 12),
-    ] {
-        let found = tuples_of_rows(&shape(rt.alloc(), arities)?, rows);
-        assert_eq!(rt; found, Some(count), "{rows} rows of {arities:?}");
-    }
-    Ok(())
+    let cases = "
+        3, 70 => 343000
+        2041, 12 => 20892";
+    expect(&rt, rt.alloc(), &Call::Numbering(Numbering::Rows), cases)
 }
 
-/// The origin that is this operation at these rows.
-fn made(op: u32, args: [u32; 4]) -> Option<Origin> {
-    Some(Origin::Op { op, args })
-}
-
+/// The code of an origin is the one that it is unpacked from.
 #[test]
 fn codes(rt: HostRuntime) -> Result<(), Fail> {
-    for (arities, gens, budget, code, origin) in [
-        ([2].as_slice(), 2, 10, 0, None),
-        (&[2], 2, 10, 2, Some(Origin::Gen { index: 1 })),
-        (&[2], 2, 10, 13, made(0, [1, 0, 0, 0])),
-        (&[2], 2, 10, 102, made(0, [9, 9, 0, 0])),
-        (&[2], 2, 10, 103, None),
-        (&[2, 1, 0], 0, 10, 110, made(1, [9, 0, 0, 0])),
-        (&[2, 1, 0], 0, 10, 111, None),
-        (&[2, 1, 0], 0, 10, 201, made(2, [0; 4])),
-        (&[2, 1, 0], 0, 10, 202, None),
-        (
-            &[4; 64],
-            5,
-            19_483,
-            9_221_536_638_103_649_349,
-            made(63, [19_482; 4]),
-        ),
-        (&[4; 64], 5, 19_483, 9_221_536_638_103_649_350, None),
-    ] {
-        let shape = shape(rt.alloc(), arities)?;
-        let found = unpack(&shape, gens, budget, code);
-        assert_eq!(rt; found, origin, "code {code} of {arities:?}");
-        let packed = again(&shape, gens, budget, code);
-        assert!(rt; origin.is_none() || packed == Some(code));
-    }
-    Ok(())
+    let cases = "
+        2, 2, 10, 0 => none
+        2, 2, 10, 2 => Gen { index: 1 } 2
+        2, 2, 10, 13 => Op { op: 0, args: [1, 0, 0, 0] } 13
+        2, 2, 10, 102 => Op { op: 0, args: [9, 9, 0, 0] } 102
+        2, 2, 10, 103 => none
+        210, 0, 10, 110 => Op { op: 1, args: [9, 0, 0, 0] } 110
+        210, 0, 10, 111 => none
+        210, 0, 10, 201 => Op { op: 2, args: [0, 0, 0, 0] } 201
+        210, 0, 10, 202 => none
+        4*64, 5, 19483, 9221536638103649349 => Op { op: 63, args: [19482, 19482, 19482, 19482] } 9221536638103649349
+        4*64, 5, 19483, 9221536638103649350 => none";
+    expect(&rt, rt.alloc(), &Call::Numbering(Numbering::Code), cases)
 }
 
 #[test]
 fn numbers_of_codes(rt: HostRuntime) -> Result<(), Fail> {
-    for (arities, gens, budget, count, fits) in [
-        ([].as_slice(), 4_294_967_295, 1_000_000, 4_294_967_296, true),
-        (&[2], 2, 10, 103, true),
-        (&[4], 0, 1_000_000, 1_000_000_000_000_000_000_000_001, false),
-        (&[4], 4_294_967_295, 55_108, 9_222_710_983_167_656_192, true),
-        (&[4], 0, 55_109, 9_223_380_425_197_538_162, false),
-        (&[4; 64], 0, 19_483, 9_221_536_638_103_649_345, true),
-        (&[4; 64], 0, 19_484, 9_223_430_031_652_962_305, false),
-        (
-            &[3; 9],
-            4_294_967_295,
-            1_000_000,
-            9_000_000_004_294_967_296,
-            true,
-        ),
-        (&[3; 10], 0, 1_000_000, 10_000_000_000_000_000_001, false),
-    ] {
-        let found = records(&shape(rt.alloc(), arities)?, gens, budget);
-        assert_eq!(rt;
-            found,
-            Some((count, fits)),
-            "budget {budget} of {arities:?}"
-        );
-    }
-    Ok(())
+    let cases = "
+        , 4294967295, 1000000 => 4294967296 true
+        2, 2, 10 => 103 true
+        4, 0, 1000000 => 1000000000000000000000001 false
+        4, 4294967295, 55108 => 9222710983167656192 true
+        4, 0, 55109 => 9223380425197538162 false
+        4*64, 0, 19483 => 9221536638103649345 true
+        4*64, 0, 19484 => 9223430031652962305 false
+        3*9, 4294967295, 1000000 => 9000000004294967296 true
+        3*10, 0, 1000000 => 10000000000000000001 false";
+    expect(&rt, rt.alloc(), &Call::Numbering(Numbering::Records), cases)
 }

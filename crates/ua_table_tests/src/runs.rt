@@ -1,5 +1,6 @@
 //! Runs and gates.
 
+use crate::asked::{Call, expect, number, put_flag};
 use std::sync::atomic::{AtomicU64, Ordering};
 use std::test::Fail;
 use ua_table::{Algebra, Frame, FreeGate, Gate, Run, Shape, Vectors};
@@ -26,19 +27,22 @@ fn pass<G: Gate>(gate: &G, workers: u32) {
     }
 }
 
+/// Whether there is a run with this budget and so many workers.
+pub(crate) fn put_run(asked: &str, text: &mut String) -> Result<(), Fail> {
+    let run = Run::new(number(asked, 0)?, number(asked, 1)?, &FreeGate);
+    put_flag(text, run.is_some())
+}
+
 #[test]
-fn limits(rt: HostRuntime) {
-    for (budget, workers, made) in [
-        (0, 1, false),
-        (1, 1, true),
-        (1_000_000, 16, true),
-        (1_000_001, 1, false),
-        (1, 0, false),
-        (1, 17, false),
-    ] {
-        let run = Run::new(budget, workers, &FreeGate);
-        assert_eq!(rt; run.is_some(), made, "{budget} {workers}");
-    }
+fn limits(rt: HostRuntime) -> Result<(), Fail> {
+    let cases = "
+        0, 1 => false
+        1, 1 => true
+        1000000, 16 => true
+        1000001, 1 => false
+        1, 0 => false
+        1, 17 => false";
+    expect(&rt, rt.alloc(), &Call::Run, cases)
 }
 
 #[test]
