@@ -54,9 +54,6 @@ use Rattle.ua_certify.specs.Certified.{closure_certificate, HasNoFlaw}
 abbrev pub MemberLaw : Type 0
 MemberLaw = (p : Product) (gens : List Vector) (v : Vector) → IsProduct p → AllByRecursion (IsVector p) gens → Sg p gens v → IsVector p v
 
-abbrev pub ListingLaw : Type 0
-ListingLaw = (a : FiniteAlgebra) (gens : List Vector) (rows : List Row) (width : ℕ) → IsAlgebraTable a → IsPowerListing a width gens rows → listing_flaw a gens (row_steps a rows) (ranks_of rows) (vectors_of rows) width ≡ None
-
 abbrev pub StepsLaw : Type 0
 StepsLaw = (a : FiniteAlgebra) (gens : List Vector) (steps : List Origin) (target : Vector) (width : ℕ) → IsAlgebraTable a → IsWidth width → AllByRecursion (IsVector (power a width)) gens → IsVector (power a width) target → AreSteps (arities_of a) (length gens) steps
     → slice_get (step_values (power a width) gens steps) (length steps - 1) ≡ Some target → member_flaw a gens (written_steps a steps) target width ≡ None
@@ -88,10 +85,6 @@ closed_power a width b gens rows law table wide admitted closed = record {
 }
 
 -- ---- closures and members
-
-pub closure_flawless : (a : FiniteAlgebra) (width b : ℕ) (gens : List Vector) (closure : Closure) → MemberLaw → ListingLaw → IsAlgebraTable a → IsWidth width → AllByRecursion (IsVector (power a width)) gens → Answers (power a width) gens b closure → HasNoFlaw a (closure_certificate a width gens closure)
-closure_flawless a width b gens (closures.Closed rows) law listing table wide admitted h = listing a gens rows width table (closed_power a width b gens rows law table wide admitted h)
-closure_flawless a width b gens (closures.Exceeds rows) law listing table wide admitted h = tt
 
 pub steps_flawless : (a : FiniteAlgebra) (width : ℕ) (gens : List Vector) (target : Vector) (steps : StepList) → StepsLaw → IsAlgebraTable a → IsWidth width → AllByRecursion (IsVector (power a width)) gens → IsVector (power a width) target → AreSteps steps.arities steps.gens steps.items → AreStepsTo (power a width) gens target steps
     → member_flaw a gens (written_steps a steps.items) target width ≡ None

@@ -93,15 +93,8 @@ first_owns : (a : FiniteAlgebra) (kind : ChainKind) (is : List TermIdentity) →
 first_owns a kind [] l h = tt
 first_owns a kind (i ∷ is) l h = (place_satisfies a i 0 (let n = h.0.pattern.count in omega arith) h.0.first, first_owns a kind is l h.1)
 
-end_owns : (a : FiniteAlgebra) (kind : ChainKind) (is : List TermIdentity) → kind.end < kind.places → AllByRecursion (IsOwnIdentity kind) is → AllByRecursion (Satisfies a (Generator kind.end)) is
-end_owns a kind [] l h = tt
-end_owns a kind (i ∷ is) l h = (place_satisfies a i kind.end (let n = h.0.pattern.count in omega arith) h.0.last, end_owns a kind is l h.1)
-
 pub first_is_own : (a : FiniteAlgebra) (kind : ChainKind) → IsKind kind → IsOwn a kind (Generator 0)
 first_is_own a kind k = first_owns a kind kind.own (let some = k.some in let end = k.end in omega arith) k.own
-
-pub end_is_own : (a : FiniteAlgebra) (kind : ChainKind) → IsKind kind → IsOwn a kind (Generator kind.end)
-end_is_own a kind k = end_owns a kind kind.own k.end k.own
 
 number_in : (n j : ℕ) → j < n → Contains (numbers_below n) j
 number_in zero j l = absurd (omega (arith, l))

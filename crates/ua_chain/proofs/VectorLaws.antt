@@ -65,10 +65,3 @@ some_generators a kind gens k g =
     let count = ap length g ∙ generator_count a kind.patterns kind.places in
     let end = k.end in
     omega (arith, count, end)
-
--- the frame is as wide as the patterns have fillings
-pub narrow_made : (a : FiniteAlgebra) (kind : ChainKind) (p : Product) (size limit : ℕ) → p ≡ power_of a kind → size ≡ a.size → length p ≤ limit → length (all_fillings size kind.patterns) ≤ limit
-narrow_made a kind p size limit e same l =
-    let long = ap length e ∙ length-replicate (length (all_fillings a.size kind.patterns)) a in
-    let count = ap (λ n. length (all_fillings n kind.patterns)) same in
-    omega (arith, long, count, l)

@@ -29,30 +29,6 @@ row_refused good rows i h rest bad = sym (ap (option_map flaw.Reached) (rest ∙
 pub row_passed : (good : ℕ → Vector → Bool) (rows : List Vector) (i : ℕ) → i < length rows → first_bad good 0 rows ≡ first_bad good i (drop i rows) → good i (get_or rows i []) ≡ true → first_bad good 0 rows ≡ first_bad good (i + 1) (drop (i + 1) rows)
 row_passed good rows i h rest fine = rest ∙ bad_later good rows i (get_or rows i []) [] h refl fine
 
--- ---- marks
-
-pub mark_more : (ps : List ℕ) (k p : ℕ) (marks : List Bool) (i : ℕ) → k < length ps → p ≡ get_or ps k 0 → p < length marks → get_or marks i false ≡ holds_position (take k ps) i → get_or (set marks p true) i false ≡ holds_position (take (k + 1) ps) i
-mark_more ps k p marks i l at low known = cases (p == i) refl
-  where
-    more : holds_position (take (k + 1) ps) i ≡ (holds_position (take k ps) i || (p == i))
-    more = list_any_more (λ q. q == i) ps k 0 l ∙ ap (λ q. holds_position (take k ps) i || (q == i)) (sym at)
-
-    here : (b : Bool) → true ≡ (b || true)
-    here true = refl
-    here false = refl
-
-    there : (b : Bool) → b ≡ (b || false)
-    there true = refl
-    there false = refl
-
-    cases : (b : Bool) → (p == i) ≡ b → get_or (set marks p true) i false ≡ holds_position (take (k + 1) ps) i
-    cases true e =
-        let same : i ≡ p = (grind (arith, nat_tests)) in
-        ap (λ j. get_or (set marks p true) j false) same ∙ get_or-set_same marks p true false low ∙ here (holds_position (take k ps) i) ∙ sym (more ∙ ap (λ b. holds_position (take k ps) i || b) e)
-    cases false e =
-        let other : i ≡ p → ⊥ = (λ s. grind (arith, nat_tests)) in
-        get_or-set_other marks p i true false other ∙ known ∙ there (holds_position (take k ps) i) ∙ sym (more ∙ ap (λ b. holds_position (take k ps) i || b) e)
-
 -- ---- parts
 
 two_variables : (name : ChainName) (m : ℕ) → m < length (kind_of name).patterns → (pattern_at name m).variables ≡ 2

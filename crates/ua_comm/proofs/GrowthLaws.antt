@@ -27,9 +27,6 @@ growing_none a matrices alg = record {
 
 -- ---- one matrix
 
-pub taken_going : (a : FiniteAlgebra) (delta : Partition) (m : Vector) → IsCongruence a delta → ¬ Fails delta m → IsTakenIn a delta m delta
-taken_going a delta m c goes = record { congruence = c; above = below_itself delta; within = λ other co below go. below; lower = λ f. absurd (goes f) }
-
 pub taken_failing : (a : FiniteAlgebra) (delta new : Partition) (m : Vector) → IsCongruence a delta → AreFour a.size m → Fails delta m → IsCgAbove a delta (slice_index m 2) (slice_index m 3) new → IsTakenIn a delta m new
 taken_failing a delta new m c four f h = record {
   congruence = h.congruence;

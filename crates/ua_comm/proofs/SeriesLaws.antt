@@ -49,9 +49,6 @@ module _ (a : FiniteAlgebra) (Next : Partition → Partition → Type 0) where
 
 -- ---- each member is a congruence
 
-pub full_beginning : (a : FiniteAlgebra) (Next : Partition → Partition → Type 0) (d : Partition) → d ≡ full_on a.size → IsBeginning a Next (d ∷ [])
-full_beginning a Next d e = (e, tt)
-
 module _ (a : FiniteAlgebra) (kind : Kind) (budget : ℕ) where
   descent_congruence : (d : Partition) (rest : List Partition) → IsCongruence a d → IsDescent (IsSuccessorWithin a kind budget) d rest → IsCongruence a (last_from d rest)
   descent_congruence d [] c h = c

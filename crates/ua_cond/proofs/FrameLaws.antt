@@ -27,6 +27,3 @@ width_is a c = length-replicate (coordinates a c) a
 
 pub places_are : (a : FiniteAlgebra) (c : TermCondition) → length (argument_vectors a c) ≡ c.arity
 places_are a c = length-map-range_with_len (place_vector (all_fillings a.size (patterns_of c))) 0 c.arity
-
-pub place_long : (a : FiniteAlgebra) (c : TermCondition) (j : ℕ) → length (place_vector (all_fillings a.size (patterns_of c)) j) ≡ coordinates a c
-place_long a c j = length-map (all_fillings a.size (patterns_of c)) (λ (xs : List ℕ). slice_index xs j)

@@ -15,10 +15,6 @@ use Rattle.ua_flaws.specs.Firsts.{first_bad}
 use Rattle.ua_flaws.specs.Flaws.{is_rank, first_or_short, ranks_flaw}
 use Rattle.ua_flaws.proofs.FirstLaws.{bad_here, bad_later, neither, all_from_places, both, not_true, each_good, option_none, first_none, like_lengths}
 
--- each number is below n, and stands nowhere before
-abbrev AreRanks : ℕ → List ℕ → Type 0
-AreRanks n xs = (i : ℕ) (x : ℕ) → slice_get xs i ≡ Some x → (x < n) × (times x (take i xs) ≡ 0)
-
 -- ---- a number stands there at most once
 
 at_most_once : (n : ℕ) (xs before : List ℕ) (k : ℕ) → ((i : ℕ) (x : ℕ) → slice_get xs i ≡ Some x → times x (take i xs) ≡ 0) → times k xs ≤ 1

@@ -20,15 +20,6 @@ use Rattle.ua_lanes.proofs.ListLaws.{all_map_range, map_range_same, mapped_or, r
 pub lane_small : (tile : List (List ℕ)) (lane : ℕ) → AllByRecursion (AllByRecursion (λ x. x < 16)) tile → AllByRecursion (λ x. x < 16) (lane_of tile lane)
 lane_small tile lane all = all_map_range (λ x. x < 16) (λ c. slice_index (slice_index_or tile c []) lane) 0 16 (λ c. all_or (λ x. x < 16) (slice_index_or tile c []) lane 0 (omega arith) (all_or (AllByRecursion (λ x. x < 16)) tile c [] tt all))
 
--- a tile was set: its entries, and those of other tiles
-pub entry_set_same : (block : List (List (List ℕ))) (j : ℕ) (tile : List (List ℕ)) (r x : ℕ) → x / 16 ≡ j → j < length block → entry_of (set block j tile) r x ≡ slice_index (slice_index_or tile (x % 16) []) r
-entry_set_same block j tile r x here low =
-    ap (λ (t : List (List ℕ)). slice_index (slice_index_or t (x % 16) []) r) (ap (λ k. get_or (set block j tile) k []) here ∙ get_or-set_same block j tile [] low)
-
-pub entry_set_other : (block : List (List (List ℕ))) (j : ℕ) (tile : List (List ℕ)) (r x : ℕ) → x / 16 ≢ j → entry_of (set block j tile) r x ≡ entry_of block r x
-entry_set_other block j tile r x apart =
-    ap (λ (t : List (List ℕ)). slice_index (slice_index_or t (x % 16) []) r) (get_or-set_other block j (x / 16) tile [] apart)
-
 -- a lane with the same entries has the same words
 pub key_same : (one other : List (List (List ℕ))) (r : ℕ) → length one ≡ length other → ((x : ℕ) → entry_of one r x ≡ entry_of other r x) → key_of one r ≡ key_of other r
 key_same one other r long same =

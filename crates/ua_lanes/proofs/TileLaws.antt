@@ -16,10 +16,6 @@ pub each_from_all : (P : ℕ → Type 0) (xs : List ℕ) → AllByRecursion P xs
 each_from_all P [] h = tt
 each_from_all P (x ∷ xs) h = (h.0, each_from_all P xs h.1)
 
-pub all_from_each : (P : ℕ → Type 0) (xs : List ℕ) → Each1 P xs → AllByRecursion P xs
-all_from_each P [] h = tt
-all_from_each P (x ∷ xs) h = (h.0, all_from_each P xs h.1)
-
 -- a byte below 128 names no zero
 not_zeroed : (j : ℕ) → j < 16 → zeroes 16 w8 j ≡ false
 not_zeroed j low = search rules

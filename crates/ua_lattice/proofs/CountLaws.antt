@@ -81,12 +81,6 @@ pub record AreIrreducibleOfFirst (covers : List (ℕ × ℕ)) (n : ℕ) (places 
   pub in_order : IsStrictlyIncreasing places
   pub all : (m : ℕ) → Contains places m ↔ ((m < n) × (lower_covers covers m ≡ 1))
 
-pub irreducible_none : (covers : List (ℕ × ℕ)) (places : List ℕ) → length places ≡ 0 → AreIrreducibleOfFirst covers 0 places
-irreducible_none covers places empty = record {
-  in_order = λ k w. absurd (omega (arith, w, empty));
-  all = λ m. (λ c. absurd (let w = c.1 in omega (arith, w, empty)), λ both. absurd (let w = both.0 in omega (arith, w)));
-}
-
 module _ (covers : List (ℕ × ℕ)) (n : ℕ) (places : List ℕ) (h : AreIrreducibleOfFirst covers n places) where
   pub irreducible_yes : lower_covers covers n ≡ 1 → AreIrreducibleOfFirst covers (n + 1) (places ++ n ∷ [])
   irreducible_yes one = record {

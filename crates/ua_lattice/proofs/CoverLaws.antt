@@ -47,12 +47,6 @@ pub record AreJoinPlacesOfFirst (list generators : List Partition) (i k : ℕ) (
   pub joins : AllByRecursion (IsJoinPlace list generators i) places
   pub all : (m : ℕ) → m < k → HasJoinPlace list places i (slice_index_or generators m [])
 
-pub places_none : (list generators : List Partition) (i : ℕ) (places : List ℕ) → length places ≡ 0 → AreJoinPlacesOfFirst list generators i 0 places
-places_none list generators i places empty = record {
-  joins = all_from_contains (IsJoinPlace list generators i) places (λ j c. absurd (let w = c.1 in omega (arith, w, empty)));
-  all = λ m w. absurd (omega (arith, w));
-}
-
 pub places_more : (list generators : List Partition) (i k : ℕ) (old new : List ℕ) → k < length generators → AreJoinPushed list i (slice_index_or generators k []) old new → AreJoinPlacesOfFirst list generators i k old → AreJoinPlacesOfFirst list generators i (k + 1) new
 places_more list generators i k old new w p h = record {
   joins = subst (AllByRecursion (IsJoinPlace list generators i)) (sym p.is) (all_append (IsJoinPlace list generators i) old p.more h.joins (all_from_contains (IsJoinPlace list generators i) p.more (λ j c. record {

@@ -52,9 +52,6 @@ join_entered old p q r new j e = record { more = e.more; is = e.is; one = e.one;
 
 -- ---- a list that goes on with joins
 
-pub goes_none : (old : List Partition) (p : Partition) → GoesOnWithJoins old p old
-goes_none old p = record { more = []; is = sym (append-nil old); joins = λ r c. absurd (Contains-none r c) }
-
 module _ (old : List Partition) (p : Partition) (now : List Partition) (g : GoesOnWithJoins old p now) where
   pub old_at : (i : ℕ) → i < length old → slice_index_or now i [] ≡ slice_index_or old i []
   old_at i w = ap (λ (ps : List Partition). slice_index_or ps i []) g.is ∙ get_or_append_left old g.more [] i w

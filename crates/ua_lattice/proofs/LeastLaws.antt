@@ -46,14 +46,6 @@ pub record AreLeastOfFirst (list : List Partition) (places : List ℕ) (k : ℕ)
   pub lowest : (j : ℕ) → Contains least j → IsLeastAmong list places j
   pub lower : (m : ℕ) → m < k → LiesAboveOne list least (slice_index places m)
 
-pub least_none : (list : List Partition) (places least : List ℕ) → length least ≡ 0 → AreLeastOfFirst list places 0 least
-least_none list places least empty = record {
-  in_order = λ k w. absurd (omega (arith, w, empty));
-  among = λ j c. absurd (let w = c.1 in omega (arith, w, empty));
-  lowest = λ j c. absurd (let w = c.1 in omega (arith, w, empty));
-  lower = λ m w. absurd (omega (arith, w));
-}
-
 module _ (list : List Partition) (places : List ℕ) (k : ℕ) (least : List ℕ) (h : AreLeastOfFirst list places k least) where
   pub least_within : AllByRecursion (λ j. j < length list) places → k ≤ length places → AllByRecursion (λ j. j < length list) least
   least_within within few =

@@ -13,6 +13,3 @@ congruence_part a p small h = record { partition = h.partition; few = (let n = h
 
 pub principal_congruences : (a : FiniteAlgebra) (ps : List Partition) → AllByRecursion (IsPrincipalCongruence a) ps → AllByRecursion (IsCongruence a) ps
 principal_congruences a ps h = all_weaker (IsPrincipalCongruence a) (IsCongruence a) (λ p k. k.principal.congruence) ps h
-
-pub sizes_of : (a : FiniteAlgebra) (ps : List Partition) → AllByRecursion (IsCongruence a) ps → AllByRecursion (λ (p : Partition). length p ≡ a.size) ps
-sizes_of a ps h = all_weaker (IsCongruence a) (λ (p : Partition). length p ≡ a.size) (λ p k. k.size) ps h

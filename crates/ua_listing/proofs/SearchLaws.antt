@@ -40,19 +40,6 @@ same_operation ks f k args others b e is =
     = ap (λ o. ordering_then o (slice_cmp nat_cmp (take (slice_index ks f) args) (take (slice_index ks f) others))) (nat_cmp_same f) ∙ (λ i. slice_cmp nat_cmp (take (sym e i) args) (take (sym e i) others)) in
     (λ t. whole ∙ less_true _ (sym is ∙ t), λ l. is ∙ ap is_lt (sym whole ∙ l))
 
--- two operations
-pub other_operation : (ks : List ℕ) (f g : ℕ) (args others : List ℕ) (b : Bool) → (f ≡ g → ⊥) → (IsTrue b ↔ (f < g)) → IsTrue b ↔ IsBefore ks (Op f args) (Op g others)
-other_operation ks f g args others b apart is = (
-  λ t. ap (λ o. ordering_then o (slice_cmp nat_cmp (take (slice_index ks f) args) (take (slice_index ks g) others))) (sym (nat_cmp_is f g Less (is.0 t))),
-  λ l. ⊎_elim
-      (λ low. is.1 low)
-      (λ high. absurd (let above : Greater ≡ nat_cmp f g = nat_cmp_is f g Greater (strict high) in let bad : Greater ≡ Less = ap (λ o. ordering_then o (slice_cmp nat_cmp (take (slice_index ks f) args) (take (slice_index ks g) others))) above ∙ l in cc))
-      (cases_lt f g),
-)
-  where
-    strict : g ≤ f → g < f
-    strict h = ⊎_elim (λ l. l) (λ r. absurd (apart (omega (arith, h, r)))) (cases_lt g f)
-
 -- what is not after
 module _ {K : Type 0} (R : K → K → Ordering) (o : IsTotalOrder R) where
   turned : (x y : K) → R x y ≡ Greater → R y x ≡ Less

@@ -68,23 +68,6 @@ generators_later p gens vs s new n l h = λ i low. later_visited p gens vs s new
 pub constants_later : (p : Product) (gens vs : List Vector) (s new : Search) (n : ℕ) → ReachesMore (arities p) s new → AreConstantsVisited p gens vs s n → AreConstantsVisited p gens vs new n
 constants_later p gens vs s new n l h = λ f low e. later_visited p gens vs s new l (Op f no_arguments) (h f low e)
 
-constant_origin : (ks : List ℕ) (n f k : ℕ) → f < length ks → slice_index ks f ≡ k → k ≡ 0 → IsApplication ks n f no_arguments
-constant_origin ks n f k low is none =
-    let e = is ∙ none in
-    record {
-      operation = low;
-      count = subst (λ m. length (take m no_arguments) ≡ m) (sym e) refl;
-      earlier = subst (λ m. AllByRecursion (λ a. a < n) (take m no_arguments)) (sym e) tt;
-      unused = subst (λ m. drop m no_arguments ≡ replicate (4 - m) 0) (sym e) refl;
-    }
-
-pub may_constant : (p : Product) (gens vs : List Vector) (s : Search) (f : ℕ) → f < length (arities p) → slice_index (arities p) f ≡ 0 → MayVisit p gens vs s 1 (Op f no_arguments)
-may_constant p gens vs s f low e = record {
-  valid = constant_origin (arities p) (length vs) f 0 low e refl;
-  arguments = subst (λ m. AllByRecursion (IsReached s) (take m no_arguments)) (sym e) tt;
-  height = subst (λ m. 1 ≡ suc (greatest (map (λ a. slice_index s.heights.items a) (take m no_arguments)))) (sym e) refl;
-}
-
 -- ---- the tuples of a slice
 
 -- the greatest image is that of a member whose image is not below another

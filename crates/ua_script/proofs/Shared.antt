@@ -66,9 +66,6 @@ points_sync = as_row_sync points.the_field points_shared.the_field_sync
 making_sync : IsSync (as_row making.the_field)
 making_sync = as_row_sync making.the_field making_shared.the_field_sync
 
-identity_sync : IsSync (as_row identity.the_field)
-identity_sync = as_row_sync identity.the_field identity_shared.the_field_sync
-
 place_sync : IsSync (as_row place.the_field)
 place_sync = as_row_sync place.the_field place_shared.the_field_sync
 

@@ -35,19 +35,6 @@ pub record IsCarried (n place : ℕ) (old digits : List ℕ) : Type 0 where
   pub full : numeral n (drop place old) + 1 ≡ n ^ (length old - place)
   pub below : AllByRecursion (λ x. x < n) digits
 
-pub carried_none : (n : ℕ) (old : List ℕ) → AllByRecursion (λ x. x < n) old → IsCarried n (length old) old old
-carried_none n old below =
-    let none : drop (length old) old ≡ [] = drop_all (length old) old (omega arith) in
-    let zero' : length old - length old ≡ 0 = omega arith in
-    record {
-      within = omega arith;
-      count = refl;
-      front = refl;
-      zeros = ap (numeral n) none;
-      full = ap (λ (xs : List ℕ). numeral n xs + 1) none ∙ sym (ap (λ k. n ^ k) zero' ∙ pow-zero n);
-      below = below;
-    }
-
 take_front : (j : ℕ) (xs : List ℕ) → take j (take (suc j) xs) ≡ take j xs
 take_front zero xs = refl
 take_front (suc j) [] = refl
@@ -114,10 +101,6 @@ pub written_twice : (xs : List ℕ) (i x y : ℕ) → set (set xs i x) i y ≡ s
 written_twice [] i x y = refl
 written_twice (z ∷ zs) zero x y = refl
 written_twice (z ∷ zs) (suc i) x y = ap (λ (ys : List ℕ). z ∷ ys) (written_twice zs i x y)
-
--- the last tuple has been carried over whole
-pub carried_all : (n : ℕ) (old digits : List ℕ) → IsCarried n 0 old digits → numeral n old + 1 < n ^ length old → ⊥
-carried_all n old digits h small = let e : length old - 0 ≡ length old = omega arith in let f = ap (λ k. n ^ k) e in let w = h.full in omega (arith, small, f, w)
 
 -- ---- an operation of two algebras of one signature
 

@@ -241,16 +241,6 @@ clash_is p gens rows earlier later q r first second clash at_q at_r to_q to_r fo
       },
     )
 
-pub clash_maps : (p : Product) (gens : List Vector) (b : ℕ) (rows : List Row) (hom : Hom) → IsClashOf p gens rows hom → Maps p gens b hom
-clash_maps p gens b rows (Map pairs) h = absurd h
-clash_maps p gens b rows (Clash x y z first second) h = h.0
-clash_maps p gens b rows Exceeds h = absurd h
-
-pub clash_serial : (p : Product) (gens : List Vector) (b : ℕ) (rows : List Row) (hom : Hom) → IsListing p gens rows → length rows ≤ b + 1 → IsSerialListing p gens rows → IsClashOf p gens rows hom → IsSerialHom p gens b hom
-clash_serial p gens b rows (Map pairs) listing count serial h = absurd h
-clash_serial p gens b rows (Clash x y z first second) listing count serial h = record { rows = rows; listing = listing; count = count; serial = serial; clash = h.1 }
-clash_serial p gens b rows Exceeds listing count serial h = absurd h
-
 -- of two algebras of one signature
 pub of_both : (a b : FiniteAlgebra) (gens images : List ℕ) (p : Product) (pairs : List Vector) (budget workers : ℕ) (answer : Result Hom HomError) → signature b ≡ signature a → p ≡ both a b → pairs ≡ with_images gens images → MayMapPairs p pairs budget workers answer → MayMap a b gens images budget workers answer
 of_both a b gens images p pairs budget workers answer similar p_is pairs_are h = by answer (subst (λ (q : Product × List Vector). MayMapPairs q.0 q.1 budget workers answer) (λ i. (p_is i, pairs_are i)) h)

@@ -109,9 +109,6 @@ kept_twice b budget x y old mid new one two = record { right = two.right; relate
 pub kept_down : (b : FiniteAlgebra) (budget x y u v : ℕ) (old new : Known) → Generates b x y u v → IsKept b budget u v old new → IsKept b budget x y old new
 kept_down b budget x y u v old new g h = record { right = h.right; related = λ theta cb s before. h.related theta cb (generates_related b theta cb x y s u v g) before }
 
-pub kept_same : (b : FiniteAlgebra) (budget x y : ℕ) (known : Known) → IsRight b budget known → IsKept b budget x y known known
-kept_same b budget x y known right = record { right = right; related = λ theta cb s before. before }
-
 -- ---- what is known of a pair before it is tried
 
 -- a pair that the subtrace does not stand before, and is not, stands before it

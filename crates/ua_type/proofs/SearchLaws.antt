@@ -73,14 +73,6 @@ not_all_vain b theta budget cb two vain =
     not_all_refuted b theta two.first two.second cb two.related two.differ
     (λ c d s n. (vain c d (let l = s.left in let m = cb.size in omega (arith, l, m)) s n).refuted)
 
--- one more element
-pub vain_more : (b : FiniteAlgebra) (theta : Partition) (budget x y n : ℕ) → y ≡ n → AreVainAt b theta budget x y → (SameBlock theta x n → x ≢ n → IsVain b budget x n) → AreVainAt b theta budget x (n + 1)
-vain_more b theta budget x y n is vain here d w s apart =
-    ⊎_elim
-    (λ low. vain d (omega (arith, low, is)) s apart)
-    (λ high. let same : d ≡ n = omega (arith, w, high) in subst (λ u. IsVain b budget x u) (sym same) (here (subst (SameBlock theta x) same s) (subst (λ u. x ≢ u) same apart)))
-    (cases_lt d n)
-
 -- all pairs of x, where its block has no element beyond the size
 pub vain_next : (b : FiniteAlgebra) (theta : Partition) (budget x n : ℕ) → AreVainBelow b theta budget x → AreVainAt b theta budget x n → ((d : ℕ) → SameBlock theta x d → d < n) → AreVainBelow b theta budget (x + 1)
 vain_next b theta budget x n below at few c d w s apart =

@@ -110,10 +110,3 @@ module _ (b : FiniteAlgebra) (budget workers : ℕ) (row : Vector) (pair : ℕ �
 
   pub never_beyond : (rows : List Row) → ¬ HasMorePairs b budget (slice_index row 0) (slice_index row 1) → MaySeek (Ok (reaches.Exceeds rows)) → ⊥
   never_beyond rows within h = within (exceeding_has_more (replicate 2 b) (pair_generators b (slice_index row 0) (slice_index row 1)) budget rows h.1.0)
-
--- a pair of related different elements is tried
-pub related_tried : (b : FiniteAlgebra) (theta : Partition) (budget : ℕ) (pair : ℕ × ℕ) → SameBlock theta pair.0 pair.1 → pair.0 ≢ pair.1 → (r : Result Trial CloseError) → MayTry b budget pair r → MayTryRelated b theta budget pair r
-related_tried b theta budget pair s n (Ok (Found swap)) h = (s, n, h)
-related_tried b theta budget pair s n (Ok Vain) h = λ _ _. h.1
-related_tried b theta budget pair s n (Ok Beyond) h = (s, n, h)
-related_tried b theta budget pair s n (Err e) h = (s, n, h)

@@ -9,10 +9,6 @@ use Rattle.ua_table.specs.Algebras.{Vector}
 use Rattle.ua_table.proofs.Lists.{get_or-slice_get}
 use Rattle.ua_work.specs.Goals.{clashes, has_clash}
 
-or_assoc : (a b c : Bool) → ((a || b) || c) ≡ (a || (b || c))
-or_assoc true b c = refl
-or_assoc false b c = refl
-
 or_swap : (a b c d : Bool) → ((a || b) || (c || d)) ≡ ((a || c) || (b || d))
 or_swap true b c d = refl
 or_swap false true true d = refl

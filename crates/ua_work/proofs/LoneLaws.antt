@@ -26,9 +26,6 @@ alone_further s t f h = (f.made ∙ h.0, f.number ∙ h.1)
 pub come_same : (r new : Replica) (seen : List Origin) (o : Origin) → SameClosure r new → HasCome r.operations r.gens.now.items seen (turn_of r o) → HasCome new.operations new.gens.now.items seen (turn_of new o)
 come_same r new seen o same h = for_same (λ p gens. HasCome p gens seen (turn (arities p) o)) r new same h
 
-pub serial_same : (r new : Replica) (w : Worker) (end : End) → SameClosure r new → StopsSerial r w end → StopsSerial new w end
-serial_same r new w end same h = for_same (λ p gens. EndsSerial p gens w.seen end) r new same h
-
 -- a new record
 record_come : (r : Replica) (w : Worker) (o : Origin) → IsWorking r w → IsOriginIn r o → ¬ Contains (values_in r) (value_in r o) → Comes r w (turn_of r o) → HasCome r.operations r.gens.now.items (w.seen ++ o ∷ []) (turn_of r o)
 record_come r w o k h absent come =

@@ -53,14 +53,8 @@ later_noted s t u a e = subst (IsLater s) (sym e) record { home = a.home; made =
 
 -- ---- a claim changes nothing of the records
 
-pub working_claims : (r : Replica) (t u : SeatView) (n : ℕ) → IsWorking r t.own → u ≡ with_worker t (claims_slice t.own n) → IsWorking r u.own
-working_claims r t u n k e = subst (IsWorking r) (sym (ap (λ (x : SeatView). x.own) e)) record { replica = k.replica; values_are = k.values_are; puts = k.puts; note = k.note }
-
 pub working_knows : (r : Replica) (t u : SeatView) (c : ℕ) (h : Bool) → IsWorking r t.own → u ≡ with_worker t (knows t.own c h) → IsWorking r u.own
 working_knows r t u c h k e = subst (IsWorking r) (sym (ap (λ (x : SeatView). x.own) e)) record { replica = k.replica; values_are = k.values_are; puts = k.puts; note = k.note }
-
-pub goes_claims : (goal : Goal) (r : Replica) (t u : SeatView) (n : ℕ) → GoesOn goal r t.own → u ≡ with_worker t (claims_slice t.own n) → GoesOn goal r u.own
-goes_claims goal r t u n k e = record { working = working_claims r t u n k.working e; unmet = k.unmet }
 
 pub goes_knows : (goal : Goal) (r : Replica) (t u : SeatView) (c : ℕ) (h : Bool) → GoesOn goal r t.own → u ≡ with_worker t (knows t.own c h) → GoesOn goal r u.own
 goes_knows goal r t u c h k e = record { working = working_knows r t u c h k.working e; unmet = k.unmet }

@@ -101,9 +101,6 @@ same_working r new w same replica k = record {
 pub same_scratch : (r new : Replica) (v : Vector) → new ≡ record { operations = r.operations; gens = r.gens; shape = r.shape; rows = r.rows; places = r.places; scratch = v; lanes = r.lanes } → SameRecords r new
 same_scratch r new v e = subst (SameRecords r) (sym e) record { closure = record { operations = refl; gens = refl; shape = refl }; rows = refl; places = refl }
 
-pub records_trans : (r s t : Replica) → SameRecords r s → SameRecords s t → SameRecords r t
-records_trans r s t a b = record { closure = same_trans r s t a.closure b.closure; rows = b.rows ∙ a.rows; places = b.places ∙ a.places }
-
 pub same_goes : (goal : Goal) (r new : Replica) (w : Worker) → SameRecords r new → IsReplica new → GoesOn goal r w → GoesOn goal new w
 same_goes goal r new w same replica k = record { working = same_working r new w same replica k.working; unmet = subst (λ (l : List Vector). ¬ Meets goal l) (sym same.rows) k.unmet }
 
@@ -241,19 +238,6 @@ further_sees s t x e = subst (IsFurther s) (sym e) record {
   mark = refl;
   seen = begins_push s.own.seen s.own.seen x (begins_self s.own.seen);
   puts = begins_self s.own.puts;
-}
-
-pub further_adds : (s t : SeatView) (x : Origin) → t ≡ with_worker s (adds s.own x) → IsFurther s t
-further_adds s t x e = subst (IsFurther s) (sym e) record {
-  home = refl;
-  made = refl;
-  kept = refl;
-  number = refl;
-  slices = refl;
-  known = refl;
-  mark = refl;
-  seen = begins_push s.own.seen s.own.seen x (begins_self s.own.seen);
-  puts = begins_push s.own.puts s.own.puts (length s.own.seen) (begins_self s.own.puts);
 }
 
 -- the value of an origin stays, where there are more records
