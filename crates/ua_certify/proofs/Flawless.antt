@@ -86,11 +86,11 @@ closed_power a width b gens rows law table wide admitted closed = record {
 
 -- ---- closures and members
 
-pub steps_flawless : (a : FiniteAlgebra) (width : ℕ) (gens : List Vector) (target : Vector) (steps : StepList) → StepsLaw → IsAlgebraTable a → IsWidth width → AllByRecursion (IsVector (power a width)) gens → IsVector (power a width) target → AreSteps steps.arities steps.gens steps.items → AreStepsTo (power a width) gens target steps
+pub steps_flawless : (a : FiniteAlgebra) (width : ℕ) (gens : List Vector) (target : Vector) (steps : StepList) → StepsLaw → IsAlgebraTable a → IsWidth width → AllByRecursion (IsVector (power a width)) gens → IsVector (power a width) target → AreStepsTo (power a width) gens target steps
     → member_flaw a gens (written_steps a steps.items) target width ≡ None
-steps_flawless a width gens target steps law table wide admitted one are h =
+steps_flawless a width gens target steps law table wide admitted one h =
     let ks : steps.arities ≡ arities_of a = h.arities_are ∙ arities_power a width wide.0 in
-    let given : AreSteps (arities_of a) (length gens) steps.items = subst (λ n. AreSteps (arities_of a) n steps.items) h.generators (subst (λ zs. AreSteps zs steps.gens steps.items) ks are) in
+    let given : AreSteps (arities_of a) (length gens) steps.items = subst (λ n. AreSteps (arities_of a) n steps.items) h.generators (subst (λ zs. AreSteps zs steps.gens steps.items) ks h.steps) in
     law a gens steps.items target width table wide admitted one given h.value
 
 pub absent_flawless : (a : FiniteAlgebra) (width b : ℕ) (gens : List Vector) (target : Vector) (rows : List Row) → MemberLaw → AbsentLaw → IsAlgebraTable a → IsWidth width → AllByRecursion (IsVector (power a width)) gens → IsVector (power a width) target → IsClosedListing (power a width) gens b rows → ¬ Contains (vectors_of rows) target
@@ -178,14 +178,14 @@ module _ (a : FiniteAlgebra) (name : CondName) (k b w : ℕ) (table : IsAlgebraT
       let count = length-replicate (length (all_fillings a.size (patterns_of (condition_of name k)))) a in
       omega (arith, low, count)
 
-  pub term_flawless : (steps : StepList) → TermLaw → AreSteps steps.arities steps.gens steps.items → MayDecide a (condition_of name k) b w (Ok (answers.Yes steps)) → condition_flaw a name k (written_steps a steps.items) ≡ None
-  term_flawless steps law are may =
+  pub term_flawless : (steps : StepList) → TermLaw → MayDecide a (condition_of name k) b w (Ok (answers.Yes steps)) → condition_flaw a name k (written_steps a steps.items) ≡ None
+  term_flawless steps law may =
       let not_wide = may.0.0 in
       let tells = may.0.1 in
       let writes = may.1 in
       let ks : steps.arities ≡ arities_of a = tells.arities_are ∙ arities_power a (length (all_fillings a.size (patterns_of (condition_of name k)))) some_width in
       let gens : steps.gens ≡ k = tells.generators ∙ length-map-range_with_len (place_vector (all_fillings a.size (patterns_of (condition_of name k)))) 0 (condition_of name k).arity ∙ arity_is name k places in
-      let given : AreSteps (arities_of a) k steps.items = subst (λ n. AreSteps (arities_of a) n steps.items) gens (subst (λ zs. AreSteps zs steps.gens steps.items) ks are) in
+      let given : AreSteps (arities_of a) k steps.items = subst (λ n. AreSteps (arities_of a) n steps.items) gens (subst (λ zs. AreSteps zs steps.gens steps.items) ks tells.steps) in
       let term : written_term (arities_of a) steps.items ≡ writes.term = ap (λ zs. written_term zs steps.items) (sym ks) ∙ get_or-slice_get (unfolded steps.arities steps.items) (length steps.items - 1) writes.term _ writes.last in
       law a name k steps.items table places (narrow (condition_power a (condition_of name k)) (argument_vectors a (condition_of name k)) b some not_wide) (nonempty steps.arities steps.items writes.term writes.last) given (subst (λ t. Meets a t (condition_of name k)) (sym term) writes.meets)
     where
@@ -226,14 +226,10 @@ some_items : (a : FiniteAlgebra) (kind : ChainKind) (terms : List StepList) → 
 some_items a kind [] h = tt
 some_items a kind (s ∷ terms) h = (h.0.some, some_items a kind terms h.1)
 
--- the steps of each list are steps
-abbrev pub AreStepLists : List StepList → Type 0
-AreStepLists terms = AllByRecursion (λ (s : StepList). AreSteps s.arities s.gens s.items) terms
-
-steps_given : (a : FiniteAlgebra) (kind : ChainKind) (terms : List StepList) → AllByRecursion (AreTermSteps a kind) terms → AreStepLists terms → AllByRecursion (AreSteps (arities_of a) kind.places) (items_of terms)
-steps_given a kind [] h are = tt
-steps_given a kind (s ∷ terms) h are =
-    (subst (λ n. AreSteps (arities_of a) n s.items) h.0.places_are (subst (λ ks. AreSteps ks s.gens s.items) h.0.arities_are are.0), steps_given a kind terms h.1 are.1)
+steps_given : (a : FiniteAlgebra) (kind : ChainKind) (terms : List StepList) → AllByRecursion (AreTermSteps a kind) terms → AllByRecursion (AreSteps (arities_of a) kind.places) (items_of terms)
+steps_given a kind [] h = tt
+steps_given a kind (s ∷ terms) h =
+    (subst (λ n. AreSteps (arities_of a) n s.items) h.0.places_are (subst (λ ks. AreSteps ks s.gens s.items) h.0.arities_are h.0.steps), steps_given a kind terms h.1)
 
 written_twice : (a : FiniteAlgebra) (terms : List StepList) → map (λ (s : StepList). written_steps a s.items) terms ≡ map (written_steps a) (items_of terms)
 written_twice a [] = refl
@@ -258,11 +254,11 @@ those : (a : FiniteAlgebra) (name : ChainName) (even : Bool) (rows : List Vector
 those a name even rows ps h = record { ascending = h.ascending; exact = h.exact; within = h.within }
 
 module _ (a : FiniteAlgebra) (name : ChainName) (b w : ℕ) (table : IsAlgebraTable a) (some : 1 ≤ b) where
-  pub chain_flawless : (terms : Vec StepList Global) → ChainLaw → AreStepLists terms.items → MayChain a (kind_of name) b w (Ok (chains.Yes terms)) → chain_flaw a name (map (λ (s : StepList). written_steps a s.items) terms.items) ≡ None
-  chain_flawless terms law are may =
+  pub chain_flawless : (terms : Vec StepList Global) → ChainLaw → MayChain a (kind_of name) b w (Ok (chains.Yes terms)) → chain_flaw a name (map (λ (s : StepList). written_steps a s.items) terms.items) ≡ None
+  chain_flawless terms law may =
       let h = may.1.0 in
       subst (λ ts. chain_flaw a name ts ≡ None) (sym (written_twice a terms.items))
-      (law a name (items_of terms.items) table (narrow (power_of a (kind_of name)) (generators_of a (kind_of name)) b some may.0) (some_items a (kind_of name) terms.items h.each) (steps_given a (kind_of name) terms.items h.each are)
+      (law a name (items_of terms.items) table (narrow (power_of a (kind_of name)) (generators_of a (kind_of name)) b some may.0) (some_items a (kind_of name) terms.items h.each) (steps_given a (kind_of name) terms.items h.each)
       (subst (IsChain a (kind_of name)) (sym (terms_are a (kind_of name) terms.items h.each)) h.least.chain))
 
   pub no_chain_flawless : (rows : List Row) (even odd : Vec ℕ Global) → NoChainLaw → MemberLaw → WideLaw → PlaceLaw → MayChain a (kind_of name) b w (Ok (chains.No rows even odd)) → no_chain_flaw a name (vectors_of rows) even.items odd.items ≡ None

@@ -2,8 +2,6 @@
 
 ghost use Rattle.std.specs.Prelude.{◌≡◌, map, IfOk};
 ghost use Rattle.ua_table.specs.Listings.{vectors_of, ranks_of};
-ghost use Rattle.std.specs.List.{AllByRecursion};
-ghost use Rattle.ua_term.specs.Steps.{AreSteps};
 ghost use Rattle.ua_flaws.specs.Steps as written;
 
 use std::alloc::{AllocError, Global};
@@ -67,8 +65,7 @@ pub(crate) fn written_terms(
     a: &Algebra,
     terms: &[Steps],
 ) -> Result<Listed<Listed<CertStep>>, AllocError>
-    ensures written { IfOk result (λ lists. lists ≡ map (λ s. written.written_steps a.now s.items) terms.now) }
-    ensures steps { IfOk result (λ lists. AllByRecursion (λ s. AreSteps s.arities s.gens s.items) terms.now) }
+    ensures { IfOk result (λ lists. lists ≡ map (λ s. written.written_steps a.now s.items) terms.now) }
 {
     let mut lists = Vec::new(alloc);
     for steps in terms {

@@ -31,14 +31,14 @@ some_items : (p : Product) (gens : List Vector) (items : List Origin) (v : Vecto
 some_items p gens [] v e = cc
 some_items p gens (o ∷ items) v e = omega arith
 
-pub step_row : (a : FiniteAlgebra) (kind : ChainKind) (p : Product) (gens vs : List Vector) (s : StepList) (row : ℕ) (v : Vector) → IsClosureOf a kind p gens → slice_get vs row ≡ Some v → AreStepsTo p gens v s → AreSteps s.arities s.gens s.items → AreStepsOf a kind vs s row
-step_row a kind p gens vs s row v c at to steps =
+pub step_row : (a : FiniteAlgebra) (kind : ChainKind) (p : Product) (gens vs : List Vector) (s : StepList) (row : ℕ) (v : Vector) → IsClosureOf a kind p gens → slice_get vs row ≡ Some v → AreStepsTo p gens v s → AreStepsOf a kind vs s row
+step_row a kind p gens vs s row v c at to =
     let fs = all_fillings a.size kind.patterns in
     let some = some_items p gens s.items v to.value in
     let last : length s.items - 1 < length s.items = omega (arith, some) in
     let arity : arities p ≡ arities_of a = ap arities c.product_is ∙ arities_power (length fs) a c.wide in
     let count : length gens ≡ kind.places = ap length c.gens_are ∙ generator_count a kind.patterns kind.places in
-    let term = step_is_term s.arities s.gens s.items (length s.items - 1) steps last in
+    let term = step_is_term s.arities s.gens s.items (length s.items - 1) to.steps last in
     let is_term : IsTerm (arities_of a) kind.places (term_of s) = subst (λ (ks : List ℕ). IsTerm ks kind.places (term_of s)) (to.arities_are ∙ arity) (subst (λ n. IsTerm s.arities n (term_of s)) (to.generators ∙ count) term) in
     let here = mapped_from (term_value p gens) (unfolded (arities p) s.items) (length s.items - 1) v to.value in
     let same : term_of s ≡ here.0 = ap (λ (ks : List ℕ). step_term ks s.items (length s.items - 1)) to.arities_are ∙ get_or_from_slice_get (unfolded (arities p) s.items) (length s.items - 1) here.0 (Generator 0) here.1 in
@@ -49,7 +49,7 @@ step_row a kind p gens vs s row v c at to steps =
     ∙ ap (λ (gs : List Vector). term_value p gs (term_of s)) (sym c.gens_are)
     ∙ value in
     record {
-      steps = record { arities_are = to.arities_are ∙ arity; places_are = to.generators ∙ count; some = some };
+      steps = record { arities_are = to.arities_are ∙ arity; places_are = to.generators ∙ count; steps = to.steps; some = some };
       row = record { is_term = is_term; stands = at ∙ ap Some (sym vector) };
     }
 

@@ -177,7 +177,7 @@ generator_step_of : (a : FiniteAlgebra) (kind : ChainKind) (p : Product) (gens v
 generator_step_of a kind p gens vs s j i c e r =
     let arity : arities p ≡ arities_of a = arities_made a kind p gens c in
     let count : length gens ≡ kind.places = ap length c.gens_are ∙ generator_count a kind.patterns kind.places in
-    subst (λ (x : StepList). AreStepsOf a kind vs x i) (sym e) (record { steps = record { arities_are = arity; places_are = count; some = omega arith }; row = r })
+    subst (λ (x : StepList). AreStepsOf a kind vs x i) (sym e) (record { steps = record { arities_are = arity; places_are = count; steps = (let low = r.is_term in omega (arith, low, count), tt); some = omega arith }; row = r })
 
 positive : (j : ℕ) → (j ≡ 0 → ⊥) → 0 < j
 positive zero n = absurd (n refl)
@@ -208,7 +208,7 @@ module _ (a : FiniteAlgebra) (kind : ChainKind) (p : Product) (gens : List Vecto
   inner_steps j s e l inner =
       let r = (at j s e).inner l inner in
       let v = found (vectors_of list) (slice_index rows j) (row_low j (omega (arith, inner))) in
-      step_row a kind p gens (vectors_of list) s (slice_index rows j) v.0 c v.1 (r.value v.0 v.1) r.earlier
+      step_row a kind p gens (vectors_of list) s (slice_index rows j) v.0 c v.1 (r.value v.0 v.1)
 
   each_steps : (j : ℕ) (s : StepList) → slice_get steps j ≡ Some s → AreStepsOf a kind (vectors_of list) s (slice_index rows j)
   each_steps j s e =

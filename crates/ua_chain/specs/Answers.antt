@@ -7,7 +7,7 @@ use Rattle.ua_table.specs.Generated.{HasMoreThan}
 use Rattle.ua_table.specs.Terms.{Tree}
 use Rattle.ua_table.specs.Listings.{Row, vectors_of, IsClosedListing, IsExceedingListing}
 use Rattle.ua_table.specs.Orders.{IsSerialListing}
-use Rattle.ua_term.specs.Steps.{StepList, step_term}
+use Rattle.ua_term.specs.Steps.{StepList, AreSteps, step_term}
 use Rattle.ua_close.specs.Needed.{AreStepsFor}
 use Rattle.ua_walk.specs.Sequences.{BeginsWith, EndsWith}
 use Rattle.ua_identity.specs.Chains.{ChainKind, IsChain, IsLeastChain, IsReached}
@@ -33,6 +33,7 @@ term_of s = step_term s.arities s.items (length s.items - 1)
 pub record AreTermSteps (a : FiniteAlgebra) (kind : ChainKind) (s : StepList) : Type 0 where
   pub arities_are : s.arities ≡ arities_of a
   pub places_are : s.gens ≡ kind.places
+  pub steps : AreSteps s.arities s.gens s.items
   pub some : 0 < length s.items
 
 -- the one step that is a generator

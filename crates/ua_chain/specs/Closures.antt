@@ -3,7 +3,7 @@ use Rattle.std.specs.Prelude.{◌≡◌, ◌↔◌, ◌⊎◌, ℕ, ◌+◌, ◌
 use Rattle.ua_table.specs.declared.origins.Origin.TheVariants.{Gen}
 use Rattle.ua_table.specs.Algebras.{Vector, FiniteAlgebra, Product, arities}
 use Rattle.ua_table.specs.Listings.{Row, vectors_of}
-use Rattle.ua_term.specs.Steps.{StepList, AreSteps}
+use Rattle.ua_term.specs.Steps.{StepList}
 use Rattle.ua_close.specs.Memberships.{AreStepsTo}
 use Rattle.ua_close.specs.Needed.{AreStepsFor}
 use Rattle.ua_identity.specs.Chains.{ChainKind}
@@ -20,7 +20,6 @@ pub record IsClosureOf (a : FiniteAlgebra) (kind : ChainKind) (p : Product) (gen
 
 -- the steps of a row
 pub record AreRowSteps (p : Product) (gens : List Vector) (rows : List Row) (i : ℕ) (s : StepList) : Type 0 where
-  pub earlier : AreSteps s.arities s.gens s.items
   pub value : (v : Vector) → slice_get (vectors_of rows) i ≡ Some v → AreStepsTo p gens v s
   pub needed : AreStepsFor (arities p) rows i s.items
 

@@ -65,10 +65,7 @@ fn row_steps(
     requires listing { IsListing frame.now gens.now.items list.now }
     ensures { IfOk result (AreRowSteps frame.now gens.now.items list.now row) }
 {
-    let steps = steps_for(alloc, frame, gens, list, row)?;
-    // What this call ensures makes them steps.
-    let _list = steps.list();
-    Ok(steps)
+    steps_for(alloc, frame, gens, list, row)
 }
 
 /// The steps of term k of a chain whose rows are these: the first is generator 0, and the last the last

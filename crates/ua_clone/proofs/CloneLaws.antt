@@ -40,14 +40,14 @@ module _ (a : FiniteAlgebra) (k : ℕ) (kind : CloneKind) (ps : List Point) wher
   wanted = wanted_values ps
 
   -- steps to the vector of the values write a polynomial that agrees
-  pub steps_write : (s : StepList) → 0 < length ps → AllByRecursion (IsPoint a.size k) ps → AreSteps s.arities s.gens s.items → AreStepsTo power gens wanted s → WriteAgreeing a k kind ps s
-  steps_write s some points earlier h =
+  pub steps_write : (s : StepList) → 0 < length ps → AllByRecursion (IsPoint a.size k) ps → AreStepsTo power gens wanted s → WriteAgreeing a k kind ps s
+  steps_write s some points h =
       let i = length s.items - 1 in
       let m = mapped_from (term_value power gens) (unfolded (arities power) s.items) i wanted h.value in
       let t = m.0 in
       let last : slice_get (unfolded s.arities s.items) i ≡ Some t = ap (λ (ks : List ℕ). slice_get (unfolded ks s.items) i) h.arities_are ∙ m.1 in
       let low : i < length s.items = (let within = slice_get_within (step_values power gens s.items) i wanted h.value in let long = length_values power gens s.items in omega (arith, within, long)) in
-      let is_term : IsTerm s.arities s.gens t = subst (IsTerm s.arities s.gens) (get_or-slice_get (unfolded s.arities s.items) i t (Generator 0) last) (step_is_term s.arities s.gens s.items i earlier low) in
+      let is_term : IsTerm s.arities s.gens t = subst (IsTerm s.arities s.gens) (get_or-slice_get (unfolded s.arities s.items) i t (Generator 0) last) (step_is_term s.arities s.gens s.items i h.steps low) in
       let w = written_from a k kind ps some points t (subst (λ (X : Type 0). X) (λ j. IsTerm (h.arities_are j) (h.generators j) t) is_term, m.2) in
       record {
         operations = h.arities_are ∙ same_arities a k kind ps some points;

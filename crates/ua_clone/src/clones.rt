@@ -39,11 +39,7 @@ pub fn clone_member<R: Threads + Sync, G: Gate>(
     let gens = generators(alloc, a, k, kind, points, frame.width())?;
     let values = points.value_row(alloc, k)?;
     match member(rt, alloc, &frame, &gens, values.as_slice(), run)? {
-        Answer::Yes(steps) => {
-            // What this call ensures says that the steps write terms.
-            let _list = steps.list();
-            Ok(Answer::Yes(steps))
-        }
+        Answer::Yes(steps) => Ok(Answer::Yes(steps)),
         Answer::No(list) => Ok(Answer::No(list)),
         Answer::Exceeds(list) => Ok(Answer::Exceeds(list)),
     }

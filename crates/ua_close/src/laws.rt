@@ -6,11 +6,14 @@ ghost use Rattle.ua_table.specs.Algebras.{Vector, Product, IsProduct, IsVector, 
 ghost use Rattle.ua_table.specs.Generated.{Sg, HasMoreThan};
 ghost use Rattle.ua_table.specs.Listings.{Row, vectors_of, IsListing, IsClosedListing};
 ghost use Rattle.ua_table.specs.Numbering.{Fits};
+ghost use Rattle.ua_term.specs.Steps.{StepList};
+ghost use Rattle.ua_close.specs.declared.memberships.Answer.{Answer};
 ghost use Rattle.ua_close.specs.Answers.{IsWide};
 ghost use Rattle.ua_log.specs.declared.views.Plan.{Plan};
 ghost use Rattle.ua_work.specs.declared.goals.Goal.{Goal};
 ghost use Rattle.ua_work.specs.Goals.{Meets};
 ghost use Rattle.ua_work.specs.Harvests.{IsPlanOf};
+ghost use Rattle.ua_close.specs.Memberships.{Tells};
 ghost use Rattle.ua_close.specs.Kinds.{cardinality, HasAnswer, HasClosedListing};
 ghost use Rattle.ua_close.specs.Steps.{LoadFound, LoadEmpty, LoadBelow, PutWon, PutLost, LoadIdle, LoadKnow, ClaimWon, ClaimLost, HaltSet, SeatSplit, SeatJoin, SeatsAreViews, StartIsRead, GatheredIsRead};
 
@@ -51,6 +54,13 @@ pub fn kinds()
     ensures few { (p : Product) (gens : List Vector) (b : ℕ) → IsProduct p → AllByRecursion (IsVector p) gens → HasMoreThan p gens b → b < cardinality p }
     ensures closed { (p : Product) (gens : List Vector) (b : ℕ) → IsProduct p → AllByRecursion (IsVector p) gens → cardinality p ≤ b → HasClosedListing p gens b }
     ensures goals { (p : Product) (gens : List Vector) (goal : Goal) (b : ℕ) (rows others : List Row) → IsListing p gens rows → Meets goal (vectors_of rows) → IsClosedListing p gens b others → Meets goal (vectors_of others) }
+{}
+
+/// What is told of a vector is so, by however many workers: it is generated where it is told to be, and it is not
+/// where a closed listing lacks it.
+pub fn memberships()
+    ensures yes { (p : Product) (gens : List Vector) (v : Vector) (b : ℕ) (steps : StepList) → Tells p gens v b (Answer.Yes steps) → Sg p gens v }
+    ensures no { (p : Product) (gens : List Vector) (v : Vector) (b : ℕ) (rows : List Row) → Tells p gens v b (Answer.No rows) → ¬ Sg p gens v }
 {}
 
 /// The records of a closure that is not too wide fit in their numbering.

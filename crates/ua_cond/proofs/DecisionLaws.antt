@@ -27,14 +27,14 @@ module _ (a : FiniteAlgebra) (c : TermCondition) where
   value = value_vector a c
 
   -- steps to the vector of the values write a term that meets the condition
-  pub steps_write : (s : StepList) → ((t : Tree) → (IsTerm (arities power) (length arguments) t × (term_value power arguments t ≡ value)) ↔ (IsTerm (arities_of a) c.arity t × Meets a t c)) → AreSteps s.arities s.gens s.items → AreStepsTo power arguments value s → WriteMeeting a c s
-  steps_write s written earlier h =
+  pub steps_write : (s : StepList) → ((t : Tree) → (IsTerm (arities power) (length arguments) t × (term_value power arguments t ≡ value)) ↔ (IsTerm (arities_of a) c.arity t × Meets a t c)) → AreStepsTo power arguments value s → WriteMeeting a c s
+  steps_write s written h =
       let i = length s.items - 1 in
       let m = mapped_from (term_value power arguments) (unfolded (arities power) s.items) i value h.value in
       let t = m.0 in
       let last : slice_get (unfolded s.arities s.items) i ≡ Some t = ap (λ (ks : List ℕ). slice_get (unfolded ks s.items) i) h.arities_are ∙ m.1 in
       let low : i < length s.items = (let within = slice_get_within (step_values power arguments s.items) i value h.value in let long = length_values power arguments s.items in omega (arith, within, long)) in
-      let is_term : IsTerm s.arities s.gens t = subst (IsTerm s.arities s.gens) (get_or-slice_get (unfolded s.arities s.items) i t (Generator 0) last) (step_is_term s.arities s.gens s.items i earlier low) in
+      let is_term : IsTerm s.arities s.gens t = subst (IsTerm s.arities s.gens) (get_or-slice_get (unfolded s.arities s.items) i t (Generator 0) last) (step_is_term s.arities s.gens s.items i h.steps low) in
       let w = (written t).0 (subst (λ (X : Type 0). X) (λ k. IsTerm (h.arities_are k) (h.generators k) t) is_term, m.2) in
       record { term = t; last = last; is_term = w.0; meets = w.1 }
 

@@ -34,11 +34,7 @@ pub fn decide<R: Threads + Sync, G: Gate>(
     let arguments = condition.argument_vectors(alloc, a)?;
     let values = condition.value_row(alloc, a)?;
     match member(rt, alloc, &frame, &arguments, values.as_slice(), run)? {
-        Answer::Yes(steps) => {
-            // What this call ensures says that the steps write terms.
-            let _list = steps.list();
-            Ok(Answer::Yes(steps))
-        }
+        Answer::Yes(steps) => Ok(Answer::Yes(steps)),
         Answer::No(list) => Ok(Answer::No(list)),
         Answer::Exceeds(list) => Ok(Answer::Exceeds(list)),
     }

@@ -10,9 +10,9 @@ use Rattle.ua_table.proofs.GeneratedLaws.{generator_in, result_in, Sg-least}
 use Rattle.ua_table.proofs.ListingLaws.{length-le_from_members}
 use Rattle.ua_table.proofs.Lists.{any_default, Contains-slice_get, Contains-map, Contains-map_from, all_at, all_from_contains, all_weaker, all_map}
 use Rattle.ua_table.proofs.TermLaws.{value_is_eval}
-use Rattle.ua_term.specs.Steps.{StepList, AreSteps, step_values}
-use Rattle.ua_term.proofs.StepLaws.{members}
-use Rattle.ua_close.specs.Memberships.{AreStepsTo}
+use Rattle.ua_term.specs.Steps.{StepList}
+use Rattle.ua_close.specs.declared.memberships.Answer.TheVariants.{Yes}
+use Rattle.ua_close.specs.Memberships.{Tells}
 use Rattle.ua_sub.specs.Members.{singles}
 use Rattle.ua_sub.specs.Homs.{both, two, with_images, IsGraph, IsMap, IsClash}
 use Rattle.ua_sub.specs.Extensions.{elements_in, images_in, IsExtension}
@@ -25,11 +25,12 @@ no_more p gens b pairs map_is more =
     let n = length-le_from_members more.members (map two pairs) more.increasing (λ v c. (map_is.exact v).1 (all_at (Sg p gens) more.members v more.generated c)) in
     omega (arith, n, more.count, map_is.within, length-map pairs two)
 
-step_in : (p : Product) (gens : List Vector) (v : Vector) (s : StepList) → AreSteps s.arities s.gens s.items → AreStepsTo p gens v s → Sg p gens v
-step_in p gens v s are to = all_at (Sg p gens) (step_values p gens s.items) v (members p gens s to.arities_are (sym to.generators) are) (Contains-slice_get (step_values p gens s.items) (length s.items - 1) v to.value)
+-- what steps have as their value is generated
+abbrev pub StepLaw : Type 0
+StepLaw = (p : Product) (gens : List Vector) (v : Vector) (b : ℕ) (s : StepList) → Tells p gens v b (Yes s) → Sg p gens v
 
-pub no_graph : (p : Product) (gens : List Vector) (x y z : ℕ) (first second : StepList) → AreSteps first.arities first.gens first.items → AreSteps second.arities second.gens second.items → IsClash p gens x y z first second → ¬ IsGraph p gens
-no_graph p gens x y z first second are are_too clash graph = clash.apart (graph x y z (step_in p gens (two (x, y)) first are clash.first_steps) (step_in p gens (two (x, z)) second are_too clash.second_steps))
+pub no_graph : StepLaw → (p : Product) (gens : List Vector) (x y z : ℕ) (first second : StepList) → IsClash p gens x y z first second → ¬ IsGraph p gens
+no_graph law p gens x y z first second clash graph = clash.apart (graph x y z (law p gens (two (x, y)) 0 first clash.first_steps) (law p gens (two (x, z)) 0 second clash.second_steps))
 
 -- ---- pairs
 

@@ -1,11 +1,11 @@
 -- Whether images of generators go on to a homomorphism: the pairs that they generate.
 use Rattle.std.specs.Prelude.{◌≡◌, ◌≢◌, ℕ, ◌+◌, ◌<◌, ◌≤◌, IsTrue, List, [], ◌∷◌, length, map, zip, Contains, ◌↔◌, slice_get, slice_index_or, Some}
 use Rattle.ua_table.specs.Algebras.{FiniteAlgebra, Product, Vector, IsIncreasing, arities}
-use Rattle.ua_table.specs.Generated.{Sg, HasMoreThan}
-use Rattle.ua_table.specs.Listings.{Row, vectors_of, IsListing}
+use Rattle.ua_table.specs.Generated.{Sg}
+use Rattle.ua_table.specs.Listings.{Row, vectors_of, IsListing, IsExceedingListing}
 use Rattle.ua_table.specs.Orders.{IsSerialListing}
 use Rattle.ua_term.specs.Steps.{StepList}
-use Rattle.ua_work.specs.Goals.{clashes}
+use Rattle.ua_work.specs.Goals.{clashes, has_clash}
 use Rattle.ua_close.specs.Memberships.{AreStepsTo}
 use Rattle.ua_close.specs.Needed.{rank_at, AreStepsFor}
 use Rattle.ua_sub.specs.declared.homs.Hom.{Hom}
@@ -40,11 +40,16 @@ pub record IsClash (p : Product) (gens : List Vector) (x y z : ℕ) (first secon
   pub first_steps : AreStepsTo p gens (two (x, y)) first
   pub second_steps : AreStepsTo p gens (two (x, z)) second
 
--- a map, a clash, or that more pairs are generated than the budget
+-- one pair more than the budget, of which no two clash
+pub record IsExceedingGraph (p : Product) (gens : List Vector) (b : ℕ) (rows : List Row) : Type 0 where
+  pub listing : IsExceedingListing p gens b rows
+  pub graph : ¬ IsTrue (has_clash (vectors_of rows))
+
+-- a map, a clash, or pairs beyond the budget without one
 abbrev pub Maps : Product → List Vector → ℕ → Hom → Type 0
 Maps p gens b (Map pairs) = IsMap p gens b pairs
 Maps p gens b (Clash x y z first second) = IsClash p gens x y z first second
-Maps p gens b Exceeds = HasMoreThan p gens b
+Maps p gens b Exceeds = (rows : List Row) × IsExceedingGraph p gens b rows
 
 -- the vector of the row at a position
 abbrev pub vector_at : List Row → ℕ → Vector
@@ -84,7 +89,7 @@ pub record IsSerialClash (p : Product) (gens : List Vector) (b : ℕ) (x y z : �
 abbrev pub IsSerialHom : Product → List Vector → ℕ → Hom → Type 0
 IsSerialHom p gens b (Map pairs) = Unit {0}
 IsSerialHom p gens b (Clash x y z first second) = IsSerialClash p gens b x y z first second
-IsSerialHom p gens b Exceeds = Unit {0}
+IsSerialHom p gens b Exceeds = (rows : List Row) × IsExceedingGraph p gens b rows × IsSerialListing p gens rows
 
 -- a clash that is the first of these rows
 abbrev pub IsClashOf : Product → List Vector → List Row → Hom → Type 0

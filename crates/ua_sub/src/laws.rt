@@ -4,10 +4,13 @@ ghost use Rattle.std.specs.Prelude.{◌≡◌, ℕ, ◌<◌, List, length, slice
 ghost use Rattle.std.specs.List.{AllByRecursion};
 ghost use Rattle.ua_table.specs.Algebras.{FiniteAlgebra, Product, Vector, IsAlgebra, arities_of, value_at};
 ghost use Rattle.ua_table.specs.Generated.{HasMoreThan};
-ghost use Rattle.ua_term.specs.Steps.{StepList, AreSteps};
+ghost use Rattle.ua_table.specs.Listings.{Row};
+ghost use Rattle.ua_term.specs.Steps.{StepList};
 ghost use Rattle.ua_sub.specs.Members.{AreMembers};
-ghost use Rattle.ua_sub.specs.Homs.{both, with_images, IsGraph, IsMap, IsClash};
+ghost use Rattle.ua_sub.specs.Homs.{both, with_images, IsGraph, IsMap, IsClash, IsExceedingGraph};
 ghost use Rattle.ua_sub.specs.Extensions.{IsExtension};
+
+use ua_close::laws::memberships;
 
 /// What elements generate holds them, lies in the algebra, and is closed under its operations. So it is the
 /// universe of a subalgebra, where there is any.
@@ -17,12 +20,16 @@ pub fn members()
     ensures closed { (a : FiniteAlgebra) (gens members : List ℕ) (f : ℕ) (args : List ℕ) → AreMembers a gens members → f < length (arities_of a) → length args ≡ slice_index (arities_of a) f → AllByRecursion (Contains members) args → Contains members (value_at a f args) }
 {}
 
-/// A map is told only where there are no more pairs than the budget, and a clash only where these are the graph of
-/// no function. So within the budget there is a map exactly where they are one, and else a clash.
+/// A map is told only where there are no more pairs than the budget, a clash only where these are the graph of no
+/// function, and neither only where there are more. So within the budget there is a map exactly where they are one,
+/// and else a clash.
 pub fn answers()
     ensures map { (p : Product) (gens : List Vector) (b : ℕ) (pairs : List (ℕ × ℕ)) → IsMap p gens b pairs → ¬ HasMoreThan p gens b }
-    ensures clash { (p : Product) (gens : List Vector) (x y z : ℕ) (first second : StepList) → AreSteps first.arities first.gens first.items → AreSteps second.arities second.gens second.items → IsClash p gens x y z first second → ¬ IsGraph p gens }
-{}
+    ensures exceeds { (p : Product) (gens : List Vector) (b : ℕ) (rows : List Row) → IsExceedingGraph p gens b rows → HasMoreThan p gens b }
+    ensures clash { (p : Product) (gens : List Vector) (x y z : ℕ) (first second : StepList) → IsClash p gens x y z first second → ¬ IsGraph p gens }
+{
+    memberships();
+}
 
 /// A map that is told is a homomorphism of the subalgebra that the generators generate, and takes each of them to
 /// its image. Where there is any such, the pairs are the graph of a function (S. Burris and H. P. Sankappanavar, A

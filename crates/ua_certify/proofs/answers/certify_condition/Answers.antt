@@ -13,7 +13,7 @@ returns-in_ok-steps-in-Yes-clause-flawless c = λ b w some places h.
     let may = subst (λ z. MayDecide a (condition_of name k) b w (Ok z)) is h in
     let named : NamedConditions = record { maltsev_is = c.named.ensures.maltsev; majority_is = c.named.ensures.majority; minority_is = c.named.ensures.minority; pixley_is = c.named.ensures.pixley; near_unanimity_is = c.named.ensures.near_unanimity } in
     let s = c.in_ok-steps-in-Yes.ensures ∙ ap (written_steps a) c.list.ensures.steps in
-    ap (condition_flaw a name k) s ∙ term_flawless a name k b w c.size-size.ensures.algebra some places named c.patterns.ensures.wide steps c.flawless.ensures.condition c.list.ensures.earlier may
+    ap (condition_flaw a name k) s ∙ term_flawless a name k b w c.size-size.ensures.algebra some places named c.patterns.ensures.wide steps c.flawless.ensures.condition may
 
 pub returns-in_ok-rows-in-No-clause-flawless : goal.returns-in_ok-rows-in-No-clause-flawless
 returns-in_ok-rows-in-No-clause-flawless c = λ b w some places h.

@@ -14,7 +14,7 @@ returns-in_ok-numbers-in-Yes-clause-flawless c = λ b wide admitted one h.
     let to = subst (Tells (power a w) gens target b) is h in
     let g = c.in_ok-vectors-in-Yes.ensures in let t = c.in_ok-numbers-in-Yes.ensures in
     let s = c.in_ok-written_steps-in-Yes.ensures ∙ ap (written_steps a) c.list.ensures.steps in
-    (λ i. member_flaw a (g i) (s i) (t i) w) ∙ steps_flawless a w gens target steps c.flawless.ensures.member c.size-size.ensures.algebra wide admitted one c.list.ensures.earlier to
+    (λ i. member_flaw a (g i) (s i) (t i) w) ∙ steps_flawless a w gens target steps c.flawless.ensures.member c.size-size.ensures.algebra wide admitted one to
 
 pub returns-in_ok-numbers-in-No-clause-flawless : goal.returns-in_ok-numbers-in-No-clause-flawless
 returns-in_ok-numbers-in-No-clause-flawless c = λ b wide admitted one h.

@@ -38,7 +38,7 @@ returns-in-Yes g c =
     let value : c.as_slice.result.now ≡ wanted_values ps = c.as_slice.ensures.value ∙ c.in_ok-values.ensures a.size c.requires in
     let may : MayMember (point_power a ps) (point_generators a k kind ps) (wanted_values ps) c.args.run.now.budget c.args.run.now.workers (Ok (Yes c.in-Yes.steps)) =
     subst (λ (X : Type 0). X) (λ i. MayMember (c.in_ok-frame.ensures.frame i) (c.in_ok-gens.ensures i) (value i) c.args.run.now.budget c.args.run.now.workers (Ok (c.in-Yes.is i))) c.in_ok-steps.ensures.permitted in
-    record { permitted = (may, steps_write a k kind ps c.in-Yes.steps some points c.list-list.ensures.earlier may.1) }
+    record { permitted = (may, steps_write a k kind ps c.in-Yes.steps some points may.1) }
 
 pub returns-in-No : goal.returns-in-No
 returns-in-No g c =

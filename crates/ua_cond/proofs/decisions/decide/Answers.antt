@@ -14,7 +14,7 @@ returns-in-Yes g c =
     let value : c.as_slice.result.now ≡ value_vector a k = c.as_slice.ensures.value ∙ c.in_ok-values.ensures in
     let may : MayMember (condition_power a k) (argument_vectors a k) (value_vector a k) c.args.run.now.budget c.args.run.now.workers (Ok (Yes c.in-Yes.steps)) =
     subst (λ (X : Type 0). X) (λ i. MayMember (c.in_ok-frame.ensures.frame i) (c.in_ok-arguments.ensures.vectors i) (value i) c.args.run.now.budget c.args.run.now.workers (Ok (c.in-Yes.is i))) c.in_ok-steps.ensures.permitted in
-    record { permitted = (may, steps_write a k c.in-Yes.steps (λ t. c.conditions.ensures.written a k t some is) c.list-list.ensures.earlier may.1) }
+    record { permitted = (may, steps_write a k c.in-Yes.steps (λ t. c.conditions.ensures.written a k t some is) may.1) }
 
 pub returns-in-No : goal.returns-in-No
 returns-in-No g c =

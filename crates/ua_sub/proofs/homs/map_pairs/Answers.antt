@@ -1,9 +1,8 @@
 use Rattle.std.proofs.Common.{map, ap, ◌∙◌, subst, Ok}
-use Rattle.ua_table.proofs.ListingLaws.{exceeding_has_more}
 use Rattle.ua_work.specs.declared.goals.Goal.TheVariants as goals
 use Rattle.ua_close.specs.declared.reaches.Reach.{Reach}
 use Rattle.ua_close.specs.Permitted.{MayReach}
-use Rattle.ua_sub.specs.Homs.{two}
+use Rattle.ua_sub.specs.Homs.{two, IsExceedingGraph}
 use Rattle.ua_sub.proofs.HomLaws.{widths, map_is}
 use Rattle.ua_sub.proofs.homs.map_pairs.Goals as goal
 
@@ -35,4 +34,6 @@ returns-in-Ok-Exceeds g c =
     let gens = c.args.pairs.now.items in
     let b = c.args.run.now.budget in
     let may = subst (λ (answer : Reach). MayReach p gens goals.Clash b c.args.run.now.workers (Ok answer)) c.in-Ok-Exceeds.field-0-is c.in-Ok-Exceeds.ensures.permitted in
-    record { permitted = (may.0, exceeding_has_more p gens b c.in-Ok-Exceeds.field-0-0 may.1.0, λ one. tt) }
+    let rows = c.in-Ok-Exceeds.field-0-0 in
+    let beyond : IsExceedingGraph p gens b rows = record { listing = may.1.0; graph = may.1.1 } in
+    record { permitted = (may.0, (rows, beyond), λ one. (rows, beyond, (may.2 one).0)) }
