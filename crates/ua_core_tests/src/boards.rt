@@ -31,58 +31,15 @@ fn start(alloc: Global) -> Result<(Board, Seat), Fail>
     Ok(made)
 }
 
-/// What two seats are answered that put, look and recall in turn.
-fn puts(board: &Board, first: &mut Seat) -> Option<([Put; 3], [Origin; 2])>
-    requires plan { board.now.plan ≡ record { shape = 2 ∷ []; gens = 2; budget = 10 } }
-    requires seat { first.old ≡ first_seat board.now }
-{
-    let mut second = board.split(first);
-    let one = board.put(first, FIRST);
-    let seen = board.look(&mut second)?;
-    let recalled = board.recall(&mut second, 0);
-    let two = board.put(&mut second, SQUARE);
-    let three = board.put(first, SECOND);
-    Some(([one, two, three], [seen, recalled]))
-}
-
-/// The answers of three puts on a board of their own, and the two records.
-fn told_of_puts(alloc: Global) -> Result<([Put; 3], [Origin; 2]), Fail> {
-    let (board, mut first) = start(alloc)?;
-    Ok(puts(&board, &mut first).ok_or("no record was seen")?)
-}
-
-#[test]
-fn puts_of_two_seats(rt: HostRuntime) -> Result<(), Fail> {
-    let (puts, records) = told_of_puts(rt.alloc())?;
-    let wanted = [Put::Here(0), Put::Here(1), Put::Taken(SQUARE)];
-    assert!(rt; puts == wanted && records == [FIRST, FIRST]);
-    Ok(())
-}
-
-/// What a seat is answered that puts a record, claims until nothing is left, and then halts the board.
-fn claims(board: &Board, seat: &mut Seat) -> (Put, [Claim; 3], Claim)
-    requires plan { board.now.plan ≡ record { shape = 2 ∷ []; gens = 2; budget = 10 } }
-    requires seat { seat.old ≡ first_seat board.now }
-{
-    let put = board.put(seat, FIRST);
-    let claims = [board.claim(seat), board.claim(seat), board.claim(seat)];
-    board.halt(seat);
-    (put, claims, board.claim(seat))
-}
-
-/// What it is answered on a board of its own.
-fn told_of_claims(alloc: Global) -> Result<(Put, [Claim; 3], Claim), Fail> {
-    let (board, mut seat) = start(alloc)?;
-    Ok(claims(&board, &mut seat))
-}
-
-/// One record makes two slices.
-#[test]
-fn claims_until_a_halt(rt: HostRuntime) -> Result<(), Fail> {
-    let (put, claims, last) = told_of_claims(rt.alloc())?;
-    assert_eq!(rt; claims, [Claim::Unit(0), Claim::Unit(1), Claim::Idle(2)]);
-    assert_eq!(rt; (put, last), (Put::Here(0), Claim::Halted));
-    Ok(())
+/// What two seats are answered in turn, and what their log holds.
+#[derive(Debug, PartialEq)]
+struct Told {
+    recalled: Origin,
+    puts: [Put; 3],
+    looked: Option<Origin>,
+    claims: [Claim; 6],
+    records: [Origin; 2],
+    numbers: (u32, u64, bool),
 }
 
 /// How many records and claims a log has, and whether it was halted.
@@ -90,23 +47,51 @@ fn numbers(log: &Log) -> (u32, u64, bool) {
     (log.len(), log.claims(), log.halted())
 }
 
-/// What a second seat is answered that puts a record and halts the board, the numbers of the log, and its record.
-fn told_of_log(alloc: Global) -> Result<(Put, (u32, u64, bool), Origin), Fail> {
+/// What is told on a board of their own to two seats, the second of which is split off after the first put.
+fn told_of_turns(alloc: Global) -> Result<Told, Fail> {
     let (board, mut first) = start(alloc)?;
+    let one = board.put(&mut first, FIRST);
     let mut second = board.split(&mut first);
-    let put = board.put(&mut second, FIRST);
+    let recalled = board.recall(&mut second, 0);
+    let two = board.put(&mut first, SECOND);
+    let puts = [one, two, board.put(&mut second, SQUARE)];
+    let looked = board.look(&mut second);
+    let one = board.claim(&mut second);
+    let [two, three] = [board.claim(&mut first), board.claim(&mut first)];
+    let [four, five] = [board.claim(&mut first), board.claim(&mut first)];
     board.halt(&mut second);
+    let claims = [one, two, three, four, five, board.claim(&mut first)];
     board.join(&mut first, second);
     let log = board.close(first);
-    Ok((put, numbers(&log), log.origin(0)))
+    Ok(Told {
+        recalled,
+        puts,
+        looked,
+        claims,
+        records: [log.origin(0), log.origin(1)],
+        numbers: numbers(&log),
+    })
 }
 
 #[test]
-fn a_log_of_two_seats(rt: HostRuntime) -> Result<(), Fail> {
-    let (put, numbers, record) = told_of_log(rt.alloc())?;
-    assert_eq!(rt; put, Put::Here(0));
-    assert_eq!(rt; numbers, (1, 0, true));
-    assert_eq!(rt; record, FIRST);
+fn two_seats_in_turn(rt: HostRuntime) -> Result<(), Fail> {
+    let wanted = Told {
+        recalled: FIRST,
+        puts: [Put::Here(0), Put::Here(1), Put::Taken(SECOND)],
+        looked: None,
+        claims: [
+            Claim::Unit(0),
+            Claim::Unit(1),
+            Claim::Unit(2),
+            Claim::Unit(3),
+            Claim::Idle(4),
+            Claim::Halted,
+        ],
+        records: [FIRST, SECOND],
+        numbers: (2, 4, true),
+    };
+    let told = told_of_turns(rt.alloc())?;
+    assert!(rt; told == wanted);
     Ok(())
 }
 
