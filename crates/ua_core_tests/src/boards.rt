@@ -32,7 +32,7 @@ fn start(alloc: Global) -> Result<(Board, Seat), Fail>
 }
 
 /// What two seats are answered in turn, and what their log holds.
-#[derive(Debug, PartialEq)]
+#[derive(Drop, PartialEq)]
 struct Told {
     recalled: Origin,
     puts: [Put; 3],
