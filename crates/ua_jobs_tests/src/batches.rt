@@ -122,10 +122,10 @@ impl Meeting {
         }
     }
 
-    /// Whether job 1 was begun within a million looks, behind each of which another thread
+    /// Whether job 1 was begun within ten million looks, behind each of which another thread
     /// may go on.
     fn waits(&self) -> bool {
-        for _ in 0..1_000_000 {
+        for _ in 0..10_000_000 {
             if self.begun.load(Ordering::SeqCst) {
                 return true;
             }

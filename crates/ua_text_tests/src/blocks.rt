@@ -6,7 +6,7 @@ use crate::texts::{put_bytes, put_value_of, tokens_of};
 use std::alloc::Global;
 use std::test::Fail;
 use ua_table::Algebra;
-use ua_text::{Block, Token, print_algebra, read_block};
+use ua_text::{Token, print_algebra, print_block, read_block};
 
 fn put_printed(alloc: Global, algebra: &Algebra, answer: &mut String) -> Result<(), Fail> {
     let bytes = print_algebra(alloc, algebra)?;
@@ -19,17 +19,11 @@ pub fn put_algebra(alloc: Global, text: &str, answer: &mut String) -> Result<(),
     put_printed(alloc, &algebra, answer)
 }
 
-/// How many names the block has, and its algebra in canonical print.
-fn put_named(alloc: Global, block: &Block, answer: &mut String) -> Result<(), Fail> {
-    let names = block.names.as_slice().len();
-    write!(answer, "{names} ")?;
-    put_printed(alloc, &block.algebra, answer)
-}
-
-/// The same of the block of version 2 that the text begins with.
+/// The block of version 2 that the text begins with, in canonical print.
 pub fn put_block(alloc: Global, text: &str, answer: &mut String) -> Result<(), Fail> {
     let block = read_block(alloc, &mut tokens_of(text)?, 2)?;
-    put_named(alloc, &block, answer)
+    let bytes = print_block(alloc, &block)?;
+    put_bytes(answer, bytes.as_slice())
 }
 
 /// Where a token begins, its line and column, its kind and its text.
@@ -49,10 +43,10 @@ pub fn put_tokens(text: &str, answer: &mut String) -> Result<(), Fail> {
 #[test]
 fn blocks_in_canonical_print(rt: HostRuntime) -> Result<(), Fail> {
     let cases = "
-        algebra M size 2~op meet 2 = 0 0 0 1~end~ => 0 algebra M size 2~op meet 2 = 0 0 0 1~end~
-        algebra M size 2 op meet 2 = # the least~ 0 0\r~\t0 1 end close => 0 algebra M size 2~op meet 2 = 0 0 0 1~end~
-        algebra L size 3 names (bot mid top)~op f 1 = top 0 mid~op c 0 = mid~end => 3 algebra L size 3~op f 1 = 2 0 1~op c 0 = 1~end~
-        algebra L size 3~op f 1 = 2 0 1~op c 0 = 1~end~ => 0 algebra L size 3~op f 1 = 2 0 1~op c 0 = 1~end~";
+        algebra M size 2~op meet 2 = 0 0 0 1~end~ => algebra M size 2~op meet 2 = 0 0 0 1~end~
+        algebra M size 2 op meet 2 = # the least~ 0 0\r~\t0 1 end close => algebra M size 2~op meet 2 = 0 0 0 1~end~
+        algebra L size 3 names (bot mid top)~op f 1 = top 0 mid~op c 0 = mid~end => algebra L size 3 names (bot mid top)~op f 1 = 2 0 1~op c 0 = 1~end~
+        algebra L size 3~op f 1 = 2 0 1~op c 0 = 1~end~ => algebra L size 3~op f 1 = 2 0 1~op c 0 = 1~end~";
     expect(&rt, rt.alloc(), &Call::Block, "", cases)
 }
 
@@ -71,19 +65,21 @@ fn tokens_are_slices_at_their_places(rt: HostRuntime) -> Result<(), Fail> {
     expect(&rt, rt.alloc(), &Call::Tokens, "", case)
 }
 
-/// A block with a thousand names of 32 bytes, the last of them an element's number.
-fn thousand_names(alloc: Global) -> Result<String, Fail> {
+/// A block with a thousand names of 32 bytes, and this text behind them.
+fn thousand_names(alloc: Global, end: &str) -> Result<String, Fail> {
     let mut text = String::from_str(alloc, "algebra A size 1000 names (")?;
-    for element in 0..1000_u32 {
-        write!(text, " an_element_of_many_bytes_____{element:03}")?;
+    for element in 0..999_u32 {
+        write!(text, "an_element_of_many_bytes_____{element:03} ")?;
     }
-    text.push_str(") op last 0 = an_element_of_many_bytes_____999 end")?;
+    text.push_str("an_element_of_many_bytes_____999)")?;
+    text.push_str(end)?;
     Ok(text)
 }
 
 #[test]
 fn a_thousand_names_of_32_bytes(rt: HostRuntime) -> Result<(), Fail> {
-    let text = thousand_names(rt.alloc())?;
-    let wanted = "1000 algebra A size 1000\nop last 0 = 999\nend\n";
-    expect_of(&rt, rt.alloc(), &Call::Block, text.as_str(), wanted)
+    let alloc = rt.alloc();
+    let text = thousand_names(alloc, " op last 0 = an_element_of_many_bytes_____999 end")?;
+    let wanted = thousand_names(alloc, "\nop last 0 = 999\nend\n")?;
+    expect_of(&rt, alloc, &Call::Block, text.as_str(), wanted.as_str())
 }

@@ -2,7 +2,7 @@
 
 use crate::blocks::{put_algebra, put_block, put_tokens};
 use crate::faults::put_script_fault;
-use crate::printing::{put_rest, put_term};
+use crate::printing::{put_parts, put_rest, put_term};
 use crate::scripts::{put_closure, put_entries, put_migrated, put_printed};
 use crate::steps::{put_steps_fault, put_unfolded, put_values};
 use crate::terms::{put_term_fault, put_text_fault, put_variable};
@@ -27,12 +27,14 @@ pub enum Call {
     /// A term over the algebra with these operations is read from it and printed.
     Term(&'static str),
     Rest,
+    /// A term over the semilattice is read from it, and its parts are shown.
+    Parts,
     /// A term is evaluated, or asked for its variables.
     Value,
     Beyond,
-    /// Steps are read from it, or one of those that stand.
+    /// Steps are read from it, over the algebra with these operations where they are evaluated.
     StepsFault,
-    Values,
+    Values(&'static str),
     Unfolded,
     /// A script is read from it, and asked or printed.
     ScriptFault,
@@ -59,10 +61,11 @@ fn put_answer(
         Call::TermFault => put_term_fault(alloc, text, answer),
         Call::Term(operations) => put_term(alloc, operations, text, answer),
         Call::Rest => put_rest(alloc, text, answer),
+        Call::Parts => put_parts(alloc, text, answer),
         Call::Value => put_value(rt, alloc, text, answer),
         Call::Beyond => put_beyond(alloc, text, answer),
         Call::StepsFault => put_steps_fault(rt, alloc, text, answer),
-        Call::Values => put_values(rt, alloc, text, answer),
+        Call::Values(operations) => put_values(rt, alloc, operations, text, answer),
         Call::Unfolded => put_unfolded(rt, alloc, text, answer),
         Call::ScriptFault => put_script_fault(alloc, text, answer),
         Call::Closure => put_closure(alloc, text, answer),

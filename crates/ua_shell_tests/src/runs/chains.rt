@@ -1,6 +1,6 @@
 //! Least chains of terms.
 
-use super::{ANY, BOTH, GROUPS, MEET, ONE, Trial, begins, rows};
+use super::{ANY, BOTH, GROUPS, MEET, ONE, Trial, rows, rows_of_version_1};
 use std::test::Fail;
 
 const CHAINS: Trial = Trial {
@@ -37,7 +37,7 @@ fn chains_of_length_two(rt: HostRuntime) -> Result<(), Fail> {
             term 0 steps 1
             0 gen 0
             term 1 steps ..";
-    begins(&rt, rt.alloc(), CHAINS, cases)
+    rows_of_version_1(&rt, rt.alloc(), CHAINS, cases)
 }
 
 #[test]
@@ -135,6 +135,6 @@ fn chains_beyond_the_budget(rt: HostRuntime) -> Result<(), Fail> {
             [..
         hm M => exceeds 2
             [..";
-    begins(&rt, alloc, trial, cases)?;
+    rows_of_version_1(&rt, alloc, trial, cases)?;
     rows(&rt, alloc, trial, "day X => error unknown 4:5")
 }

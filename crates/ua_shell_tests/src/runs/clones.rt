@@ -1,6 +1,6 @@
 //! Whether operations are those of terms, or of polynomials.
 
-use super::{ANY, BOTH, MEET, ONE, SECOND, Trial, begins, rows};
+use super::{ANY, BOTH, MEET, ONE, SECOND, Trial, rows, rows_of_version_1};
 use std::test::Fail;
 
 /// The meet semilattice and the group of two elements.
@@ -51,7 +51,7 @@ fn clones_by_many(rt: HostRuntime) -> Result<(), Fail> {
         clone Z2 3 term total [0 1 1 0 1 0 0 1] => yes ..
         clone Z2 2 polynomial total [0 0 0 1] => no 8
             ..";
-    begins(&rt, alloc, CLONES, cases)?;
+    rows_of_version_1(&rt, alloc, CLONES, cases)?;
     let few = Trial {
         words: "--budget 3",
         ..CLONES
@@ -59,7 +59,7 @@ fn clones_by_many(rt: HostRuntime) -> Result<(), Fail> {
     let case = "
         clone Z2 2 polynomial total [0 0 0 1] => exceeds 3
             ..";
-    begins(&rt, alloc, few, case)
+    rows_of_version_1(&rt, alloc, few, case)
 }
 
 #[test]

@@ -1,6 +1,6 @@
 //! Whether some term meets a condition.
 
-use super::{ANY, BOTH, GROUPS, MEET, ONE, Trial, begins, rows};
+use super::{ANY, BOTH, GROUPS, MEET, ONE, Trial, rows, rows_of_version_1};
 use std::test::Fail;
 
 const CONDITIONS: Trial = Trial {
@@ -24,7 +24,7 @@ fn terms_that_meet_conditions(rt: HostRuntime) -> Result<(), Fail> {
             ..
         cond L pixley => no 18
             ..";
-    begins(&rt, rt.alloc(), CONDITIONS, cases)
+    rows_of_version_1(&rt, rt.alloc(), CONDITIONS, cases)
 }
 
 #[test]
@@ -99,7 +99,7 @@ fn written_conditions(rt: HostRuntime) -> Result<(), Fail> {
         condition Z2 3 (x y y) = x (x x y) = y => yes ..
         condition Z2 3 (w w z) = w (w z w) = w (z w w) = w => no 8
             ..";
-    begins(&rt, alloc, CONDITIONS, cases)
+    rows_of_version_1(&rt, alloc, CONDITIONS, cases)
 }
 
 /// Two members are found, and neither is what the condition wants.
@@ -112,5 +112,5 @@ fn conditions_beyond_the_budget(rt: HostRuntime) -> Result<(), Fail> {
     let case = "
         cond L maltsev => exceeds 1
             [..";
-    begins(&rt, rt.alloc(), trial, case)
+    rows_of_version_1(&rt, rt.alloc(), trial, case)
 }

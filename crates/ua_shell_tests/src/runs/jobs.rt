@@ -16,6 +16,9 @@ const WORDS: &[&str] = &[
     "--workers 1 --jobs 16",
 ];
 
+/// The commands of a session.
+const SESSION: &str = "con Q types Q free Q 2 count cond Q maltsev jonsson Q";
+
 /// A gate at which whoever begins the first slice of a closure waits until a second closure begins its own.
 #[derive(Drop)]
 struct Meeting {
@@ -31,10 +34,10 @@ impl Meeting {
         }
     }
 
-    /// Whether a second closure was begun within a million looks, behind each of which another thread
+    /// Whether a second closure was begun within ten million looks, behind each of which another thread
     /// may go on.
     fn waits(&self) -> bool {
-        for _ in 0..1_000_000 {
+        for _ in 0..10_000_000 {
             if self.begun.load(Ordering::SeqCst) >= 2 {
                 return true;
             }
@@ -115,12 +118,39 @@ fn told_by_one<R: Threads + Wait + Abort + Sync>(
     Ok(one)
 }
 
+/// A session with default words: the first three replies, and how the others begin.
+#[test]
+fn a_session(rt: HostRuntime) -> Result<(), Fail> {
+    let alloc = rt.alloc();
+    let script = format!(in alloc; "{ALGEBRAS}{SESSION}")?;
+    let found = told(&rt, alloc, "", script.as_bytes(), &[], &[])?;
+    let replies = "Done: congruences 4
+0 |0|1|2|3|
+1 |0 1|2 3|
+2 |0 2|1 3|
+3 |0 1 2 3|
+covers 4
+0 1
+0 2
+1 3
+2 3
+join irreducibles 1 2
+types 4
+0 1 type 3 pair 0 1
+0 2 type 3 pair 0 2
+1 3 type 3 pair 0 2
+2 3 type 3 pair 0 1
+closed 16
+yes ";
+    let chain = found.as_str().split_once("\nchain 2\n");
+    assert!(rt; found.starts_with(replies) && chain.is_some());
+    Ok(())
+}
+
 #[test]
 fn a_session_by_four_jobs(rt: HostRuntime) -> Result<(), Fail> {
     let alloc = rt.alloc();
-    let script = format!(in alloc;
-        "{ALGEBRAS}con Q types Q free Q 2 count cond Q maltsev jonsson Q"
-    )?;
+    let script = format!(in alloc; "{ALGEBRAS}{SESSION}")?;
     let one = told_by_one(&rt, alloc, script.as_str())?;
     same_bytes(&rt, alloc, script.as_str(), one.as_str(), "4")
 }

@@ -1,6 +1,6 @@
 //! The types of covers.
 
-use super::{ALGEBRAS, ANY, BOTH, MEET, Trial, rows};
+use super::{ALGEBRAS, ANY, BOTH, Trial, rows};
 use std::test::Fail;
 
 /// Two elements without an operation; the group, the Boolean algebra, the lattice and the semilattice of two.
@@ -57,7 +57,7 @@ fn each_cover(rt: HostRuntime) -> Result<(), Fail> {
 fn types_beyond_the_budget(rt: HostRuntime) -> Result<(), Fail> {
     let trial = Trial {
         fronts: BOTH,
-        blocks: MEET,
+        blocks: TWO,
         words: "--budget 2",
         workers: ANY,
     };
@@ -68,7 +68,12 @@ fn types_beyond_the_budget(rt: HostRuntime) -> Result<(), Fail> {
     let alloc = rt.alloc();
     let cases = "
         types M => types 1
+            0 1 exceeds
+        types L => types 1
             0 1 exceeds";
     rows(&rt, alloc, trial, cases)?;
-    rows(&rt, alloc, less, "types M => exceeds 1")
+    let cases = "
+        types M => exceeds 1
+        types L => exceeds 1";
+    rows(&rt, alloc, less, cases)
 }
