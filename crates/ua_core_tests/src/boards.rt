@@ -3,13 +3,14 @@
 ghost use Rattle.std.specs.Prelude.{◌≡◌, ◌<◌, ◌≤◌, [], ◌∷◌, length, IfOk};
 ghost use Rattle.ua_log.specs.Rule.{MayStand};
 ghost use Rattle.ua_log.specs.Seats.{first_seat};
-ghost use Rattle.ua_log.specs.Told.{PutTells};
+ghost use Rattle.ua_log.specs.Told.{PutTells, ClaimTells};
 
 use std::alloc::Global;
+use std::process::Abort;
 use std::test::Fail;
 use std::thread;
 use std::thread::Threads;
-use ua_log::{Board, Claim, Log, Put, Seat};
+use ua_log::{Board, Claim, Put, Seat};
 use ua_table::{Origin, Shape};
 
 const FIRST: Origin = Origin::Gen { index: 0 };
@@ -31,67 +32,57 @@ fn start(alloc: Global) -> Result<(Board, Seat), Fail>
     Ok(made)
 }
 
-/// What two seats are answered in turn, and what their log holds.
-#[derive(Drop, PartialEq)]
-struct Told {
-    recalled: Origin,
-    puts: [Put; 3],
-    looked: Option<Origin>,
-    claims: [Claim; 6],
-    records: [Origin; 2],
-    numbers: (u32, u64, bool),
+/// Puts a record, and compares the answer.
+fn puts(rt: &impl Abort, board: &Board, seat: &mut Seat, origin: Origin, wanted: Put)
+    requires home { seat.old.home ≡ board.now }
+    requires room { length seat.old.own.seen < board.now.plan.budget }
+    requires stands { MayStand board.now.plan (length seat.old.own.seen) origin }
+    ensures { PutTells board.now.plan origin seat.old wanted seat.new }
+{
+    let found = board.put(seat, origin);
+    assert!(rt; found == wanted);
 }
 
-/// How many records and claims a log has, and whether it was halted.
-fn numbers(log: &Log) -> (u32, u64, bool) {
-    (log.len(), log.claims(), log.halted())
+/// Claims a slice, and compares the answer.
+fn claims(rt: &impl Abort, board: &Board, seat: &mut Seat, wanted: Claim)
+    requires { seat.old.home ≡ board.now }
+    ensures { ClaimTells board.now.plan seat.old wanted seat.new }
+{
+    let found = board.claim(seat);
+    assert!(rt; found == wanted);
 }
 
-/// What is told on a board of their own to two seats, the second of which is split off after the first put.
-fn told_of_turns(alloc: Global) -> Result<Told, Fail> {
+/// What the second of two seats recalls and sees, the numbers of the log and its records, where the two put and
+/// claim in turn.
+fn told_of_turns(
+    rt: &impl Abort,
+    alloc: Global,
+) -> Result<(Origin, Option<Origin>, (u32, u64, bool), [Origin; 2]), Fail> {
     let (board, mut first) = start(alloc)?;
-    let one = board.put(&mut first, FIRST);
+    puts(rt, &board, &mut first, FIRST, Put::Here(0));
     let mut second = board.split(&mut first);
     let recalled = board.recall(&mut second, 0);
-    let two = board.put(&mut first, SECOND);
-    let puts = [one, two, board.put(&mut second, SQUARE)];
+    puts(rt, &board, &mut first, SECOND, Put::Here(1));
+    puts(rt, &board, &mut second, SQUARE, Put::Taken(SECOND));
     let looked = board.look(&mut second);
-    let one = board.claim(&mut second);
-    let [two, three] = [board.claim(&mut first), board.claim(&mut first)];
-    let [four, five] = [board.claim(&mut first), board.claim(&mut first)];
+    claims(rt, &board, &mut second, Claim::Unit(0));
+    claims(rt, &board, &mut first, Claim::Unit(1));
+    claims(rt, &board, &mut first, Claim::Unit(2));
+    claims(rt, &board, &mut first, Claim::Unit(3));
+    claims(rt, &board, &mut first, Claim::Idle(4));
     board.halt(&mut second);
-    let claims = [one, two, three, four, five, board.claim(&mut first)];
+    claims(rt, &board, &mut first, Claim::Halted);
     board.join(&mut first, second);
     let log = board.close(first);
-    Ok(Told {
-        recalled,
-        puts,
-        looked,
-        claims,
-        records: [log.origin(0), log.origin(1)],
-        numbers: numbers(&log),
-    })
+    let numbers = (log.len(), log.claims(), log.halted());
+    Ok((recalled, looked, numbers, [log.origin(0), log.origin(1)]))
 }
 
 #[test]
 fn two_seats_in_turn(rt: HostRuntime) -> Result<(), Fail> {
-    let wanted = Told {
-        recalled: FIRST,
-        puts: [Put::Here(0), Put::Here(1), Put::Taken(SECOND)],
-        looked: None,
-        claims: [
-            Claim::Unit(0),
-            Claim::Unit(1),
-            Claim::Unit(2),
-            Claim::Unit(3),
-            Claim::Idle(4),
-            Claim::Halted,
-        ],
-        records: [FIRST, SECOND],
-        numbers: (2, 4, true),
-    };
-    let told = told_of_turns(rt.alloc())?;
-    assert!(rt; told == wanted);
+    let (recalled, looked, numbers, records) = told_of_turns(&rt, rt.alloc())?;
+    assert!(rt; recalled == FIRST && looked.is_none());
+    assert!(rt; numbers == (2, 4, true) && records == [FIRST, SECOND]);
     Ok(())
 }
 
