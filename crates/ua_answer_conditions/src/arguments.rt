@@ -15,6 +15,7 @@ pub struct ArgumentSet {
 impl ArgumentSet {
     ghost use Rattle.ua_answer_conditions.specs.ArgumentSets.{HoldsThese};
 
+    /// The set of no arguments. It takes no memory.
     pub fn new(alloc: Global) -> ArgumentSet
         ensures { HoldsThese result [] }
     {

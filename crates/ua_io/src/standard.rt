@@ -12,6 +12,7 @@ pub struct StdSource<R: Read + Drop> {
 }
 
 impl<R: Read + Drop> StdSource<R> {
+    /// The source of what this reader reads, with no fault so far.
     pub fn new(reader: R) -> StdSource<R> {
         StdSource { reader, faults: 0 }
     }
@@ -41,6 +42,7 @@ pub struct StdSink<W: Write + Drop> {
 }
 
 impl<W: Write + Drop> StdSink<W> {
+    /// The sink to this writer, with no fault so far.
     pub fn new(writer: W) -> StdSink<W> {
         StdSink { writer, faults: 0 }
     }

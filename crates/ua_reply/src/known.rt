@@ -72,6 +72,7 @@ impl<'a> Known<'a> {
         }
     }
 
+    /// The algebra of the name.
     pub fn algebra(&self) -> &Algebra
         ensures { result.now ≡ self.now.algebra }
     {
