@@ -2,7 +2,7 @@
 use Rattle.std.proofs.Common.{◌≡◌, ℕ, zero, suc, ◌+◌, ◌-◌, ◌*◌, ◌/◌, ◌<◌, ◌≤◌, List, [], ◌∷◌, ◌++◌, length, map, take, drop, get_or, set, refl, sym, ap, ◌∙◌, subst, arith, append_assoc}
 use Rattle.std.specs.Prelude.{slice_index, slice_index_or, slice_set}
 use Rattle.std.specs.List.{AllByRecursion, range_with_len}
-use Rattle.std.proofs.lemmas.List.{get_or-set_same}
+use Rattle.std.proofs.lemmas.List.{get_or-set_same, set-set}
 use Rattle.std.proofs.lemmas.List.FromFn.{map-range_with_len_more}
 use Rattle.ua_table.specs.declared.spans.Span.{Span}
 use Rattle.ua_table.specs.declared.origins.Origin.TheVariants.{Op}
@@ -150,11 +150,6 @@ all_grown r new f tuples same pre h = all_weaker (λ xs. IsSettled r (Op f xs)) 
 
 -- ---- another number at a place of an origin
 
-set_twice : (xs : List ℕ) (k a b : ℕ) → set (set xs k a) k b ≡ set xs k b
-set_twice [] k a b = refl
-set_twice (x ∷ xs) zero a b = refl
-set_twice (x ∷ xs) (suc k) a b = λ i. x ∷ set_twice xs k a b i
-
 drop_set : (xs : List ℕ) (k p a : ℕ) → p < k → drop k (set xs p a) ≡ drop k xs
 drop_set [] k p a low = refl
 drop_set (x ∷ xs) zero p a low = absurd (omega (arith, low))
@@ -179,7 +174,7 @@ origin_with ks gens n f args place a h low named = record {
 pub bits_with : (r : Replica) (f : ℕ) (args : List ℕ) (place number bits : ℕ) → place < length args → AreBitsIn r f (slice_set args place number) place (slice_index (slice_set args place number) place / 16) bits → AreBitsIn r f args place (number / 16) bits
 bits_with r f args place number bits low h i few bit =
     let there : slice_index (slice_set args place number) place ≡ number = get_or-set_same args place number 0 low in
-    subst (λ (xs : List ℕ). IsSettled r (Op f xs)) (λ j. (set_twice args place number (16 * (slice_index (slice_set args place number) place / 16) + i) ∙ ap (λ n. slice_set args place (16 * (n / 16) + i)) there) j) (h i few bit)
+    subst (λ (xs : List ℕ). IsSettled r (Op f xs)) (λ j. (set-set args place number (16 * (slice_index (slice_set args place number) place / 16) + i) ∙ ap (λ n. slice_set args place (16 * (n / 16) + i)) there) j) (h i few bit)
 
 -- the origin of a tuple of a run, as records are added
 pub origin_grown : (r new : Replica) (f : ℕ) (xs : List ℕ) → SameClosure r new → IsPrefix (values_in r) (values_in new) → IsOriginIn r (Op f xs) → IsOriginIn new (Op f xs)
