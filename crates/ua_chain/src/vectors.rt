@@ -14,7 +14,7 @@ ghost use Rattle.ua_chain.specs.PartsOf.{IsPartOf};
 use crate::classes::Part;
 use crate::kinds::Kind;
 use std::alloc::{AllocError, Global};
-use ua_close::{CloseError, check_power};
+use ua_close::{CloseError, power_within};
 use ua_identity::{append_values, place_vectors, start_of, width_of};
 use ua_table::{Algebra, Elem, Frame, Vectors};
 
@@ -35,10 +35,7 @@ pub(crate) fn generators<'a>(
 {
     let places = kind.places();
     let width = width_of(a.size(), kind.patterns());
-    check_power(a, width, u32::from(places), budget)?;
-    let Ok(frame) = Frame::power(a, width as u32) else {
-        unreachable!()
-    };
+    let frame = power_within(a, width, u32::from(places), budget)?;
     let gens = place_vectors(alloc, a.size(), kind.patterns(), places, frame.width())?;
     Ok((frame, gens))
 }

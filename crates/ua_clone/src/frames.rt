@@ -10,7 +10,7 @@ ghost use Rattle.ua_clone.specs.Frames.{point_power, variable_vector, point_gene
 use crate::kinds::CloneKind;
 use crate::points::Points;
 use std::alloc::{AllocError, Global};
-use ua_close::{CloseError, check_power};
+use ua_close::{CloseError, power_within};
 use ua_table::{Algebra, Elem, Frame, Vectors};
 
 /// The power with a coordinate for each point, or why it is too wide for the variables and the elements to be
@@ -30,13 +30,8 @@ pub(crate) fn power<'a>(
 {
     // What this call ensures says that the algebra has an element.
     let _size = a.size();
-    let width = points.len();
     let gens = u32::from(k) + kind.elements(a);
-    check_power(a, width as u128, gens, budget)?;
-    let Ok(frame) = Frame::power(a, width as u32) else {
-        unreachable!()
-    };
-    Ok(frame)
+    power_within(a, points.len() as u128, gens, budget)
 }
 
 /// Appends, for each of so many elements, the vector that is this element everywhere.

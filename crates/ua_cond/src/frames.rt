@@ -6,7 +6,7 @@ ghost use Rattle.ua_close.specs.Answers.{IsCause};
 ghost use Rattle.ua_identity.specs.Conditions.{IsCondition};
 ghost use Rattle.ua_identity.specs.Patterns.{condition_power, argument_vectors};
 
-use ua_close::{CloseError, check_power};
+use ua_close::{CloseError, power_within};
 use ua_identity::Condition;
 use ua_table::{Algebra, Frame};
 
@@ -23,10 +23,10 @@ pub(crate) fn power<'a>(
     ensures frame { IfOk result (λ frame. frame ≡ condition_power a.now condition.now) }
     ensures cause { IfErr result (IsCause (condition_power a.now condition.now) (argument_vectors a.now condition.now) budget) }
 {
-    let width = condition.width(a);
-    check_power(a, width, u32::from(condition.arity()), budget)?;
-    let Ok(frame) = Frame::power(a, width as u32) else {
-        unreachable!()
-    };
-    Ok(frame)
+    power_within(
+        a,
+        condition.width(a),
+        u32::from(condition.arity()),
+        budget,
+    )
 }

@@ -11,7 +11,7 @@ ghost use Rattle.ua_free.specs.Permitted.{MayFree};
 use crate::assignments::{advance, count};
 use std::alloc::{AllocError, Global};
 use std::thread::Threads;
-use ua_close::{CloseError, Closure, Gate, Run, check_power, close_set};
+use ua_close::{CloseError, Closure, Gate, Run, close_set, power_within};
 use ua_table::limits::{BUDGET, SIZE, VARIABLES, WIDTH};
 use ua_table::{Algebra, Elem, Frame, Vectors};
 
@@ -73,10 +73,7 @@ pub fn generators<'a>(
 {
     let k = u32::from(k);
     let width = count(a.size(), k);
-    check_power(a, width, k, budget)?;
-    let Ok(frame) = Frame::power(a, width as u32) else {
-        unreachable!()
-    };
+    let frame = power_within(a, width, k, budget)?;
     let gens = projections(alloc, a.size(), k, frame.width())?;
     Ok((frame, gens))
 }

@@ -209,30 +209,8 @@ pub fn pairs(alloc: Global, known: &Known, vs: &[Items]) -> Result<Vec<(Elem, El
     Ok(list)
 }
 
-/// The error for a power with more coordinates than a frame has.
-fn wide_power(
-    alloc: Global,
-    known: &Known,
-    width: u32,
-    gens: u32,
-    budget: u32,
-) -> Result<CloseError, AllocError>
-    requires { budget ≤ BUDGET }
-    ensures { IfOk result (λ e. e ≡ CloseError.Wide (records (arities_of known.now.algebra) gens budget) (budget * width)) }
-{
-    let Ok(line) = Frame::power(known.algebra(), 1) else {
-        unreachable!()
-    };
-    let shape = line.shape(alloc)?;
-    Ok(CloseError::Wide {
-        records: shape.records(gens, budget),
-        cells: u128::from(budget) * u128::from(width),
-    })
-}
-
 /// The power of an algebra, or why it is too wide for its vectors to be closed.
 pub fn power<'a>(
-    alloc: Global,
     known: &'a Known<'_>,
     width: Number,
     gens: &Vectors,
@@ -244,8 +222,10 @@ pub fn power<'a>(
     ensures ok { IfOk result (λ frame. frame ≡ power_of known.now width.value) }
     ensures cause { IfErr result (IsCause (power_of known.now width.value) gens.now.items budget) }
 {
-    match Frame::power(known.algebra(), width.value) {
-        Ok(frame) => Ok(frame),
-        Err(_) => Err(wide_power(alloc, known, width.value, gens.len(), budget)?),
-    }
+    power_within(
+        known.algebra(),
+        u128::from(width.value),
+        gens.len(),
+        budget,
+    )
 }
