@@ -23,10 +23,5 @@ pub(crate) fn power<'a>(
     ensures frame { IfOk result (λ frame. frame ≡ condition_power a.now condition.now) }
     ensures cause { IfErr result (IsCause (condition_power a.now condition.now) (argument_vectors a.now condition.now) budget) }
 {
-    power_within(
-        a,
-        condition.width(a),
-        u32::from(condition.arity()),
-        budget,
-    )
+    power_within(a, condition.width(a), u32::from(condition.arity()), budget)
 }
