@@ -6,8 +6,9 @@ use Rattle.std.proofs.lemmas.Bool.{cases_lt, lt-ltb}
 use Rattle.std.proofs.lemmas.Grind.{same_number_lists}
 use Rattle.std.proofs.lemmas.List.{length-set, map-set}
 use Rattle.std.proofs.lemmas.List.FromFn.{length-map-range_with_len, get_or-map-range_with_len}
+use Rattle.std.proofs.lemmas.Option.{get_or_from_slice_get}
 use Rattle.ua_table.specs.Algebras.{Vector, Operation, FiniteAlgebra, Product, IsOperation, IsAlgebra, IsProduct, IsVector, numeral, value_at, column, apply}
-use Rattle.ua_table.proofs.Lists.{found, get_or-slice_get, mapped_at, All-slice_get, AllZip-length, AllZip-slice_get, all_weaker}
+use Rattle.ua_table.proofs.Lists.{found, mapped_at, All-slice_get, AllZip-length, AllZip-slice_get, all_weaker, all_set}
 use Rattle.ua_table.specs.Tables.{IsTable}
 use Rattle.ua_table.proofs.Codes.{numeral-cons}
 use Rattle.ua_table.proofs.ApplyLemmas.{operation_at, length-apply, apply_at, numeral-below}
@@ -15,15 +16,14 @@ use Rattle.ua_rows.proofs.ApplyForms.{size_is}
 use Rattle.ua_lanes.specs.Columns.{values_at}
 use Rattle.ua_lanes.specs.Lines.{IsSmallProduct, size_at, algebra_at, line_value}
 use Rattle.ua_rows.proofs.LineLaws.{all_or}
-use Rattle.ua_rows.proofs.PageLaws.{all_set}
 
 -- ---- the algebra of a coordinate
 
 pub size_there : (p : Product) (x : ℕ) (a : FiniteAlgebra) → slice_get p x ≡ Some a → size_at p x ≡ a.size
-size_there p x a at = get_or-slice_get (map (λ (b : FiniteAlgebra). b.size) p) x a.size 0 (mapped_at (λ (b : FiniteAlgebra). b.size) p x a at)
+size_there p x a at = get_or_from_slice_get (map (λ (b : FiniteAlgebra). b.size) p) x a.size 0 (mapped_at (λ (b : FiniteAlgebra). b.size) p x a at)
 
 pub algebra_there : (p : Product) (x : ℕ) (a : FiniteAlgebra) → slice_get p x ≡ Some a → algebra_at p x ≡ a
-algebra_there p x a at = get_or-slice_get p x a record { name = []; size = 0; operations = [] } at
+algebra_there p x a at = get_or_from_slice_get p x a record { name = []; size = 0; operations = [] } at
 
 pub small_there : (p : Product) (x : ℕ) (a : FiniteAlgebra) → IsSmallProduct p → slice_get p x ≡ Some a → a.size < 17
 small_there p x a small at = All-slice_get (λ (b : FiniteAlgebra). b.size < 17) p x a small at
