@@ -1,12 +1,12 @@
 -- Records of a closure: what one more keeps.
 use Rattle.std.proofs.Common.{◌≡◌, ℕ, zero, suc, ◌<◌, ◌≤◌, List, [], ◌∷◌, ◌++◌, length, take, refl, sym, ap, subst, arith, Some, append_assoc}
 use Rattle.std.specs.Prelude.{slice_get, slice_index}
-use Rattle.std.specs.List.{AllByRecursion, zip}
-use Rattle.std.proofs.lemmas.List.{append-nil, map-append, get_or_append_left, length-map}
+use Rattle.std.specs.List.{zip}
+use Rattle.std.proofs.lemmas.List.{append-nil, map-append, length-map}
 use Rattle.ua_table.specs.declared.origins.Origin.{Origin}
 use Rattle.ua_table.specs.declared.origins.Origin.TheVariants.{Gen, Op}
-use Rattle.ua_table.specs.Algebras.{Vector, Product, arities, apply}
-use Rattle.ua_table.specs.Origins.{IsOrigin, origin_value}
+use Rattle.ua_table.specs.Algebras.{Vector, Product}
+use Rattle.ua_table.specs.Origins.{IsOrigin}
 use Rattle.ua_table.specs.Orders.{Record, IsNext, IsSerialFrom, IsSerial, rows_of, IsNew, AreRecordsFrom, AreRecords}
 use Rattle.ua_table.proofs.Lists.{all_weaker}
 
