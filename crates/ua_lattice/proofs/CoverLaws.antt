@@ -91,7 +91,7 @@ search_below P test (suc n) =
 below_or_not : (p q : Partition) → IsPartition p → length p ≡ length q → LiesBelow p q ⊎ (¬ LiesBelow p q)
 below_or_not p q hp same =
     ⊎_elim
-    (λ all. inl (below_from_leaders p q hp same all))
+    (λ all. inl (below_from_leaders p q same all))
     (λ one. inr (λ below. one.2 (leaders_from_below p q hp below one.0 one.1)))
     (search_below (λ k. slice_index q k ≡ slice_index q (slice_index p k)) (λ k. cases_eq (slice_index q k) (slice_index q (slice_index p k))) (length p))
 

@@ -1,6 +1,6 @@
 -- Congruences that are found as joins.
 use Rattle.std.proofs.Common.{◌≡◌, ℕ, ◌+◌, ◌<◌, ◌≤◌, List, [], ◌∷◌, ◌++◌, length, sym, ap, ◌∙◌, subst, arith, ⊎_elim, append_assoc, append-nil, length-append}
-use Rattle.std.specs.Prelude.{true, Option, Some, None, Result, Ok, Err, IfSome, IfOk, is_some, slice_get, slice_index_or, Contains}
+use Rattle.std.specs.Prelude.{true, Option, Some, None, IfSome, is_some, slice_get, slice_index_or, Contains}
 use Rattle.std.specs.List.{AllByRecursion}
 use Rattle.std.proofs.lemmas.Bool.{true≢false, cases_lt}
 use Rattle.std.proofs.lemmas.List.{get_or_append_left}
@@ -22,10 +22,6 @@ use Rattle.ua_lattice.proofs.JoinedLaws.{join-IsCongruence, joined_closed}
 pub contains_found : (rows : List Partition) (v : Partition) (o : Option ℕ) → is_some o ≡ true → IfSome o (λ i. slice_get rows i ≡ Some v) → Contains rows v
 contains_found rows v None e h = absurd (true≢false (sym e))
 contains_found rows v (Some i) e h = Contains-slice_get rows i v h
-
-pub ok_both : {T E : Type 0} (r : Result T E) (P Q S : T → Type 0) → ((x : T) → P x → Q x → S x) → IfOk r P → IfOk r Q → IfOk r S
-ok_both (Ok x) P Q S f p q = f x p q
-ok_both (Err e) P Q S f p q = tt
 
 -- ---- the identity
 
