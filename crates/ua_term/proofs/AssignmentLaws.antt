@@ -125,12 +125,12 @@ value_is_operation a k t h =
     ext_get_or 0 (term_value (power_of_assignments a k) (projections a.size k) t) (term_operation a k t) (long ∙ sym count ∙ sym (length-map (assignments a.size k) (λ xs. eval a xs t))) (λ i l.
     let low : i < a.size ^ k = omega (arith, l, long) in
     let within : i < length (assignments a.size k) = omega (arith, low, count) in
-    let stands = assignment_from a.size k (get_or (assignments a.size k) i []) (i, within, any_default (assignments a.size k) i within) in
+    let stands = assignment_from a.size k (get_or (assignments a.size k) i []) (i, within, get_or_default (assignments a.size k) i within) in
     value_is_eval (power_of_assignments a k) (projections a.size k) i a (slice_get-replicate (a.size ^ k) i a low) t
     ∙ ap (λ ys. eval a ys t) (column_is a.size k i within stands.count)
     ∙ sym (get_or-map (λ xs. eval a xs t) (assignments a.size k) i [] 0 within))
   where
-    any_default : (xs : List (List ℕ)) (i : ℕ) → i < length xs → get_or xs i (get_or xs i []) ≡ get_or xs i []
-    any_default [] i l = refl
-    any_default (x ∷ xs) zero l = refl
-    any_default (x ∷ xs) (suc i) l = any_default xs i (omega (arith, l))
+    get_or_default : (xs : List (List ℕ)) (i : ℕ) → i < length xs → get_or xs i (get_or xs i []) ≡ get_or xs i []
+    get_or_default [] i l = refl
+    get_or_default (x ∷ xs) zero l = refl
+    get_or_default (x ∷ xs) (suc i) l = get_or_default xs i (omega (arith, l))
