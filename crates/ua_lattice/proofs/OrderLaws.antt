@@ -13,10 +13,9 @@ use Rattle.std.proofs.lemmas.Cmp.{ranked}
 use Rattle.std.proofs.lemmas.Map.Lookups.{exact_bytes}
 use Rattle.std.proofs.lemmas.Map.Keys.{sorted_from_all_adjacent, apart_from_distinct, Less-from_sorted, IsDistinct-from_sorted}
 use Rattle.std.proofs.lemmas.Map.Made.{length-le_from_is_member, is_member-Decides}
-use Rattle.std.proofs.lemmas.List.{length-map, get_or-map, length-take-le, get_or-take}
+use Rattle.std.proofs.lemmas.List.{length-map, get_or-map, length-take-le, get_or-take, get_or_default}
 use Rattle.std.proofs.lemmas.List.FromFn.{length-range_with_len, get_or-range_with_len}
 use Rattle.std.proofs.lemmas.List.Elements.{All-from_get_or, recursion_from_All, All-from_recursion}
-use Rattle.ua_table.proofs.Lists.{any_default}
 use Rattle.ua_part.specs.Partitions.{Partition, IsPartition, LiesBelow}
 use Rattle.ua_part.specs.Blocks.{block_count}
 use Rattle.ua_part.proofs.PartitionLaws.{leaders_from_below, below_from_leaders, below_both}
@@ -222,6 +221,6 @@ module _ (list : List Partition) (h : AreOrdered list) where
   not_before i p wi is c =
       let long = length-take-le i list (omega (arith, wi)) in
       let low : c.0 < i = (let w = c.1 in omega (arith, w, long)) in
-      let there : at list c.0 ≡ p = sym (get_or-take i list c.0 [] low) ∙ any_default (take i list) c.0 [] p c.1 ∙ c.2 in
+      let there : at list c.0 ≡ p = sym (get_or-take i list c.0 [] low) ∙ get_or_default (take i list) c.0 [] p c.1 ∙ c.2 in
       let same = same_place c.0 i (omega (arith, low, wi)) wi (there ∙ is) in
       omega (arith, low, same)
