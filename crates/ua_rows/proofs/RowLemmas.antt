@@ -4,14 +4,14 @@ use Rattle.std.specs.Prelude.{Contains, slice_get, slice_index, slice_index_or, 
 use Rattle.std.specs.List.{AllByRecursion, IsDistinct}
 use Rattle.std.specs.Cmp.Lexicographic.{pointwise, bytes_decides}
 use Rattle.std.proofs.lemmas.List.{get_or_append_left, length-map}
-use Rattle.std.proofs.lemmas.Option.{slice_get_within}
+use Rattle.std.proofs.lemmas.Option.{slice_get_within, get_or_from_slice_get}
 use Rattle.ua_table.specs.declared.origins.Origin.{Origin}
 use Rattle.ua_table.specs.declared.origins.Origin.TheVariants.{Gen, Op}
 use Rattle.ua_table.specs.Algebras.{Vector, Product, IsProduct, IsVector, arities, apply}
 use Rattle.ua_table.specs.Origins.{IsOrigin, origin_value}
 use Rattle.ua_table.specs.Numbering.{IsShape}
 use Rattle.ua_table.specs.Slices.{bound, slice_operation, slice_tuples, slice_row}
-use Rattle.ua_table.proofs.Lists.{all_at, All-slice_get, found, get_or-slice_get, all_from_contains, all_weaker, Contains-cases, Contains-head, Contains-tail, Contains-none, all_from_places, all_push}
+use Rattle.ua_table.proofs.Lists.{all_at, All-slice_get, found, all_from_contains, all_weaker, Contains-cases, Contains-head, Contains-tail, Contains-none, all_from_places, all_push}
 use Rattle.ua_table.proofs.Rows.{slices_of_rows}
 use Rattle.ua_table.proofs.SliceLaws.{bound_laws}
 use Rattle.ua_rows.specs.RowLists.{rows_at}
@@ -132,10 +132,10 @@ module _ (p : Product) (gens rows : List Vector) (origins : List Origin) (produc
   vectors_at b [] rec le h = tt
   vectors_at b (k ∷ ks) rec le h =
       let there = found rows k (let low = h.0 in omega (arith, low, le)) in
-      (subst (IsVector p) (sym (get_or-slice_get rows k there.0 [] there.1)) (rec k there.0 h.0 there.1), vectors_at b ks rec le h.1)
+      (subst (IsVector p) (sym (get_or_from_slice_get rows k there.0 [] there.1)) (rec k there.0 h.0 there.1), vectors_at b ks rec le h.1)
 
   vector_of : (b : ℕ) (o : Origin) → ((k : ℕ) (v : Vector) → k < b → slice_get rows k ≡ Some v → IsVector p v) → b ≤ length rows → IsOrigin (arities p) (length gens) b o → IsVector p (origin_value p gens rows o)
-  vector_of b (Gen i) rec le h = let there = found gens i h in subst (IsVector p) (sym (get_or-slice_get gens i there.0 [] there.1)) (All-slice_get (IsVector p) gens i there.0 admitted there.1)
+  vector_of b (Gen i) rec le h = let there = found gens i h in subst (IsVector p) (sym (get_or_from_slice_get gens i there.0 [] there.1)) (All-slice_get (IsVector p) gens i there.0 admitted there.1)
   vector_of b (Op f args) rec le h =
       let places = take (slice_index (arities p) f) args in
       IsVector-apply p f (rows_at rows places) product h.operation (length-rows_at rows places ∙ h.count) (vectors_at b places rec le h.earlier)
