@@ -1,21 +1,15 @@
 -- The items of a list, read one after another.
-use Rattle.std.proofs.Common.{◌≡◌, ℕ, zero, suc, ◌+◌, ◌-◌, ◌<◌, ◌≤◌, Bool, true, false, not, Option, Some, None, Ok, Err, List, [], ◌∷◌, ◌++◌, length, map, take, drop, get_or, refl, sym, ap, ◌∙◌, arith, append_assoc}
+use Rattle.std.proofs.Common.{◌≡◌, ℕ, suc, ◌+◌, ◌-◌, ◌<◌, ◌≤◌, Bool, true, false, not, Option, Some, None, Ok, Err, List, [], ◌∷◌, ◌++◌, length, map, take, drop, get_or, refl, sym, ap, ◌∙◌, arith, append_assoc}
 use Rattle.std.specs.Prelude.{String, string_bytes}
 use Rattle.std.specs.declared.alloc.Global.{Global}
 use Rattle.std.specs.Option.{is_some}
-use Rattle.std.proofs.lemmas.List.{append-nil, take_all}
+use Rattle.std.proofs.lemmas.List.{append-nil, take_all, drop_all}
 use Rattle.std.proofs.Math.Seq.{drop-cons}
 use Rattle.serde_json.specs.Data.{Data}
 use Rattle.serde_json.specs.View.{view, items_view, members_view}
 use Rattle.serde_json.specs.declared.value.Value.{Value}
 use Rattle.ua_cert.specs.declared.faults.FieldError.TheVariants as fault
 use Rattle.ua_cert.specs.Reading.{Reading, both, mapped, under, index_path, items_from, number_of, text_of, step, step_from, keys_of}
-
--- nothing is left past the end
-past : {X : Type 0} (i : ℕ) (xs : List X) → length xs ≤ i → drop i xs ≡ []
-past {X} i [] h = elim i as (λ j. drop {A = X} j [] ≡ []) [ zero ↦ refl | suc j ↦ refl ]
-past zero (x ∷ xs) h = absurd (omega (arith, h))
-past (suc i) (x ∷ xs) h = past i xs (omega (arith, h))
 
 -- what is read in all: some items, the first fault of range among them, and what is read behind them
 abbrev pub resume : {X : Type 0} → List X → Option (List ℕ) → Reading (List X) → Reading (List X)
@@ -89,10 +83,10 @@ module _ {X : Type 0} (read : Data → Reading X) (first : ℕ) (values : List V
     shape_found o q w e = w ∙ ap (resume xs o) (next i v h at ∙ ap (λ r. joined r (left (i + 1))) e) ∙ shape_stops xs o q (left (i + 1))
 
   pub all_read : (whole : Reading (List X)) (xs : List X) (i : ℕ) → length values ≤ i → whole ≡ resume xs None (left i) → whole ≡ Ok xs
-  all_read whole xs i h w = w ∙ ap (λ vs. resume xs None (items_from read (first + i) (items_view vs))) (past i values h) ∙ ap (λ ys. Ok ys) (append-nil xs)
+  all_read whole xs i h w = w ∙ ap (λ vs. resume xs None (items_from read (first + i) (items_view vs))) (drop_all i values h) ∙ ap (λ ys. Ok ys) (append-nil xs)
 
   pub range_read : (whole : Reading (List X)) (xs : List X) (p : List ℕ) (i : ℕ) → length values ≤ i → whole ≡ resume xs (Some p) (left i) → whole ≡ Err (fault.Range p)
-  range_read whole xs p i h w = w ∙ ap (λ vs. resume xs (Some p) (items_from read (first + i) (items_view vs))) (past i values h)
+  range_read whole xs p i h w = w ∙ ap (λ vs. resume xs (Some p) (items_from read (first + i) (items_view vs))) (drop_all i values h)
 
 -- a step by its first item and the others
 pub step_split : (values : List Value) (v : Value) → 1 ≤ length values → v ≡ get_or values 0 v → step_from (items_view values) ≡ mapped step (both (under (index_path 0) (text_of (view v))) (items_from number_of 1 (items_view (take (length values - 1) (drop 1 values)))))

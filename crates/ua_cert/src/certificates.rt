@@ -1,6 +1,6 @@
 //! Certificates of each kind, read from JSON objects.
 
-ghost use Rattle.std.specs.Prelude.{◌≡◌, ℕ, List};
+ghost use Rattle.std.specs.Prelude.{ℕ, List};
 ghost use Rattle.serde_json.specs.View.{view};
 ghost use Rattle.ua_cert.specs.declared.certs.CertStep.{CertStep};
 ghost use Rattle.ua_cert.specs.declared.certs.CondName.{CondName};

@@ -3,7 +3,7 @@ use Rattle.std.proofs.Common.{◌≡◌, ◌≢◌, ⊎_elim, ℕ, zero, suc, �
 use Rattle.std.proofs.lemmas.Bool.{lt-ltb, le-ltb, cases_lt}
 use Rattle.std.specs.Prelude.{if◌then◌else◌, MatchOption, slice_get, Contains}
 use Rattle.std.proofs.lemmas.List.Elements.{Contains-append_left, Contains-append_right}
-use Rattle.std.proofs.lemmas.List.{length-map}
+use Rattle.std.proofs.lemmas.List.{length-map, map-append}
 use mathlib.Core.Option.{some, some-ne-none, some-injective}
 use mathlib.Core.Logic.{dite}
 use native.Mathlib.Decide.{ℕ_discrete}
@@ -56,10 +56,6 @@ length-longer xs ys = ⊎_elim
     (λ lt. ap (λ (b : Bool). length (if b then ys else xs)) (lt-ltb (length xs) (length ys) lt) ∙ omega (arith, lt))
     (λ ge. ap (λ (b : Bool). length (if b then ys else xs)) (le-ltb (length xs) (length ys) (omega (arith, ge))) ∙ omega (arith, ge))
     (cases_lt (length xs) (length ys))
-
-map_append : {X Y : Type 0} (f : X → Y) (xs ys : List X) → map f (xs ++ ys) ≡ map f xs ++ map f ys
-map_append f [] ys = refl
-map_append f (x ∷ xs) ys = ap (λ l. f x ∷ l) (map_append f xs ys)
 
 -- ---- the first seat takes another in
 
@@ -130,11 +126,11 @@ module _ (plan : Plan) (s : Table) (id other : ℕ) (me it : Token) (a : IsAt pl
 
   in_kept : (e : Numbered) → Contains (map (read true) kept) e → Contains es' e
   in_kept e c = in_both e (Contains-tail (read false new) e (map (read true) (kept ++ it.0.all))
-      (subst (λ (l : List Numbered). Contains l e) (sym (map_append (read true) kept it.0.all)) (Contains-append_left (map (read true) kept) (map (read true) it.0.all) e c)))
+      (subst (λ (l : List Numbered). Contains l e) (sym (map-append (read true) kept it.0.all)) (Contains-append_left (map (read true) kept) (map (read true) it.0.all) e c)))
 
   in_taken : (e : Numbered) → Contains (map (read true) it.0.all) e → Contains es' e
   in_taken e c = in_both e (Contains-tail (read false new) e (map (read true) (kept ++ it.0.all))
-      (subst (λ (l : List Numbered). Contains l e) (sym (map_append (read true) kept it.0.all)) (Contains-append_right (map (read true) kept) (map (read true) it.0.all) e c)))
+      (subst (λ (l : List Numbered). Contains l e) (sym (map-append (read true) kept it.0.all)) (Contains-append_right (map (read true) kept) (map (read true) it.0.all) e c)))
 
   in_rest : (e : Numbered) → Contains (map (read true) (kept_of it.0.all)) e → Contains es' e
   in_rest e c = in_taken e (subst (λ (l : List Worker). Contains (map (read true) l) e) (sym b.live) (Contains-tail (read true (own it)) e (map (read true) (kept_of it.0.all)) c))

@@ -3,7 +3,7 @@ use Rattle.std.proofs.Common.{◌≡◌, ◌≢◌, ◌⊎◌, inl, inr, ⊎_eli
 use Rattle.std.proofs.lemmas.Bool.Decides.{nat_tests}
 use Rattle.std.specs.Prelude.{◌==◌, slice_get, Contains}
 use Rattle.std.proofs.lemmas.List.Elements.{Contains-append_left, Contains-append_right, Contains-append_cases}
-use Rattle.std.proofs.lemmas.List.{length-map, append-nil, append_assoc}
+use Rattle.std.proofs.lemmas.List.{length-map, append-nil, append_assoc, map-append}
 use mathlib.Core.Option.{some, some-ne-none, some-injective}
 use mathlib.Core.Logic.{dite}
 use native.Mathlib.Decide.{ℕ_discrete}
@@ -32,10 +32,6 @@ module _ {X : Type 0} where
   set_snoc_here (x ∷ xs) a y zero e = absurd (omega (arith, e))
   set_snoc_here (x ∷ xs) a y (suc k) e = ap (λ l. x ∷ l) (set_snoc_here xs a y k (omega (arith, e)))
 
-  map_snoc : (f : ℕ → X) (xs : List ℕ) (a : ℕ) → map f (xs ++ a ∷ []) ≡ map f xs ++ f a ∷ []
-  map_snoc f [] a = refl
-  map_snoc f (x ∷ xs) a = ap (λ l. f x ∷ l) (map_snoc f xs a)
-
   pub by_number : (f g : ℕ → X) (n k : ℕ) (y : X) → ((j : ℕ) → j < n → j ≢ k → g j ≡ f j) → g k ≡ y → map g (numbers_below n) ≡ set (map f (numbers_below n)) k y
   by_number f g zero k y same here = refl
   by_number f g (suc n) k y same here =
@@ -44,31 +40,31 @@ module _ {X : Type 0} where
       dite (ℕ_discrete k n)
       (λ e.
       let last : g n ≡ y = ap g (sym e) ∙ here in
-      map_snoc g (numbers_below n) n ∙ ap (λ l. l ++ g n ∷ []) rest ∙ ap (λ z. set (map f (numbers_below n)) k y ++ z ∷ []) last ∙
-      sym (ap (λ l. set l k y) (map_snoc f (numbers_below n) n) ∙ set_snoc_here (map f (numbers_below n)) (f n) y k (e ∙ sym long)))
+      map-append g (numbers_below n) (n ∷ []) ∙ ap (λ l. l ++ g n ∷ []) rest ∙ ap (λ z. set (map f (numbers_below n)) k y ++ z ∷ []) last ∙
+      sym (ap (λ l. set l k y) (map-append f (numbers_below n) (n ∷ [])) ∙ set_snoc_here (map f (numbers_below n)) (f n) y k (e ∙ sym long)))
       (λ n'.
       let last : g n ≡ f n = same n (omega arith) (λ e. n' (sym e)) in
-      map_snoc g (numbers_below n) n ∙ ap (λ l. l ++ g n ∷ []) rest ∙ ap (λ z. set (map f (numbers_below n)) k y ++ z ∷ []) last ∙
-      sym (ap (λ l. set l k y) (map_snoc f (numbers_below n) n) ∙ set_snoc_else (map f (numbers_below n)) (f n) y k (λ e. n' (e ∙ long))))
+      map-append g (numbers_below n) (n ∷ []) ∙ ap (λ l. l ++ g n ∷ []) rest ∙ ap (λ z. set (map f (numbers_below n)) k y ++ z ∷ []) last ∙
+      sym (ap (λ l. set l k y) (map-append f (numbers_below n) (n ∷ [])) ∙ set_snoc_else (map f (numbers_below n)) (f n) y k (λ e. n' (e ∙ long))))
 
   pub by_number_same : (f g : ℕ → X) (n : ℕ) → ((j : ℕ) → j < n → g j ≡ f j) → map g (numbers_below n) ≡ map f (numbers_below n)
   by_number_same f g zero same = refl
   by_number_same f g (suc n) same =
-      map_snoc g (numbers_below n) n ∙ ap (λ l. l ++ g n ∷ []) (by_number_same f g n (λ j lt. same j (omega (arith, lt)))) ∙
-      ap (λ z. map f (numbers_below n) ++ z ∷ []) (same n (omega arith)) ∙ sym (map_snoc f (numbers_below n) n)
+      map-append g (numbers_below n) (n ∷ []) ∙ ap (λ l. l ++ g n ∷ []) (by_number_same f g n (λ j lt. same j (omega (arith, lt)))) ∙
+      ap (λ z. map f (numbers_below n) ++ z ∷ []) (same n (omega arith)) ∙ sym (map-append f (numbers_below n) (n ∷ []))
 
   pub number_at : (f : ℕ → X) (n k : ℕ) → k < n → slice_get (map f (numbers_below n)) k ≡ Some (f k)
   number_at f zero k lt = absurd (omega (arith, lt))
   number_at f (suc n) k lt =
       let long : length (map f (numbers_below n)) ≡ n = length-map (numbers_below n) f ∙ length-numbers_below n in
-      ap (λ l. slice_get l k) (map_snoc f (numbers_below n) n) ∙
+      ap (λ l. slice_get l k) (map-append f (numbers_below n) (n ∷ [])) ∙
       dite (ℕ_discrete k n)
       (λ e. let q : k ≡ length (map f (numbers_below n)) = e ∙ sym long in
       ap (slice_get (map f (numbers_below n) ++ f n ∷ [])) q ∙ slice_get-push (map f (numbers_below n)) (f n) ∙ ap (λ j. Some (f j)) (sym e))
       (λ n'. at_longer (map f (numbers_below n)) (f n ∷ []) k (f k) (number_at f n k (omega (arith, lt, n'))))
 
   pub map_more : (f : ℕ → X) (n : ℕ) → map f (numbers_below (suc n)) ≡ map f (numbers_below n) ++ f n ∷ []
-  map_more f n = map_snoc f (numbers_below n) n
+  map_more f n = map-append f (numbers_below n) (n ∷ [])
 
 -- ---- the worker of a number
 

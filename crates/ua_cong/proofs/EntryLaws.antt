@@ -1,12 +1,12 @@
 -- Rows that are entered, and principal congruences that become known.
-use Rattle.std.proofs.Common.{◌≡◌, ℕ, ◌+◌, ◌≤◌, List, [], ◌∷◌, ◌++◌, length, refl, sym, ap, ◌∙◌, subst, arith, ⊎_elim, append-nil, length-append}
+use Rattle.std.proofs.Common.{◌≡◌, ℕ, ◌+◌, ◌≤◌, List, [], ◌∷◌, ◌++◌, length, sym, ap, ◌∙◌, subst, arith, ⊎_elim, append-nil, length-append}
 use Rattle.std.specs.Prelude.{Some, slice_get, slice_index_or, Contains}
 use Rattle.std.specs.List.{AllByRecursion}
 use Rattle.std.proofs.lemmas.List.{get_or_append_left}
 use Rattle.std.proofs.lemmas.List.Elements.{Contains-push}
 use Rattle.std.proofs.lemmas.Option.{get_or_from_slice_get, slice_get_within}
 use Rattle.ua_table.specs.Algebras.{FiniteAlgebra}
-use Rattle.ua_table.proofs.Lists.{all_append, all_weaker, all_from_contains, Contains-cases, Contains-none}
+use Rattle.ua_table.proofs.Lists.{slice_get-push, all_append, all_weaker, all_from_contains, Contains-cases, Contains-none}
 use Rattle.ua_part.specs.Partitions.{Partition}
 use Rattle.ua_cong.specs.declared.known.Known.{Known}
 use Rattle.ua_cong.specs.Closings.{AreElements, IsPrincipal}
@@ -31,11 +31,7 @@ entry_few old p new e = let n = length-append old e.more in let is = ap length e
 
 -- what is pushed stands at its place
 pub pushed_at : (old new : List Partition) (p : Partition) (place : ℕ) → new ≡ old ++ p ∷ [] → place ≡ length old → slice_get new place ≡ Some p
-pushed_at old new p place is at = subst (λ (ps : List Partition). slice_get ps place ≡ Some p) (sym is) (subst (λ k. slice_get (old ++ p ∷ []) k ≡ Some p) (sym at) (last old))
-  where
-    last : (xs : List Partition) → slice_get (xs ++ p ∷ []) (length xs) ≡ Some p
-    last [] = refl
-    last (x ∷ xs) = last xs
+pushed_at old new p place is at = subst (λ (ps : List Partition). slice_get ps place ≡ Some p) (sym is) (subst (λ k. slice_get (old ++ p ∷ []) k ≡ Some p) (sym at) (slice_get-push old p))
 
 -- ---- one pair more
 

@@ -5,7 +5,7 @@ ghost use Rattle.std.specs.Prelude.{◌≡◌, ◌≢◌, ℕ, ◌<◌, ◌≤�
 ghost use Rattle.std.specs.List.{AllByRecursion};
 ghost use Rattle.ua_table.specs.declared.limits.TheConstants.{SIZE};
 ghost use Rattle.ua_table.specs.Algebras.{IsAlgebra, arities_of};
-ghost use Rattle.ua_part.specs.Partitions.{Partition, SameBlock, LiesBelow};
+ghost use Rattle.ua_part.specs.Partitions.{SameBlock};
 ghost use Rattle.ua_prod.specs.Congruences.{IsCg, IsCongruence, RelatesAll};
 ghost use Rattle.ua_cong.specs.Closings.{AreElements, IsForced, IsCarried, IsCarriedAlong};
 ghost use Rattle.ua_cong.specs.Extensions.{led_pairs, IsCgAbove};

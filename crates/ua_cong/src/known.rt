@@ -1,6 +1,6 @@
 //! Principal congruences that are known.
 
-ghost use Rattle.std.specs.Prelude.{◌≡◌, ◌+◌, ◌<◌, ◌≤◌, [], ◌∷◌, ◌++◌, length, slice_get, Some, IfOk, OnOk};
+ghost use Rattle.std.specs.Prelude.{◌≡◌, ◌+◌, ◌<◌, [], ◌∷◌, ◌++◌, length, slice_get, Some, IfOk, OnOk};
 ghost use Rattle.ua_table.specs.Algebras.{FiniteAlgebra};
 ghost use Rattle.ua_cong.specs.Closings.{AreElements, IsPrincipal};
 ghost use Rattle.ua_cong.specs.Entries.{IsEntered};

@@ -142,6 +142,9 @@ meets_vector a c t = (vector_from a t c.identities, vector_meets a t c.identitie
 
 -- ---- the value is generated where some term meets the condition
 
+pub length-argument_vectors : (a : FiniteAlgebra) (c : TermCondition) → length (argument_vectors a c) ≡ c.arity
+length-argument_vectors a c = length-map-range_with_len (place_vector (all_fillings a.size (patterns_of c))) 0 c.arity
+
 module _ (a : FiniteAlgebra) (c : TermCondition) (some : 0 < a.size) (is : IsCondition c) where
   pub some_width : 0 < length (all_fillings a.size (patterns_of c))
   some_width = go c.identities is.identity
@@ -154,14 +157,11 @@ module _ (a : FiniteAlgebra) (c : TermCondition) (some : 0 < a.size) (is : IsCon
           let both = length-append (fillings a.size i.pattern) (all_fillings a.size (patterns_in is)) in
           omega (arith, one, low, both)
 
-  count : length (argument_vectors a c) ≡ c.arity
-  count = length-map-range_with_len (place_vector (all_fillings a.size (patterns_of c))) 0 c.arity
-
   pub same_arities : arities (condition_power a c) ≡ arities_of a
   same_arities = arities_of_power a (length (all_fillings a.size (patterns_of c))) some_width
 
   same_terms : (t : Tree) → IsTerm (arities (condition_power a c)) (length (argument_vectors a c)) t ≡ IsTerm (arities_of a) c.arity t
-  same_terms t = (λ k. IsTerm (same_arities k) (count k) t)
+  same_terms t = (λ k. IsTerm (same_arities k) (length-argument_vectors a c k) t)
 
   pub term_at : (t : Tree) → IsTerm (arities_of a) c.arity t → term_value (condition_power a c) (argument_vectors a c) t ≡ vector_of a (patterns_of c) t
   term_at t h = value_on_patterns a (patterns_of c) c.arity t (fill_places c is) h

@@ -5,15 +5,15 @@ use Rattle.std.specs.List.{flat_map}
 use Rattle.std.proofs.lemmas.Grind.{flat_map-append}
 use Rattle.std.proofs.lemmas.List.{length-map, length-append, length-replicate, map-append, append-nil, take_more, take-append-drop, get_or-map}
 use Rattle.std.proofs.lemmas.List.Folds.{length-flat_map-take}
+use Rattle.std.proofs.lemmas.Simd.{map-map}
 use Rattle.std.proofs.Math.Nat.{one-le-pow, pow-le-pow_right, pow-le-pow_left}
 use Rattle.ua_table.specs.declared.limits.TheConstants.{SIZE}
 use Rattle.ua_table.specs.Algebras.{FiniteAlgebra}
 use Rattle.ua_term.specs.Assignments.{assignments, projection}
-use Rattle.ua_term.proofs.AssignmentLaws.{length_assignments}
+use Rattle.ua_term.proofs.AssignmentLaws.{length_assignments, maps_agree}
 use Rattle.ua_identity.specs.declared.limits.TheConstants.{LETTERS}
 use Rattle.ua_identity.specs.Identities.{VariablePattern, filled}
 use Rattle.ua_identity.specs.Patterns.{fillings, all_fillings, place_vector, power}
-use Rattle.ua_identity.proofs.PatternLaws.{map_twice, maps_agree}
 
 -- ---- how many assignments
 
@@ -77,4 +77,4 @@ place_more n ps i j p l e low =
     ap (λ (fs : List (List ℕ)). map at fs) (pieces_more (fillings n) ps i p l ∙ ap (λ (q : VariablePattern). all_fillings n (take i ps) ++ fillings n q) (sym e))
     ∙ map-append at (all_fillings n (take i ps)) (fillings n p)
     ∙ ap (λ (ys : List ℕ). place_vector (all_fillings n (take i ps)) j ++ ys)
-    (map_twice at (filled p) (assignments n p.variables) ∙ maps_agree (λ xs. slice_index (filled p xs) j) (λ xs. slice_index xs (slice_index p.places j)) (assignments n p.variables) (λ xs c. get_or-map (slice_index xs) p.places j 0 0 low))
+    (map-map at (filled p) (assignments n p.variables) ∙ maps_agree (λ xs. slice_index (filled p xs) j) (λ xs. slice_index xs (slice_index p.places j)) (assignments n p.variables) (λ xs c. get_or-map (slice_index xs) p.places j 0 0 low))

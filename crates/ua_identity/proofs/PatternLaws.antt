@@ -3,30 +3,21 @@ use Rattle.std.proofs.Common.{◌≡◌, ℕ, zero, suc, ◌+◌, ◌<◌, List,
 use Rattle.std.specs.Prelude.{Contains, slice_get, slice_index}
 use Rattle.std.specs.List.{AllByRecursion, range_with_len}
 use Rattle.std.proofs.lemmas.List.{ext_get_or, get_or-map, length-map, length-replicate, length-append, map-append, take_at, drop-drop, drop_at}
-use Rattle.std.proofs.lemmas.List.FromFn.{length-map-range_with_len, get_or-map-range_with_len}
+use Rattle.std.proofs.lemmas.List.FromFn.{get_or-map-range_with_len}
+use Rattle.std.proofs.lemmas.Simd.{map-map}
 use Rattle.ua_table.specs.Algebras.{Vector, FiniteAlgebra, arities_of, column}
 use Rattle.ua_table.specs.Terms.{Tree, Generator, Application, IsTerm, term_value, term_values, eval}
-use Rattle.ua_table.proofs.Lists.{Contains-head, Contains-tail, Contains-cases, Contains-none, slice_get-replicate}
+use Rattle.ua_table.proofs.Lists.{Contains-cases, Contains-none, slice_get-replicate}
 use Rattle.ua_table.proofs.TermLaws.{value_is_eval}
 use Rattle.ua_table.proofs.ApplyLemmas.{length-apply}
 use Rattle.ua_term.specs.Assignments.{assignments}
-use Rattle.ua_term.proofs.AssignmentLaws.{assignment_in, assignment_from}
+use Rattle.ua_term.proofs.AssignmentLaws.{assignment_in, assignment_from, read_all}
+pub use Rattle.ua_term.proofs.AssignmentLaws.{maps_agree}
 use Rattle.ua_identity.specs.Identities.{VariablePattern, TermIdentity, filled, at_pattern, Satisfies}
 use Rattle.ua_identity.specs.Chains.{Link, AreLinked}
 use Rattle.ua_identity.specs.Patterns.{fillings, all_fillings, place_vector, start_of, part_of}
 
 -- ---- what stands at places
-
--- the entries of a list at its places are the list
-read_all : (xs : List ℕ) (n : ℕ) → length xs ≡ n → map (slice_index xs) (range_with_len 0 n) ≡ xs
-read_all xs n long =
-    let count = length-map-range_with_len (slice_index xs) 0 n in
-    ext_get_or 0 (map (slice_index xs) (range_with_len 0 n)) xs (count ∙ sym long) (λ i l. get_or-map-range_with_len (slice_index xs) 0 n i i 0 (omega (arith, l, count)) (omega arith))
-
--- two maps of a list are equal where they are at each element
-pub maps_agree : {X Y : Type 0} (f g : X → Y) (xs : List X) → ((x : X) → Contains xs x → f x ≡ g x) → map f xs ≡ map g xs
-maps_agree f g [] h = refl
-maps_agree f g (x ∷ xs) h = ap (λ y. y ∷ map f xs) (h x (Contains-head x xs)) ∙ ap (λ ys. g x ∷ ys) (maps_agree f g xs (λ y c. h y (Contains-tail x y xs c)))
 
 head_of : {Y : Type 0} (x y : Y) (xs ys : List Y) → (x ∷ xs) ≡ (y ∷ ys) → x ≡ y
 head_of x y xs ys e = cc
@@ -38,10 +29,6 @@ pub agree_maps : {X Y : Type 0} (f g : X → Y) (xs : List X) → map f xs ≡ m
 agree_maps f g [] e x c = absurd (Contains-none x c)
 agree_maps f g (y ∷ xs) e x c =
     ⊎_elim (λ same. subst (λ z. f z ≡ g z) same (head_of (f y) (g y) (map f xs) (map g xs) e)) (λ rest. agree_maps f g xs (tail_of (f y) (g y) (map f xs) (map g xs) e) x rest) (Contains-cases y x xs c)
-
-pub map_twice : {X Y Z : Type 0} (f : Y → Z) (g : X → Y) (xs : List X) → map f (map g xs) ≡ map (λ x. f (g x)) xs
-map_twice f g [] = refl
-map_twice f g (x ∷ xs) = ap (λ ys. f (g x) ∷ ys) (map_twice f g xs)
 
 -- ---- the vector of a term is its value in the power
 
@@ -56,7 +43,7 @@ filled_at places (xs ∷ fs) (suc i) h l = filled_at places fs i h.1 (omega (ari
 
 column_is : (fs : List (List ℕ)) (places i : ℕ) → AreFilled places fs → i < length fs → column (map (place_vector fs) (range_with_len 0 places)) i ≡ get_or fs i []
 column_is fs places i h l =
-    map_twice (λ (v : Vector). slice_index v i) (place_vector fs) (range_with_len 0 places)
+    map-map (λ (v : Vector). slice_index v i) (place_vector fs) (range_with_len 0 places)
     ∙ maps_agree (λ j. slice_index (place_vector fs j) i) (slice_index (get_or fs i [])) (range_with_len 0 places) (λ j c. get_or-map (λ (xs : List ℕ). slice_index xs j) fs i [] 0 l)
     ∙ read_all (get_or fs i []) places (filled_at places fs i h l)
 
@@ -96,7 +83,7 @@ part_is n (q ∷ ps) (suc m) p f e =
 
 -- two terms are linked exactly where their vectors have the same parts
 fillings_map : (n : ℕ) (p : VariablePattern) (f : List ℕ → ℕ) → map f (fillings n p) ≡ map (λ xs. f (filled p xs)) (assignments n p.variables)
-fillings_map n p f = map_twice f (filled p) (assignments n p.variables)
+fillings_map n p f = map-map f (filled p) (assignments n p.variables)
 
 pub linked_from_parts : (a : FiniteAlgebra) (l : Link) (d e : Tree) → l.pattern.variables ≡ l.next.variables → map (λ xs. eval a xs d) (fillings a.size l.pattern) ≡ map (λ xs. eval a xs e) (fillings a.size l.next) → AreLinked a l d e
 linked_from_parts a l d e same parts xs h =

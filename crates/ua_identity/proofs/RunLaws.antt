@@ -3,11 +3,12 @@ use Rattle.std.proofs.Common.{◌≡◌, ℕ, zero, suc, ◌+◌, ◌-◌, ◌*�
 use Rattle.std.specs.Prelude.{slice_index}
 use Rattle.std.specs.List.{flat_map, range_with_len}
 use Rattle.std.proofs.lemmas.Grind.{flat_map-append}
-use Rattle.std.proofs.lemmas.List.{append_assoc, append-nil, map-append}
+use Rattle.std.proofs.lemmas.List.{append_assoc, append-nil}
 use Rattle.std.proofs.lemmas.List.FromFn.{length-range_with_len}
 use Rattle.std.proofs.Math.Nat.{pow-suc, pow-zero, pow-le-pow_right}
 use Rattle.ua_table.specs.declared.limits.TheConstants.{WIDTH}
 use Rattle.ua_term.specs.Assignments.{assignments, projection}
+use Rattle.ua_table.proofs.Lists.{map-flat_map, flat_map_agree}
 use Rattle.ua_term.proofs.AssignmentLaws.{length_assignments}
 
 -- a list so often
@@ -39,14 +40,6 @@ same_pieces : {X Y : Type 0} (g : X → List Y) (ys : List Y) (h : (x : X) → g
 same_pieces g ys h [] = refl
 same_pieces g ys h (x ∷ xs) = (λ i. h x i ++ same_pieces g ys h xs i) ∙ turned (length xs) ys
 
-map_pieces : {X Y Z : Type 0} (f : Y → Z) (g : X → List Y) (xs : List X) → map f (flat_map g xs) ≡ flat_map (λ x. map f (g x)) xs
-map_pieces f g [] = refl
-map_pieces f g (x ∷ xs) = map-append f (g x) (flat_map g xs) ∙ ap (λ ys. map f (g x) ++ ys) (map_pieces f g xs)
-
-pieces_agree : {X Y : Type 0} (f g : X → List Y) (h : (x : X) → f x ≡ g x) (xs : List X) → flat_map f xs ≡ flat_map g xs
-pieces_agree f g h [] = refl
-pieces_agree f g h (x ∷ xs) = (λ i. h x i ++ pieces_agree f g h xs i)
-
 first_entries : (x : ℕ) (ts : List (List ℕ)) → map (λ (xs : List ℕ). slice_index xs 0) (map (λ (t : List ℕ). x ∷ t) ts) ≡ replicate (length ts) x
 first_entries x [] = refl
 first_entries x (t ∷ ts) = ap (λ ys. x ∷ ys) (first_entries x ts)
@@ -60,15 +53,15 @@ pub projection_is : (n k v : ℕ) → v < k → projection n k v ≡ copies (n ^
 projection_is n zero v l = absurd (omega (arith, l))
 projection_is n (suc k) zero l =
     let behind : suc k - 1 - 0 ≡ k = omega arith in
-    map_pieces (λ (xs : List ℕ). slice_index xs 0) (λ x. map (λ (t : List ℕ). x ∷ t) (assignments n k)) (range_with_len 0 n)
-    ∙ pieces_agree (λ x. map (λ (xs : List ℕ). slice_index xs 0) (map (λ (t : List ℕ). x ∷ t) (assignments n k))) (replicate (n ^ (suc k - 1 - 0)))
+    map-flat_map (λ (xs : List ℕ). slice_index xs 0) (λ x. map (λ (t : List ℕ). x ∷ t) (assignments n k)) (range_with_len 0 n)
+    ∙ flat_map_agree (λ x. map (λ (xs : List ℕ). slice_index xs 0) (map (λ (t : List ℕ). x ∷ t) (assignments n k))) (replicate (n ^ (suc k - 1 - 0)))
     (λ x. first_entries x (assignments n k) ∙ ap (λ m. replicate m x) (length_assignments n k ∙ ap (λ e. n ^ e) (sym behind))) (range_with_len 0 n)
     ∙ ap (λ m. copies m (round n (n ^ (suc k - 1 - 0)))) (sym (pow-zero n))
 projection_is n (suc k) (suc v) l =
     let behind : suc k - 1 - suc v ≡ k - 1 - v = omega arith in
     let product : n * n ^ v ≡ n ^ suc v = (let p = pow-suc n v in omega (arith, p)) in
     let many = length-range_with_len 0 n in
-    map_pieces (λ (xs : List ℕ). slice_index xs (suc v)) (λ x. map (λ (t : List ℕ). x ∷ t) (assignments n k)) (range_with_len 0 n)
+    map-flat_map (λ (xs : List ℕ). slice_index xs (suc v)) (λ x. map (λ (t : List ℕ). x ∷ t) (assignments n k)) (range_with_len 0 n)
     ∙ same_pieces (λ x. map (λ (xs : List ℕ). slice_index xs (suc v)) (map (λ (t : List ℕ). x ∷ t) (assignments n k))) (projection n k v) (λ x. later_entries x v (assignments n k)) (range_with_len 0 n)
     ∙ ap (λ m. copies m (projection n k v)) many
     ∙ ap (copies n) (projection_is n k v (omega (arith, l)))

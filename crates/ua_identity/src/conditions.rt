@@ -1,6 +1,6 @@
 //! Conditions on terms.
 
-ghost use Rattle.std.specs.Prelude.{◌≡◌, ◌<◌, ◌≤◌, ◌+◌, ◌↔◌, length, IsSome, IfSome, IfOk, IsTrue};
+ghost use Rattle.std.specs.Prelude.{◌≡◌, ◌<◌, ◌≤◌, ◌↔◌, length, IsSome, IfSome, IfOk, IsTrue};
 ghost use Rattle.std.specs.List.{AllByRecursion};
 ghost use Rattle.ua_identity.specs.declared.limits.TheConstants.{PLACES};
 ghost use Rattle.ua_identity.specs.Identities.{TermIdentity, over_two};

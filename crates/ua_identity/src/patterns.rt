@@ -1,8 +1,6 @@
 //! Patterns of variables.
 
-ghost use Rattle.std.specs.Prelude.{◌≡◌, ◌<◌, ◌≤◌, length, slice_index};
-ghost use Rattle.std.specs.List.{AllByRecursion};
-ghost use Rattle.ua_identity.specs.declared.limits.TheConstants.{LETTERS};
+ghost use Rattle.std.specs.Prelude.{◌≡◌, ◌<◌, length, slice_index};
 ghost use Rattle.ua_identity.specs.Conditions.{IsPattern};
 
 use std::marker::Model;

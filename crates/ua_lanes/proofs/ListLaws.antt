@@ -1,6 +1,6 @@
 -- Lists, their parts, and bits of numbers.
 use Rattle.std.proofs.Common.{◌≡◌, ℕ, zero, suc, ◌+◌, ◌-◌, ◌*◌, ◌/◌, ◌%◌, ◌^◌, ◌<◌, ◌≤◌, List, [], ◌∷◌, ◌++◌, length, map, take, drop, set, refl, sym, ap, ◌∙◌, subst, arith, ⊎_elim}
-use Rattle.std.specs.Prelude.{slice_index, slice_range}
+use Rattle.std.specs.Prelude.{slice_range}
 use Rattle.std.specs.List.{AllByRecursion, range_with_len}
 use Rattle.std.specs.Simd.Lanes.{number_l}
 use Rattle.std.proofs.Math.Nat.{pow-le-pow_right, mod-lt, div-eq_of_lt}
@@ -48,11 +48,6 @@ range_put_after xs ys a k b n long within after =
     let order : a ≤ a + k = omega arith in
     let same : drop (a + k) (put_mid a k xs ys) ≡ drop (a + k) xs = subst (λ m. drop (a + k) (put_mid a m xs ys) ≡ drop (a + k) xs) e (drop_put a (a + k) xs ys order within (long ∙ sym e)) in
     ap (take (b + n - b)) (ap (λ m. drop m (put_mid a k xs ys)) split ∙ sym (drop-drop (b - (a + k)) (a + k) (put_mid a k xs ys)) ∙ ap (drop (b - (a + k))) same ∙ drop-drop (b - (a + k)) (a + k) xs ∙ sym (ap (λ m. drop m xs) split))
-
-pub drop_more : (xs : List ℕ) (k : ℕ) → k < length xs → drop k xs ≡ slice_index xs k ∷ drop (suc k) xs
-drop_more [] k low = absurd (omega (arith, low))
-drop_more (x ∷ xs) zero low = refl
-drop_more (x ∷ xs) (suc k) low = drop_more xs k (omega (arith, low))
 
 -- ---- what a function makes of a range
 

@@ -4,8 +4,9 @@ use Rattle.std.specs.Prelude.{◌⊎◌, slice_index, slice_index_or, Contains}
 use Rattle.std.specs.List.{AllByRecursion}
 use Rattle.std.proofs.lemmas.Bool.{cases_lt, cases_eq}
 use Rattle.std.proofs.lemmas.List.Elements.{Contains-get_or, Contains-append_left, Contains-push}
+use Rattle.std.proofs.lemmas.List.{get_or_default}
 use Rattle.ua_table.specs.Algebras.{FiniteAlgebra}
-use Rattle.ua_table.proofs.Lists.{all_at, all_append, all_from_contains, all_weaker, any_default, Contains-head, Contains-tail, Contains-cases, Contains-none}
+use Rattle.ua_table.proofs.Lists.{all_at, all_append, all_from_contains, all_weaker, Contains-head, Contains-tail, Contains-cases, Contains-none}
 use Rattle.ua_part.specs.Partitions.{Partition, IsPartition, LiesBelow, IsJoin}
 use Rattle.ua_part.proofs.PartitionLaws.{below_through, below_both, below_from_leaders, leaders_from_below}
 use Rattle.ua_prod.specs.Congruences.{IsCongruence}
@@ -65,7 +66,7 @@ places_more list generators i k old new w p h = record {
 pub places_all : (list generators : List Partition) (i k : ℕ) (places : List ℕ) → length generators ≤ k → AreJoinPlacesOfFirst list generators i k places → AreJoinPlaces list generators i places
 places_all list generators i k places all h = record {
   joins = h.joins;
-  all = all_from_contains (HasJoinPlace list places i) generators (λ q c. subst (HasJoinPlace list places i) (any_default generators c.0 [] q c.1 ∙ c.2) (h.all c.0 (let w = c.1 in omega (arith, w, all))));
+  all = all_from_contains (HasJoinPlace list places i) generators (λ q c. subst (HasJoinPlace list places i) (get_or_default generators c.0 [] q c.1 ∙ c.2) (h.all c.0 (let w = c.1 in omega (arith, w, all))));
 }
 
 -- the same places in another order
@@ -91,7 +92,7 @@ search_below P test (suc n) =
 below_or_not : (p q : Partition) → IsPartition p → length p ≡ length q → LiesBelow p q ⊎ (¬ LiesBelow p q)
 below_or_not p q hp same =
     ⊎_elim
-    (λ all. inl (below_from_leaders p q hp same all))
+    (λ all. inl (below_from_leaders p q same all))
     (λ one. inr (λ below. one.2 (leaders_from_below p q hp below one.0 one.1)))
     (search_below (λ k. slice_index q k ≡ slice_index q (slice_index p k)) (λ k. cases_eq (slice_index q k) (slice_index q (slice_index p k))) (length p))
 

@@ -1,13 +1,13 @@
 -- Congruences that are found as joins.
 use Rattle.std.proofs.Common.{◌≡◌, ℕ, ◌+◌, ◌<◌, ◌≤◌, List, [], ◌∷◌, ◌++◌, length, sym, ap, ◌∙◌, subst, arith, ⊎_elim, append_assoc, append-nil, length-append}
-use Rattle.std.specs.Prelude.{true, Option, Some, None, Result, Ok, Err, IfSome, IfOk, is_some, slice_get, slice_index_or, Contains}
+use Rattle.std.specs.Prelude.{true, Option, Some, None, IfSome, is_some, slice_get, slice_index_or, Contains}
 use Rattle.std.specs.List.{AllByRecursion}
 use Rattle.std.proofs.lemmas.Bool.{true≢false, cases_lt}
-use Rattle.std.proofs.lemmas.List.{get_or_append_left}
+use Rattle.std.proofs.lemmas.List.{get_or_append_left, get_or_default}
 use Rattle.std.proofs.lemmas.List.FromFn.{length-range_with_len}
 use Rattle.std.proofs.lemmas.List.Elements.{Contains-append_left, Contains-append_cases, Contains-get_or, Contains-push}
 use Rattle.ua_table.specs.Algebras.{FiniteAlgebra, IsAlgebra}
-use Rattle.ua_table.proofs.Lists.{all_at, all_append, all_from_contains, any_default, Contains-slice_get, Contains-cases, Contains-none, Contains-head}
+use Rattle.ua_table.proofs.Lists.{all_at, all_append, all_from_contains, Contains-slice_get, Contains-cases, Contains-none, Contains-head}
 use Rattle.ua_part.specs.Partitions.{Partition, IsPartition, SameBlock, LiesBelow, IsJoin, identity_on}
 use Rattle.ua_part.proofs.PartitionLaws.{same_itself, below_itself, below_through, below_both, identity-IsPartition, identity-same}
 use Rattle.ua_prod.specs.Congruences.{IsCongruence}
@@ -22,10 +22,6 @@ use Rattle.ua_lattice.proofs.JoinedLaws.{join-IsCongruence, joined_closed}
 pub contains_found : (rows : List Partition) (v : Partition) (o : Option ℕ) → is_some o ≡ true → IfSome o (λ i. slice_get rows i ≡ Some v) → Contains rows v
 contains_found rows v None e h = absurd (true≢false (sym e))
 contains_found rows v (Some i) e h = Contains-slice_get rows i v h
-
-pub ok_both : {T E : Type 0} (r : Result T E) (P Q S : T → Type 0) → ((x : T) → P x → Q x → S x) → IfOk r P → IfOk r Q → IfOk r S
-ok_both (Ok x) P Q S f p q = f x p q
-ok_both (Err e) P Q S f p q = tt
 
 -- ---- the identity
 
@@ -92,7 +88,7 @@ HasFirstJoins old p i new = (k : ℕ) → k < i → (r : Partition) × Contains 
 pub first_joins_all : (old : List Partition) (p : Partition) (i : ℕ) (new : List Partition) → length old ≤ i → HasFirstJoins old p i new → HasJoins old p new
 first_joins_all old p i new all h q c =
     let j = h c.0 (let w = c.1 in omega (arith, w, all)) in
-    (j.0, j.1, subst (λ (s : Partition). IsJoin s p j.0) (any_default old c.0 [] q c.1 ∙ c.2) j.2)
+    (j.0, j.1, subst (λ (s : Partition). IsJoin s p j.0) (get_or_default old c.0 [] q c.1 ∙ c.2) j.2)
 
 pub first_joins_more : (old : List Partition) (p : Partition) (i : ℕ) (now new : List Partition) → i < length old → GoesOnWithJoins old p now → IsJoinEntered now (slice_index_or now i []) p new → HasFirstJoins old p i now → HasFirstJoins old p (i + 1) new
 first_joins_more old p i now new w g e h k low =

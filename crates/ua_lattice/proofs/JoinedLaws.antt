@@ -1,46 +1,30 @@
 -- Joins of congruences.
-use Rattle.std.proofs.Common.{◌≡◌, ℕ, zero, suc, ◌<◌, ◌≤◌, List, [], ◌∷◌, ◌++◌, length, sym, ◌∙◌, subst, arith, ⊎_elim, length-append}
+use Rattle.std.proofs.Common.{◌≡◌, ℕ, zero, suc, ◌<◌, ◌≤◌, List, ◌∷◌, ◌++◌, length, sym, ◌∙◌, subst, arith, ⊎_elim, length-append}
 use Rattle.std.specs.Prelude.{slice_index, Contains}
-use Rattle.std.specs.List.{AllByRecursion, AllZip}
 use Rattle.std.proofs.lemmas.Bool.{cases_lt}
 use Rattle.std.proofs.lemmas.List.FromFn.{length-range_with_len}
 use Rattle.std.proofs.lemmas.List.Elements.{Contains-append_left, Contains-append_cases}
 use Rattle.ua_table.specs.Algebras.{FiniteAlgebra, IsAlgebra, value_at}
 use Rattle.ua_table.proofs.ApplyLemmas.{value-below}
-use Rattle.ua_table.proofs.Lists.{all_append}
+use Rattle.ua_table.proofs.Lists.{all_append, all_front, all_back}
 use Rattle.ua_part.specs.Partitions.{Partition, IsPartition, SameBlock, LiesBelow, IsJoin, identity_on}
 use Rattle.ua_part.proofs.PartitionLaws.{same_itself, same_back, leader_same, below_through, below_from_leaders, below_both, identity-IsPartition, identity-same}
 use Rattle.ua_prod.specs.Congruences.{IsCongruence}
 use Rattle.ua_prod.proofs.Compatible.{congruence_from_translations}
 use Rattle.ua_cong.proofs.Normal.{join-size, join-constant}
+use Rattle.ua_cong.proofs.ClosingLaws.{around_pair}
 use Rattle.ua_cong.specs.Principals.{HasPrincipals}
 use Rattle.ua_lattice.specs.Lattices.{IsJoinClosed, IsJoinedWith}
 
 -- ---- the join of congruences is one
-
-front_of : (P : ℕ → Type 0) (xs ys : List ℕ) → AllByRecursion P (xs ++ ys) → AllByRecursion P xs
-front_of P [] ys h = tt
-front_of P (x ∷ xs) ys h = (h.0, front_of P xs ys h.1)
-
-back_of : (P : ℕ → Type 0) (xs ys : List ℕ) → AllByRecursion P (xs ++ ys) → AllByRecursion P ys
-back_of P [] ys h = h
-back_of P (x ∷ xs) ys h = back_of P xs ys h.1
-
-itself : (p : Partition) (n : ℕ) (us : List ℕ) → length p ≡ n → AllByRecursion (λ e. e < n) us → AllZip (SameBlock p) us us
-itself p n [] size h = tt
-itself p n (u ∷ us) size h = (same_itself p u (let w = h.0 in omega (arith, w, size)), itself p n us size h.1)
-
-around : (p : Partition) (n : ℕ) (ps ss : List ℕ) (x y : ℕ) → length p ≡ n → AllByRecursion (λ e. e < n) ps → AllByRecursion (λ e. e < n) ss → SameBlock p x y → AllZip (SameBlock p) (ps ++ x ∷ ss) (ps ++ y ∷ ss)
-around p n [] ss x y size front back s = (s, itself p n ss size back)
-around p n (u ∷ us) ss x y size front back s = (same_itself p u (let w = front.0 in omega (arith, w, size)), around p n us ss x y size front.1 back s)
 
 pub join-IsCongruence : (a : FiniteAlgebra) (p q r : Partition) → IsAlgebra a → IsCongruence a p → IsCongruence a q → IsJoin p q r → IsCongruence a r
 join-IsCongruence a p q r alg hp hq j =
     let same : length p ≡ length q = hp.size ∙ sym hq.size in
     let long : length r ≡ a.size = join-size p q r same j ∙ hp.size in
     congruence_from_translations a r alg j.partition long (λ f x y ps ss w count below yn s.
-    let front = front_of (λ e. e < a.size) ps (x ∷ ss) below in
-    let back = back_of (λ e. e < a.size) ps (x ∷ ss) below in
+    let front = all_front (λ e. e < a.size) ps (x ∷ ss) below in
+    let back = all_back (λ e. e < a.size) ps (x ∷ ss) below in
     let n = length-append ps (x ∷ ss) in
     let n' = length-append ps (y ∷ ss) in
     let one = value-below a f (ps ++ x ∷ ss) alg w count below in
@@ -49,8 +33,8 @@ join-IsCongruence a p q r alg hp hq j =
       left = omega (arith, one, long);
       right = omega (arith, two, long);
       same = join-constant p q r same j (λ z. slice_index r (value_at a f (ps ++ z ∷ ss)))
-          (λ u v t. (j.left (value_at a f (ps ++ u ∷ ss)) (value_at a f (ps ++ v ∷ ss)) (hp.compatible f (ps ++ u ∷ ss) (ps ++ v ∷ ss) w (let m = length-append ps (u ∷ ss) in omega (arith, m, n, count)) (around p a.size ps ss u v hp.size front back.1 t))).same)
-          (λ u v t. (j.right (value_at a f (ps ++ u ∷ ss)) (value_at a f (ps ++ v ∷ ss)) (hq.compatible f (ps ++ u ∷ ss) (ps ++ v ∷ ss) w (let m = length-append ps (u ∷ ss) in omega (arith, m, n, count)) (around q a.size ps ss u v hq.size front back.1 t))).same)
+          (λ u v t. (j.left (value_at a f (ps ++ u ∷ ss)) (value_at a f (ps ++ v ∷ ss)) (hp.compatible f (ps ++ u ∷ ss) (ps ++ v ∷ ss) w (let m = length-append ps (u ∷ ss) in omega (arith, m, n, count)) (around_pair p a.size hp.size ps ss u v front back.1 t))).same)
+          (λ u v t. (j.right (value_at a f (ps ++ u ∷ ss)) (value_at a f (ps ++ v ∷ ss)) (hq.compatible f (ps ++ u ∷ ss) (ps ++ v ∷ ss) w (let m = length-append ps (u ∷ ss) in omega (arith, m, n, count)) (around_pair q a.size hq.size ps ss u v front back.1 t))).same)
           x y s;
     })
 
@@ -118,14 +102,14 @@ module _ (a : FiniteAlgebra) (list : List Partition) (identity_in : Contains lis
   pub all_joins : Contains list q
   all_joins =
       let r = reach a.size (omega arith) in
-      let up : LiesBelow q r.member = below_from_leaders q r.member hq.partition (hq.size ∙ sym r.size) (λ k w. sym (r.leads k (let m = hq.size in omega (arith, w, m))).same) in
+      let up : LiesBelow q r.member = below_from_leaders q r.member (hq.size ∙ sym r.size) (λ k w. sym (r.leads k (let m = hq.size in omega (arith, w, m))).same) in
       subst (Contains list) (below_both r.member q r.partition hq.partition r.below up) r.inside
 
 -- ---- one more generator of joins
 
 -- the join of joins with p is the join with p of the join
-join_of_joins : (p s t s' t' u v : Partition) → IsPartition p → IsJoin s p s' → IsJoin t p t' → IsJoin s t u → IsJoin u p v → IsJoin s' t' v
-join_of_joins p s t s' t' u v hp js jt ju jv = record {
+join_of_joins : (p s t s' t' u v : Partition) → IsJoin s p s' → IsJoin t p t' → IsJoin s t u → IsJoin u p v → IsJoin s' t' v
+join_of_joins p s t s' t' u v js jt ju jv = record {
   partition = jv.partition;
   left = js.least v jv.partition (below_through s u v ju.left jv.left) jv.right;
   right = jt.least v jv.partition (below_through t u v ju.right jv.left) jv.right;
@@ -172,6 +156,6 @@ joined_closed list more p hp closed joined x y cx cy =
     let t = joined.joins y more_y in
     let u = closed s.0 t.0 s.1 t.1 in
     let v = joined.all u.0 u.1 in
-    (v.0, v.1, join_of_joins p s.0 t.0 x y u.0 v.0 hp s.2 t.2 u.2 v.2))
+    (v.0, v.1, join_of_joins p s.0 t.0 x y u.0 v.0 s.2 t.2 u.2 v.2))
     (Contains-append_cases list more y cy))
     (Contains-append_cases list more x cx)

@@ -4,10 +4,10 @@ use Rattle.std.specs.Prelude.{slice_index, Contains}
 use Rattle.std.specs.List.{AllByRecursion}
 use Rattle.std.specs.List.Sorted.{IsStrictlyIncreasing}
 use Rattle.std.proofs.lemmas.Bool.{cases_lt, cases_order}
-use Rattle.std.proofs.lemmas.List.{get_or_append_left, get_or-append_right}
+use Rattle.std.proofs.lemmas.List.{get_or_append_left, get_or-append_right, get_or_default}
 use Rattle.std.proofs.lemmas.List.Kept.{AllPairs-from_increasing}
 use Rattle.std.proofs.lemmas.List.Elements.{All-from_recursion, Contains-get_or, Contains-push, Contains-append_left, Contains-push_cases}
-use Rattle.ua_table.proofs.Lists.{all_from_contains, any_default}
+use Rattle.ua_table.proofs.Lists.{all_from_contains}
 use Rattle.ua_part.specs.Partitions.{Partition, LiesBelow}
 use Rattle.ua_part.proofs.PartitionLaws.{below_itself, below_through}
 use Rattle.ua_lattice.specs.Places.{at, AreOrdered, LiesAboveOne, IsLeastAmong, AreLeast}
@@ -17,7 +17,7 @@ use Rattle.ua_lattice.proofs.OrderLaws.{place_up}
 
 -- a member stands at a place
 pub place_of : (xs : List ℕ) (x : ℕ) → Contains xs x → (k : ℕ) × (k < length xs) × (slice_index xs k ≡ x)
-place_of xs x c = (c.0, c.1, any_default xs c.0 0 x c.1 ∙ c.2)
+place_of xs x c = (c.0, c.1, get_or_default xs c.0 0 x c.1 ∙ c.2)
 
 -- one more number, above all of them
 pub increasing_push : (xs : List ℕ) (y : ℕ) → IsStrictlyIncreasing xs → ((x : ℕ) → Contains xs x → x < y) → IsStrictlyIncreasing (xs ++ y ∷ [])

@@ -2,7 +2,7 @@
 use Rattle.std.proofs.Common.{◌≡◌, ◌≢◌, ℕ, ◌+◌, ◌<◌, ◌≤◌, Bool, true, false, cond, List, [], ◌∷◌, length, take, get_or, refl, sym, ap, ◌∙◌, subst, arith, Ordering, ⊎_elim, nat_eq}
 use Rattle.std.specs.Prelude.{Contains, slice_index, ◌==◌}
 use Rattle.std.specs.List.{AllByRecursion, IsDistinct, filter, range_with_len}
-use Rattle.std.specs.List.Sorted.{IsPermutation, IsSorted, IsStrictlySortedBy}
+use Rattle.std.specs.List.Sorted.{IsSorted, IsStrictlySortedBy}
 use Rattle.std.specs.Bool.{Decides}
 use Rattle.std.specs.Cmp.{IsTotalOrder, on_total, back_total, then_total, nat_cmp_total, tied_itself, Equal-is, eq_by_cmp_equiv}
 use Rattle.std.specs.Cmp.Lexicographic.{slice_cmp, nat_list_cmp_total, pointwise, bytes_decides}
@@ -13,11 +13,9 @@ use Rattle.std.proofs.lemmas.Cmp.{ranked}
 use Rattle.std.proofs.lemmas.Map.Lookups.{exact_bytes}
 use Rattle.std.proofs.lemmas.Map.Keys.{sorted_from_all_adjacent, apart_from_distinct, Less-from_sorted, IsDistinct-from_sorted}
 use Rattle.std.proofs.lemmas.Map.Made.{length-le_from_is_member, is_member-Decides}
-use Rattle.std.proofs.lemmas.List.{length-map, get_or-map, length-take-le, get_or-take}
+use Rattle.std.proofs.lemmas.List.{length-map, get_or-map, length-take-le, get_or-take, get_or_default}
 use Rattle.std.proofs.lemmas.List.FromFn.{length-range_with_len, get_or-range_with_len}
-use Rattle.std.proofs.lemmas.List.Sorted.{All-permutation}
 use Rattle.std.proofs.lemmas.List.Elements.{All-from_get_or, recursion_from_All, All-from_recursion}
-use Rattle.ua_table.proofs.Lists.{any_default}
 use Rattle.ua_part.specs.Partitions.{Partition, IsPartition, LiesBelow}
 use Rattle.ua_part.specs.Blocks.{block_count}
 use Rattle.ua_part.proofs.PartitionLaws.{leaders_from_below, below_from_leaders, below_both}
@@ -25,10 +23,6 @@ use Rattle.ua_lattice.specs.declared.ordering.Counted.{Counted}
 use Rattle.ua_lattice.specs.Lattices.{by_blocks}
 use Rattle.ua_lattice.specs.Ordering.{IsCounted, partitions_of}
 use Rattle.ua_lattice.specs.Places.{at, AreOrdered}
-
--- what holds of each of a list, holds of each in another order
-pub all_permutation : {X : Type 0} (P : X → Type 0) (xs ys : List X) → IsPermutation xs ys → AllByRecursion P xs → AllByRecursion P ys
-all_permutation P xs ys p h = recursion_from_All P ys (All-permutation P xs ys p (All-from_recursion P xs h))
 
 -- ---- the order is total
 
@@ -151,7 +145,7 @@ module _ (p q : Partition) (hp : IsPartition p) (hq : IsPartition q) (same_size 
 
   -- as many blocks are the same blocks
   pub as_many_blocks : block_count p ≤ block_count q → p ≡ q
-  as_many_blocks h = below_both p q hp hq below (below_from_leaders q p hq (sym same_size) each)
+  as_many_blocks h = below_both p q hp hq below (below_from_leaders q p (sym same_size) each)
     where
       back : IsStronger (leads p) (leads q) (range_with_len 0 (length p))
       back = as_many_pass (leads p) (leads q) (range_with_len 0 (length p)) stronger (let e = counted_q in omega (arith, e, h))
@@ -227,6 +221,6 @@ module _ (list : List Partition) (h : AreOrdered list) where
   not_before i p wi is c =
       let long = length-take-le i list (omega (arith, wi)) in
       let low : c.0 < i = (let w = c.1 in omega (arith, w, long)) in
-      let there : at list c.0 ≡ p = sym (get_or-take i list c.0 [] low) ∙ any_default (take i list) c.0 [] p c.1 ∙ c.2 in
+      let there : at list c.0 ≡ p = sym (get_or-take i list c.0 [] low) ∙ get_or_default (take i list) c.0 [] p c.1 ∙ c.2 in
       let same = same_place c.0 i (omega (arith, low, wi)) wi (there ∙ is) in
       omega (arith, low, same)

@@ -1,5 +1,5 @@
 -- The partitions of principal congruences.
-use Rattle.std.proofs.Common.{◌≡◌, ◌≤◌, List, length, arith}
+use Rattle.std.proofs.Common.{◌≤◌, List, arith}
 use Rattle.std.specs.List.{AllByRecursion}
 use Rattle.ua_table.specs.Algebras.{FiniteAlgebra}
 use Rattle.ua_table.specs.declared.limits.TheConstants.{SIZE}

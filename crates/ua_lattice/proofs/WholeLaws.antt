@@ -3,7 +3,7 @@ use Rattle.std.proofs.Common.{◌≡◌, ℕ, ◌+◌, ◌<◌, List, length, �
 use Rattle.std.specs.List.{AllByRecursion}
 use Rattle.std.proofs.lemmas.List.Sorted.{length_permutation, Contains-permutation, IsPermutation-sym}
 use Rattle.ua_table.specs.Algebras.{FiniteAlgebra}
-use Rattle.ua_table.proofs.Lists.{all_at, all_from_contains}
+use Rattle.ua_table.proofs.Lists.{all_at, all_from_contains, all_permutation}
 use Rattle.ua_part.specs.Partitions.{Partition, identity_on}
 use Rattle.ua_prod.specs.Congruences.{IsCongruence}
 use Rattle.ua_cong.specs.Principals.{HasPrincipals}
@@ -11,7 +11,6 @@ use Rattle.ua_lattice.specs.Lattices.{IsCongruenceList, AreCovers, IsExceedingLi
 use Rattle.ua_lattice.specs.Joins.{IsSpanned, IsSpannedLattice, AreAmong}
 use Rattle.ua_lattice.specs.Ordering.{IsArranged}
 use Rattle.ua_lattice.proofs.JoinedLaws.{all_joins}
-use Rattle.ua_lattice.proofs.OrderLaws.{all_permutation}
 
 module _ (rows list : List Partition) (h : IsArranged rows list) where
   into_list : AreAmong rows list

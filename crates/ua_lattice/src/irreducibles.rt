@@ -1,6 +1,6 @@
 //! The places that have exactly one lower cover.
 
-ghost use Rattle.std.specs.Prelude.{◌≡◌, ◌==◌, ◌<◌, ◌^◌, ℕ, length, map, count_by, IfOk};
+ghost use Rattle.std.specs.Prelude.{◌≡◌, ◌==◌, ◌<◌, ◌^◌, ℕ, map, IfOk};
 ghost use Rattle.std.specs.List.{AllByRecursion, range_with_len};
 ghost use Rattle.ua_lattice.specs.Lattices.{AreIrreducible};
 ghost use Rattle.ua_lattice.specs.Places.{lower_covers};

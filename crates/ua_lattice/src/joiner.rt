@@ -1,7 +1,7 @@
 //! Joins of partitions that are rows of elements: the least member of each element's block.
 
-ghost use Rattle.std.specs.Prelude.{◌≡◌, ◌≤◌, ℕ, ◌<◌, ◌↔◌, length, slice_index, slice_index_or, vec_len, IfOk, IsTrue};
-ghost use Rattle.ua_part.specs.Partitions.{IsPartition, IsPart, LiesBelow, IsJoin};
+ghost use Rattle.std.specs.Prelude.{◌≡◌, ◌≤◌, ◌<◌, ◌↔◌, length, vec_len, IfOk, IsTrue};
+ghost use Rattle.ua_part.specs.Partitions.{IsPartition, LiesBelow, IsJoin};
 ghost use Rattle.ua_table.specs.declared.limits.TheConstants.{SIZE};
 
 use std::alloc::{AllocError, Global};

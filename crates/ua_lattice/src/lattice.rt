@@ -1,6 +1,6 @@
 //! All congruences of an algebra, with their order.
 
-ghost use Rattle.std.specs.Prelude.{◌≡◌, ◌<◌, ◌≤◌, length, IfOk};
+ghost use Rattle.std.specs.Prelude.{◌<◌, ◌≤◌, IfOk};
 ghost use Rattle.std.specs.List.{AllByRecursion};
 ghost use Rattle.ua_table.specs.declared.limits.TheConstants.{WORKERS};
 ghost use Rattle.ua_prod.specs.Congruences.{IsCongruence};

@@ -1,7 +1,7 @@
 //! Readers and printers of identities.
 
 ghost use Rattle.std.specs.Prelude.{◌≡◌, ◌<◌, ◌≤◌, ◌∷◌, ◌++◌, List, [], length, map, false, codes, IfOk, OnOk};
-ghost use Rattle.std.specs.List.{AllByRecursion, flat_map};
+ghost use Rattle.std.specs.List.{flat_map};
 ghost use Rattle.ua_text.specs.declared.symbols.Role.{Role};
 ghost use Rattle.ua_text.specs.Printing.{Shows};
 ghost use Rattle.ua_text.specs.Signs.{Wanted, sign, Front};
@@ -9,7 +9,7 @@ ghost use Rattle.ua_text.specs.Tokens.{tokens_left, source_of};
 ghost use Rattle.ua_text.specs.Reading.{Gives, begins_with};
 ghost use Rattle.ua_operands.specs.declared.written.Variable.{Variable};
 ghost use Rattle.ua_operands.specs.declared.written.IdentityText.{IdentityText};
-ghost use Rattle.ua_operands.specs.Written.{variable, variable_word, arguments, identity};
+ghost use Rattle.ua_operands.specs.Written.{variable, arguments, identity};
 
 use crate::readers::{is_word, place_of};
 use crate::written::{IdentityText, Variable};

@@ -3,7 +3,8 @@ use Rattle.std.proofs.Common.{◌≡◌, ℕ, zero, suc, ◌+◌, ◌-◌, ◌<�
 use Rattle.std.specs.Prelude.{slice_index, ◌==◌, Contains}
 use Rattle.std.specs.List.{AllByRecursion, filter, range_with_len}
 use Rattle.std.proofs.lemmas.Bool.{eq-eqb}
-use Rattle.ua_table.proofs.Lists.{all_append, all_weaker, all_map, all_from_contains, any_default}
+use Rattle.std.proofs.lemmas.List.{get_or_default}
+use Rattle.ua_table.proofs.Lists.{all_append, all_weaker, all_map, all_from_contains}
 use Rattle.ua_part.specs.Partitions.{Partition, IsPartition}
 use Rattle.ua_part.specs.Blocks.{leaders}
 use Rattle.ua_part.proofs.BlockLaws.{passed_more, counted_more}
@@ -69,7 +70,7 @@ module _ (p : Partition) where
         each : (x : ℕ) → Contains p x → blocks_below p x < length (leaders p)
         each x c =
             let w = c.1 in
-            let is : slice_index p c.0 ≡ x = any_default p c.0 0 x c.1 ∙ c.2 in
+            let is : slice_index p c.0 ≡ x = get_or_default p c.0 0 x c.1 ∙ c.2 in
             let low = h.low c.0 c.1 in
             let own = h.least c.0 c.1 in
             block_number x (omega (arith, low, is, w)) (subst (λ y. slice_index p y ≡ y) is own)

@@ -9,7 +9,7 @@ use Rattle.std.specs.Ordering.{nat_cmp, ordering_then}
 use Rattle.std.specs.declared.cmp.Ordering.{Ordering}
 use Rattle.std.specs.declared.cmp.Ordering.TheVariants.{Less, Equal, Greater}
 use Rattle.std.proofs.lemmas.Bool.{cases_lt, cases_eq, eqb-true, eqb-false}
-use Rattle.std.proofs.lemmas.List.{get_or-map, get_or-take, length-take-le, length-map, take-append-drop}
+use Rattle.std.proofs.lemmas.List.{get_or-map, get_or-take, length-take-le, length-map, take-append-drop, get_or_default}
 use Rattle.std.proofs.lemmas.List.Elements.{All-from_recursion}
 use Rattle.std.proofs.lemmas.List.FromFn.{get_or-map-range_with_len}
 use Rattle.std.proofs.lemmas.List.Quantifiers.{position-Some}
@@ -19,7 +19,7 @@ use Rattle.std.proofs.lemmas.Option.{slice_get-get_or, slice_get_within}
 use Rattle.ua_table.specs.Algebras.{FiniteAlgebra, Operation, IsAlgebra, arities_of, numeral, value_at}
 use Rattle.ua_table.proofs.Choices.{chosen, choice_from}
 use Rattle.ua_table.proofs.Codes.{same_digits}
-use Rattle.ua_table.proofs.Lists.{any_default, Contains-head, Contains-tail, Contains-map_from, Contains-flat_map_from, all_at, all_append, all_from_contains, all_map, all_weaker, all_take_more}
+use Rattle.ua_table.proofs.Lists.{Contains-head, Contains-tail, Contains-map_from, Contains-flat_map_from, all_at, all_append, all_from_contains, all_map, all_weaker, all_take_more}
 use Rattle.ua_table.proofs.Searches.{none_passes}
 use Rattle.ua_prod.specs.Constructions.{value_of, tuples_among, place_among}
 use Rattle.ua_prod.specs.Escapes.{IsEscape, IsFirstEscape}
@@ -51,7 +51,7 @@ at_place set x c = by (position (λ m. m == x) set) refl
 -- and no other element does
 pub member_at : (set : List ℕ) (x : ℕ) → 0 < length set → (slice_index set (place_among set x) ≡ x) ↔ Contains set x
 member_at set x some = (
-  λ e. (place_among set x, place_below set x some, any_default set (place_among set x) x 0 (place_below set x some) ∙ e),
+  λ e. (place_among set x, place_below set x some, get_or_default set (place_among set x) x 0 (place_below set x some) ∙ e),
   at_place set x,
 )
 
@@ -141,7 +141,7 @@ module _ (o : Operation) (set : List ℕ) where
   first_among i args up low w before are out =
       let tuples = tuples_among set o.arity in
       let t = get_or tuples i [] in
-      let from = tuple_from set o.arity (get_or (tuples_among set o.arity) i []) (i, w, any_default tuples i (get_or (tuples_among set o.arity) i []) [] w) in
+      let from = tuple_from set o.arity (get_or (tuples_among set o.arity) i []) (i, w, get_or_default tuples i (get_or (tuples_among set o.arity) i []) [] w) in
       let below = all_weaker (Contains set) (λ x. x < o.size) (λ x c. all_at (λ y. y < o.size) set x low c) (get_or (tuples_among set o.arity) i []) from.members in
       let is : take o.arity args ≡ get_or (tuples_among set o.arity) i [] = same_digits o.size (take o.arity args) (get_or (tuples_among set o.arity) i []) are.below below (are.count ∙ sym from.count) are.number_is in
       record {
@@ -158,12 +158,12 @@ module _ (o : Operation) (set : List ℕ) where
             subst Stays (get_or-take i (tuples_among set o.arity) there.0 xs less ∙ there.2) stays)))
             (λ more. ⊎_elim
             (λ same. λ g.
-            let equal : take o.arity args ≡ xs = is ∙ ap (λ k. get_or (tuples_among set o.arity) k []) (sym same) ∙ any_default (tuples_among set o.arity) there.0 [] xs there.1 ∙ there.2 in
+            let equal : take o.arity args ≡ xs = is ∙ ap (λ k. get_or (tuples_among set o.arity) k []) (sym same) ∙ get_or_default (tuples_among set o.arity) there.0 [] xs there.1 ∙ there.2 in
             let e : slice_cmp nat_cmp (take o.arity args) xs ≡ Equal = ap (λ (ys : List ℕ). slice_cmp nat_cmp ys xs) equal ∙ cmp_same xs in
             cc)
             (λ apart. λ g.
             let less = Less-from_sorted (slice_cmp nat_cmp) (tuples_among set o.arity) i there.0 [] (sorted_tuples set o.arity up) (omega (arith, more, apart)) there.1 in
-            let e : slice_cmp nat_cmp (take o.arity args) xs ≡ Less = (λ l. slice_cmp nat_cmp (is l) (sym (any_default (tuples_among set o.arity) there.0 [] xs there.1 ∙ there.2) l)) ∙ less in
+            let e : slice_cmp nat_cmp (take o.arity args) xs ≡ Less = (λ l. slice_cmp nat_cmp (is l) (sym (get_or_default (tuples_among set o.arity) there.0 [] xs there.1 ∙ there.2) l)) ∙ less in
             cc)
             (cases_eq there.0 i))
             (cases_lt there.0 i);

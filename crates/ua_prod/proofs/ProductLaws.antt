@@ -11,6 +11,7 @@ use Rattle.std.proofs.lemmas.Slice.Zip.{length-zip}
 use Rattle.std.proofs.lemmas.List.Elements.{All-from_recursion}
 use Rattle.std.proofs.lemmas.Option.{slice_get_within, get_or_from_slice_get}
 use Rattle.std.proofs.lemmas.List.FromFn.{length-range_with_len}
+use Rattle.std.proofs.lemmas.Simd.{map-map}
 use Rattle.ua_table.specs.declared.limits.TheConstants.{SIZE, VALUES}
 use Rattle.ua_table.specs.Algebras.{FiniteAlgebra, Operation, IsOperation, arities_of, names_of, numeral, signature, values_of}
 use Rattle.ua_table.specs.Tables.{IsTable, IsAlgebraTable}
@@ -18,7 +19,7 @@ use Rattle.ua_table.proofs.Lists.{mapped_at, all_weaker}
 use Rattle.ua_prod.specs.Constructions.{value_of, tuples_among, first_of, second_of, pair_number, paired, side_by_side, product_of}
 use Rattle.ua_prod.specs.Sizes.{values_needed}
 use Rattle.ua_prod.proofs.SizeLaws.{each_within}
-use Rattle.ua_prod.proofs.TupleLaws.{tuples_mapped, map_map, count_tuples}
+use Rattle.ua_prod.proofs.TupleLaws.{tuples_mapped, count_tuples}
 use Rattle.ua_prod.proofs.RenumberingLaws.{all_mapped, all_both, read_below}
 
 -- ---- pairs by their numbers
@@ -43,7 +44,7 @@ pair_below n m x y low high = let more : suc x * m ≤ n * m = mul-le-mul_right 
 
 -- the numbers of the tuples of what f makes of some members
 pub numbers_mapped : (f : ℕ → ℕ) (n : ℕ) (xs digits numbers : List ℕ) (k : ℕ) → digits ≡ map f xs → numbers ≡ map (numeral n) (tuples_among digits k) → numbers ≡ map (λ t. numeral n (map f t)) (tuples_among xs k)
-numbers_mapped f n xs digits numbers k are is = is ∙ ap (λ ds. map (numeral n) (tuples_among ds k)) are ∙ ap (map (numeral n)) (tuples_mapped f xs k) ∙ map_map (numeral n) (map f) (tuples_among xs k)
+numbers_mapped f n xs digits numbers k are is = is ∙ ap (λ ds. map (numeral n) (tuples_among ds k)) are ∙ ap (map (numeral n)) (tuples_mapped f xs k) ∙ map-map (numeral n) (map f) (tuples_among xs k)
 
 -- the value of an operation that is read at the place of such a number
 pub value_mapped : (f : ℕ → ℕ) (o : Operation) (values numbers : List ℕ) (tuples : List (List ℕ)) (i number value : ℕ) → values ≡ o.values → numbers ≡ map (λ t. numeral o.size (map f t)) tuples → i < length tuples → number ≡ get_or numbers i number → value ≡ slice_index values number

@@ -11,12 +11,12 @@ use Rattle.std.proofs.lemmas.List.Elements.{All-from_recursion}
 use Rattle.std.proofs.lemmas.Map.Keys.{IsDistinct-head, IsDistinct-tail}
 use Rattle.std.proofs.lemmas.Map.Made.{AllPairs-from_IsDistinct, IsDistinct-from_AllPairs}
 use Rattle.std.proofs.lemmas.Map.Steps.{length-le_from_distinct_below}
-use Rattle.std.proofs.lemmas.Option.{slice_get-get_or}
+use Rattle.std.proofs.lemmas.Option.{slice_get-get_or, get_or_from_slice_get}
 use Rattle.ua_table.specs.Algebras.{FiniteAlgebra, Operation, IsOperation, names_of, values_of}
 use Rattle.ua_table.specs.Tables.{IsTable, IsAlgebraTable}
 use Rattle.ua_table.specs.Counting.{total}
 use Rattle.ua_table.proofs.Counts.{total-set, total-sum_by, total-map}
-use Rattle.ua_table.proofs.Lists.{found, All-slice_get, get_or-slice_get, mapped_at}
+use Rattle.ua_table.proofs.Lists.{found, All-slice_get, mapped_at}
 use Rattle.ua_prod.specs.Constructions.{operations_at, reduct_of}
 
 -- ---- different places of a list have together at most what all have
@@ -82,7 +82,7 @@ module _ (os : List Operation) where
   operations_total [] h = refl
   operations_total (f ∷ fs) h =
       let o = found os f h.0 in
-      let is : slice_index (map width os) f ≡ length o.0.values = get_or-slice_get (map width os) f (length o.0.values) 0 (mapped_at width os f o.0 o.1) in
+      let is : slice_index (map width os) f ≡ length o.0.values = get_or_from_slice_get (map width os) f (length o.0.values) 0 (mapped_at width os f o.0 o.1) in
       ap (total width) (first_stands os f fs o.0 o.1) ∙ (λ i. sym is i + operations_total fs h.1 i)
 
   pub operations_values : (fs : List ℕ) → IsDistinct nat_eq fs → AllByRecursion (λ f. f < length os) fs → values_of (operations_at os fs) ≤ values_of os
@@ -102,7 +102,7 @@ module _ (os : List Operation) where
   operations_names [] h = refl
   operations_names (f ∷ fs) h =
       let o = found os f h.0 in
-      let is : slice_index_or (names_of os) f [] ≡ o.0.name = get_or-slice_get (names_of os) f o.0.name [] (mapped_at (λ (w : Operation). w.name) os f o.0 o.1) in
+      let is : slice_index_or (names_of os) f [] ≡ o.0.name = get_or_from_slice_get (names_of os) f o.0.name [] (mapped_at (λ (w : Operation). w.name) os f o.0 o.1) in
       ap names_of (first_stands os f fs o.0 o.1) ∙ (λ i. sym is i ∷ operations_names fs h.1 i)
 
   pub operations_apart : (fs : List ℕ) → IsDistinct (pointwise nat_eq) (names_of os) → IsDistinct nat_eq fs → AllByRecursion (λ f. f < length os) fs → IsDistinct (pointwise nat_eq) (names_of (operations_at os fs))

@@ -6,10 +6,11 @@ use Rattle.std.specs.Cmp.Lexicographic.{pointwise}
 use Rattle.std.proofs.Math.Nat.{pow-le-pow_left}
 use Rattle.std.proofs.lemmas.List.{length-map}
 use Rattle.std.proofs.lemmas.List.Sums.{sum_by-cons}
+use Rattle.std.proofs.lemmas.Simd.{map-map}
 use Rattle.ua_table.specs.Algebras.{FiniteAlgebra, Operation, IsOperation, values_of}
 use Rattle.ua_table.specs.Tables.{IsTable, IsAlgebraTable}
 use Rattle.ua_prod.specs.Constructions.{value_of, tuples_among, renumbered, algebra_among}
-use Rattle.ua_prod.proofs.TupleLaws.{count_tuples, map_map}
+use Rattle.ua_prod.proofs.TupleLaws.{count_tuples}
 
 -- an error is no success
 pub refused : {A E : Type 0} (r : Result A E) (e : E) → r ≡ Err e → IsOk r → ⊥
@@ -76,6 +77,6 @@ module _ (members numbers : List ℕ) (some : 0 < length members) (n : ℕ) (few
         small = (let s = h.small in omega (arith, few, size, s));
         few = (let f = h.few in let l = length-map a.operations (renumbered members numbers) in omega (arith, f, l));
         tables = tables_kept a.operations h.tables sized;
-        names = subst (IsDistinct (pointwise nat_eq)) (sym (map_map (λ (o : Operation). o.name) (renumbered members numbers) a.operations)) h.names;
+        names = subst (IsDistinct (pointwise nat_eq)) (sym (map-map (λ (o : Operation). o.name) (renumbered members numbers) a.operations)) h.names;
         values = (let v = h.values in let k = values_kept a.operations h.tables sized in omega (arith, k, v));
       }

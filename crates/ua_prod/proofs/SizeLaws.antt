@@ -1,9 +1,9 @@
 -- How many values operations have together, and that the number is small.
-use Rattle.std.proofs.Common.{◌≡◌, ℕ, ◌+◌, ◌^◌, ◌<◌, ◌≤◌, Bool, true, false, List, [], ◌∷◌, length, take, get_or, refl, ap, ◌∙◌, arith}
-use Rattle.std.specs.Prelude.{◌||◌, nat_lt}
+use Rattle.std.proofs.Common.{◌≡◌, ℕ, ◌+◌, ◌^◌, ◌<◌, ◌≤◌, false, List, [], ◌∷◌, length, take, get_or, ap, ◌∙◌, arith}
+use Rattle.std.specs.Prelude.{nat_lt}
 use Rattle.std.specs.List.{AllByRecursion}
 use Rattle.std.proofs.Math.Nat.{pow-le-pow_left, pow-le-pow_right}
-use Rattle.std.proofs.lemmas.Bool.{ltb-false}
+use Rattle.std.proofs.lemmas.Bool.{ltb-false, or_parts}
 use Rattle.std.proofs.lemmas.List.{take_more, length-map}
 use Rattle.std.proofs.lemmas.List.Elements.{All-from_recursion}
 use Rattle.std.proofs.lemmas.List.Sums.{sum_by_push, sum_by-cons}
@@ -35,11 +35,7 @@ each_within n m (k ∷ ks) h = let e = sum_by-cons (λ k. n ^ k) k ks in (omega 
 
 -- what is not too large is within the limits
 pub within_limits : (n : ℕ) (arities : List ℕ) → is_too_large n arities ≡ false → (n ≤ SIZE) × (values_needed n arities ≤ VALUES)
-within_limits n arities e = let both = neither (nat_lt SIZE n) (nat_lt VALUES (values_needed n arities)) e in (ltb-false SIZE n both.0, ltb-false VALUES (values_needed n arities) both.1)
-  where
-    neither : (a b : Bool) → a || b ≡ false → (a ≡ false) × (b ≡ false)
-    neither true b e = cc
-    neither false b e = (refl, e)
+within_limits n arities e = let both = or_parts (nat_lt SIZE n) (nat_lt VALUES (values_needed n arities)) e in (ltb-false SIZE n both.0, ltb-false VALUES (values_needed n arities) both.1)
 
 -- the arities of an algebra are a shape
 pub arities-IsShape : (a : FiniteAlgebra) → IsAlgebraTable a → IsShape (arities_of a)

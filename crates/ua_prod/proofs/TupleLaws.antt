@@ -1,35 +1,24 @@
 -- The numbers of the tuples of some digits.
-use Rattle.std.proofs.Common.{◌≡◌, ℕ, zero, suc, ◌+◌, ◌*◌, ◌^◌, ◌<◌, List, [], ◌∷◌, ◌++◌, length, map, refl, sym, ap, ap₂, ◌∙◌, arith}
+use Rattle.std.proofs.Common.{◌≡◌, ℕ, zero, suc, ◌+◌, ◌*◌, ◌^◌, ◌<◌, List, [], ◌∷◌, ◌++◌, length, map, refl, sym, ap, ◌∙◌, arith}
 use Rattle.std.specs.Prelude.{fold}
 use Rattle.std.specs.List.{AllByRecursion, flat_map}
-use Rattle.std.proofs.lemmas.List.{map-append, length-map}
+use Rattle.std.proofs.lemmas.List.{length-map, append-nil}
 use Rattle.std.proofs.Math.Nat.{pow-zero}
 use Rattle.std.proofs.lemmas.List.Folds.{flat_map-map}
 use Rattle.std.proofs.lemmas.List.Concat.{flat_map_single}
 use Rattle.std.proofs.lemmas.Grind.{flat_map-append, pow_more}
+use Rattle.std.proofs.lemmas.Simd.{map-map}
 use Rattle.ua_table.specs.Algebras.{numeral}
 use Rattle.ua_table.proofs.Digits.{next_digit}
-use Rattle.ua_table.proofs.Lists.{all_append}
+use Rattle.ua_table.proofs.Lists.{all_append, map-flat_map, flat_map_agree}
 use Rattle.ua_table.proofs.SpanLaws.{length_pieces}
 use Rattle.ua_prod.specs.Constructions.{tuples_among}
 
 -- ---- lists of lists
 
-map_flat : {X Y Z : Type 0} (f : Y → Z) (g : X → List Y) (xs : List X) → map f (flat_map g xs) ≡ flat_map (λ x. map f (g x)) xs
-map_flat f g [] = refl
-map_flat f g (x ∷ xs) = map-append f (g x) (flat_map g xs) ∙ ap (λ ys. map f (g x) ++ ys) (map_flat f g xs)
-
 flat_flat : {X Y Z : Type 0} (h : Y → List Z) (g : X → List Y) (xs : List X) → flat_map h (flat_map g xs) ≡ flat_map (λ x. flat_map h (g x)) xs
 flat_flat h g [] = refl
 flat_flat h g (x ∷ xs) = flat_map-append h (g x) (flat_map g xs) ∙ ap (λ ys. flat_map h (g x) ++ ys) (flat_flat h g xs)
-
-flat_same : {X Y : Type 0} (g h : X → List Y) → ((x : X) → g x ≡ h x) → (xs : List X) → flat_map g xs ≡ flat_map h xs
-flat_same g h same [] = refl
-flat_same {Y = Y} g h same (x ∷ xs) = ap₂ (λ (ys zs : List Y). ys ++ zs) (same x) (flat_same g h same xs)
-
-pub map_map : {X Y Z : Type 0} (f : Y → Z) (g : X → Y) (xs : List X) → map f (map g xs) ≡ map (λ x. f (g x)) xs
-map_map f g [] = refl
-map_map f g (x ∷ xs) = ap (λ ys. f (g x) ∷ ys) (map_map f g xs)
 
 -- ---- numbers
 
@@ -44,19 +33,15 @@ module _ (n : ℕ) (ds : List ℕ) where
 
   first_digit : (m i : ℕ) → numbers_from m (suc i) ≡ flat_map (λ x. numbers_from (m * n + x) i) ds
   first_digit m i =
-      map_flat (λ t. fold (λ number digit. number * n + digit) m t) (λ x. map (λ t. x ∷ t) (tuples_among ds i)) ds
-      ∙ flat_same (λ x. map (λ t. fold (λ number digit. number * n + digit) m t) (map (λ t. x ∷ t) (tuples_among ds i))) (λ x. numbers_from (m * n + x) i) (λ x. map_map (λ t. fold (λ number digit. number * n + digit) m t) (λ t. x ∷ t) (tuples_among ds i)) ds
+      map-flat_map (λ t. fold (λ number digit. number * n + digit) m t) (λ x. map (λ t. x ∷ t) (tuples_among ds i)) ds
+      ∙ flat_map_agree (λ x. map (λ t. fold (λ number digit. number * n + digit) m t) (map (λ t. x ∷ t) (tuples_among ds i))) (λ x. numbers_from (m * n + x) i) (λ x. map-map (λ t. fold (λ number digit. number * n + digit) m t) (λ t. x ∷ t) (tuples_among ds i)) ds
 
   last_digit : (i m : ℕ) → flat_map with_each (numbers_from m i) ≡ numbers_from m (suc i)
-  last_digit zero m = flat_map-nil (with_each m) ∙ sym (first_digit m zero ∙ flat_map_single (λ x. m * n + x) ds)
-    where
-      flat_map-nil : (xs : List ℕ) → xs ++ [] ≡ xs
-      flat_map-nil [] = refl
-      flat_map-nil (x ∷ xs) = ap (λ ys. x ∷ ys) (flat_map-nil xs)
+  last_digit zero m = append-nil (with_each m) ∙ sym (first_digit m zero ∙ flat_map_single (λ x. m * n + x) ds)
   last_digit (suc i) m =
       ap (flat_map with_each) (first_digit m i)
       ∙ flat_flat with_each (λ x. numbers_from (m * n + x) i) ds
-      ∙ flat_same (λ x. flat_map with_each (numbers_from (m * n + x) i)) (λ x. numbers_from (m * n + x) (suc i)) (λ x. last_digit i (m * n + x)) ds
+      ∙ flat_map_agree (λ x. flat_map with_each (numbers_from (m * n + x) i)) (λ x. numbers_from (m * n + x) (suc i)) (λ x. last_digit i (m * n + x)) ds
       ∙ sym (first_digit m (suc i))
 
   -- one place more
@@ -87,6 +72,6 @@ pub tuples_mapped : (f : ℕ → ℕ) (xs : List ℕ) (k : ℕ) → tuples_among
 tuples_mapped f xs zero = refl
 tuples_mapped f xs (suc k) =
     flat_map-map (λ y. map (λ t. y ∷ t) (tuples_among (map f xs) k)) f xs
-    ∙ flat_same (λ x. map (λ t. f x ∷ t) (tuples_among (map f xs) k)) (λ x. map (map f) (map (λ t. x ∷ t) (tuples_among xs k)))
-    (λ x. ap (map (λ t. f x ∷ t)) (tuples_mapped f xs k) ∙ map_map (λ t. f x ∷ t) (map f) (tuples_among xs k) ∙ sym (map_map (map f) (λ t. x ∷ t) (tuples_among xs k))) xs
-    ∙ sym (map_flat (map f) (λ x. map (λ t. x ∷ t) (tuples_among xs k)) xs)
+    ∙ flat_map_agree (λ x. map (λ t. f x ∷ t) (tuples_among (map f xs) k)) (λ x. map (map f) (map (λ t. x ∷ t) (tuples_among xs k)))
+    (λ x. ap (map (λ t. f x ∷ t)) (tuples_mapped f xs k) ∙ map-map (λ t. f x ∷ t) (map f) (tuples_among xs k) ∙ sym (map-map (map f) (λ t. x ∷ t) (tuples_among xs k))) xs
+    ∙ sym (map-flat_map (map f) (λ x. map (λ t. x ∷ t) (tuples_among xs k)) xs)

@@ -1,7 +1,6 @@
 //! Quotients by congruences.
 
-ghost use Rattle.std.specs.Prelude.{◌≡◌, ◌<◌, ◌≤◌, length, map, slice_index, IfOk};
-ghost use Rattle.std.specs.List.{AllByRecursion};
+ghost use Rattle.std.specs.Prelude.{◌≡◌, ◌<◌, ◌≤◌, length, map, IfOk};
 ghost use Rattle.ua_table.specs.declared.limits.TheConstants.{SIZE};
 ghost use Rattle.ua_part.specs.Blocks.{leaders};
 ghost use Rattle.ua_prod.specs.Constructions.{blocks_below};

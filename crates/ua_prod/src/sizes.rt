@@ -1,6 +1,6 @@
 //! Whether an algebra would be within the limits.
 
-ghost use Rattle.std.specs.Prelude.{◌≡◌, ◌≤◌, map};
+ghost use Rattle.std.specs.Prelude.{◌≡◌, ◌≤◌};
 ghost use Rattle.ua_table.specs.declared.limits.TheConstants.{SIZE};
 ghost use Rattle.ua_table.specs.Numbering.{IsShape};
 ghost use Rattle.ua_prod.specs.Sizes.{values_needed, is_too_large};

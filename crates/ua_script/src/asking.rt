@@ -1,6 +1,6 @@
 //! The print of questions whose answers can be certified.
 
-ghost use Rattle.std.specs.Prelude.{◌≡◌, true, false, OnOk};
+ghost use Rattle.std.specs.Prelude.{true, false, OnOk};
 ghost use Rattle.ua_text.specs.Printing.{Shows};
 ghost use Rattle.ua_script.specs.declared.script.Command.{Command};
 ghost use Rattle.ua_script.specs.declared.script.Provable.{Provable};

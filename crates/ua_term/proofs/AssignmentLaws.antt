@@ -5,6 +5,7 @@ use Rattle.std.specs.List.{AllByRecursion, range_with_len}
 use Rattle.std.proofs.lemmas.List.{ext_get_or, get_or-map, length-map, length-replicate}
 use Rattle.std.proofs.lemmas.List.FromFn.{length-map-range_with_len, get_or-map-range_with_len}
 use Rattle.std.proofs.lemmas.Option.{slice_get-get_or}
+use Rattle.std.proofs.lemmas.Simd.{map-map}
 use Rattle.std.proofs.Math.Nat.{pow-suc, pow-zero}
 use Rattle.ua_table.specs.Algebras.{Vector, FiniteAlgebra, arities_of, numeral, column}
 use Rattle.ua_table.specs.declared.spans.Span.{Span}
@@ -14,7 +15,7 @@ use Rattle.ua_table.specs.Terms.{Tree, Generator, Application, IsTerm, term_valu
 use Rattle.ua_table.proofs.ApplyLemmas.{length-apply, numeral-below}
 use Rattle.ua_table.proofs.Choices.{IsChoice, chosen, choice_from, in_range, range_low}
 use Rattle.ua_table.proofs.Codes.{numeral-cons}
-use Rattle.ua_table.proofs.Lists.{slice_get-replicate}
+use Rattle.ua_table.proofs.Lists.{slice_get-replicate, Contains-head, Contains-tail}
 use Rattle.ua_table.proofs.SpanLaws.{IsInSpans, many, rank, length_tuples, rank_at}
 use Rattle.ua_table.proofs.TermLaws.{value_is_eval}
 use Rattle.ua_term.specs.Assignments.{IsAssignment, assignments, projection, projections, power_of_assignments, term_operation}
@@ -93,24 +94,21 @@ assignment_at n k xs h =
 -- ---- the value of a term at all of them
 
 -- what an assignment gives to the variables, in order, is the assignment
-read_all : (xs : List ℕ) (k : ℕ) → length xs ≡ k → map (slice_index xs) (range_with_len 0 k) ≡ xs
+pub read_all : (xs : List ℕ) (k : ℕ) → length xs ≡ k → map (slice_index xs) (range_with_len 0 k) ≡ xs
 read_all xs k long =
     let count = length-map-range_with_len (slice_index xs) 0 k in
     ext_get_or 0 (map (slice_index xs) (range_with_len 0 k)) xs (count ∙ sym long) (λ i l. get_or-map-range_with_len (slice_index xs) 0 k i i 0 (omega (arith, l, count)) (omega arith))
 
-map_twice : {X Y Z : Type 0} (f : Y → Z) (g : X → Y) (xs : List X) → map f (map g xs) ≡ map (λ x. f (g x)) xs
-map_twice f g [] = refl
-map_twice f g (x ∷ xs) = ap (λ ys. f (g x) ∷ ys) (map_twice f g xs)
-
-map_same : {X Y : Type 0} (f g : X → Y) (xs : List X) → ((x : X) → f x ≡ g x) → map f xs ≡ map g xs
-map_same f g [] h = refl
-map_same f g (x ∷ xs) h = (λ i. h x i ∷ map_same f g xs h i)
+-- two maps of a list are equal where they are at each element
+pub maps_agree : {X Y : Type 0} (f g : X → Y) (xs : List X) → ((x : X) → Contains xs x → f x ≡ g x) → map f xs ≡ map g xs
+maps_agree f g [] h = refl
+maps_agree f g (x ∷ xs) h = (λ i. h x (Contains-head x xs) i ∷ maps_agree f g xs (λ y c. h y (Contains-tail x y xs c)) i)
 
 -- the entries of the projections at a coordinate are the assignment that stands there
 column_is : (n k i : ℕ) → i < length (assignments n k) → length (get_or (assignments n k) i []) ≡ k → column (projections n k) i ≡ get_or (assignments n k) i []
 column_is n k i l long =
-    map_twice (λ (v : Vector). slice_index v i) (projection n k) (range_with_len 0 k)
-    ∙ map_same (λ j. slice_index (projection n k j) i) (slice_index (get_or (assignments n k) i [])) (range_with_len 0 k) (λ j. get_or-map (λ (xs : List ℕ). slice_index xs j) (assignments n k) i [] 0 l)
+    map-map (λ (v : Vector). slice_index v i) (projection n k) (range_with_len 0 k)
+    ∙ maps_agree (λ j. slice_index (projection n k j) i) (slice_index (get_or (assignments n k) i [])) (range_with_len 0 k) (λ j c. get_or-map (λ (xs : List ℕ). slice_index xs j) (assignments n k) i [] 0 l)
     ∙ read_all (get_or (assignments n k) i []) k long
 
 value_long : (a : FiniteAlgebra) (k : ℕ) (t : Tree) → IsTerm (arities_of a) k t → length (term_value (power_of_assignments a k) (projections a.size k) t) ≡ a.size ^ k
@@ -127,12 +125,12 @@ value_is_operation a k t h =
     ext_get_or 0 (term_value (power_of_assignments a k) (projections a.size k) t) (term_operation a k t) (long ∙ sym count ∙ sym (length-map (assignments a.size k) (λ xs. eval a xs t))) (λ i l.
     let low : i < a.size ^ k = omega (arith, l, long) in
     let within : i < length (assignments a.size k) = omega (arith, low, count) in
-    let stands = assignment_from a.size k (get_or (assignments a.size k) i []) (i, within, any_default (assignments a.size k) i within) in
+    let stands = assignment_from a.size k (get_or (assignments a.size k) i []) (i, within, get_or_default (assignments a.size k) i within) in
     value_is_eval (power_of_assignments a k) (projections a.size k) i a (slice_get-replicate (a.size ^ k) i a low) t
     ∙ ap (λ ys. eval a ys t) (column_is a.size k i within stands.count)
     ∙ sym (get_or-map (λ xs. eval a xs t) (assignments a.size k) i [] 0 within))
   where
-    any_default : (xs : List (List ℕ)) (i : ℕ) → i < length xs → get_or xs i (get_or xs i []) ≡ get_or xs i []
-    any_default [] i l = refl
-    any_default (x ∷ xs) zero l = refl
-    any_default (x ∷ xs) (suc i) l = any_default xs i (omega (arith, l))
+    get_or_default : (xs : List (List ℕ)) (i : ℕ) → i < length xs → get_or xs i (get_or xs i []) ≡ get_or xs i []
+    get_or_default [] i l = refl
+    get_or_default (x ∷ xs) zero l = refl
+    get_or_default (x ∷ xs) (suc i) l = get_or_default xs i (omega (arith, l))

@@ -4,7 +4,8 @@ use Rattle.std.proofs.lemmas.List.{length-take}
 use Rattle.ua_cong.specs.Closings.{AreElements}
 use Rattle.ua_cong.specs.Known.{known_pairs}
 use Rattle.ua_cong.specs.Principals.{pairs_below}
-use Rattle.ua_cong.proofs.PairLaws.{all_elements, all_of_slice, batch_more, few_pairs}
+use Rattle.ua_prod.proofs.Rows.{all_part}
+use Rattle.ua_cong.proofs.PairLaws.{all_elements, batch_more, few_pairs}
 use Rattle.ua_cong.proofs.pairs.known_principals.Goals as goal
 
 pub batches-init : goal.batches-init
@@ -19,7 +20,7 @@ pub advance-requires-clause-elements : goal.advance-requires-clause-elements
 advance-requires-clause-elements g c _ _ =
     let a = c.args.a.now in
     let pairs : c.deref.result.now ≡ pairs_below a.size = c.deref.ensures.value ∙ c.in_ok-pairs.ensures ∙ ap pairs_below c.size.ensures.size in
-    all_of_slice (AreElements a) _ _ c.deref.result.now (subst (AllByRecursion (AreElements a)) (sym pairs) (all_elements a))
+    all_part (AreElements a) _ _ c.deref.result.now (subst (AllByRecursion (AreElements a)) (sym pairs) (all_elements a))
 
 pub advance-requires-clause-room : goal.advance-requires-clause-room
 advance-requires-clause-room g c _ _ =

@@ -4,9 +4,10 @@ use Rattle.std.specs.List.{AllByRecursion}
 use Rattle.std.specs.Simd.Lanes.{number_l}
 use Rattle.std.proofs.lemmas.List.{length-drop}
 use Rattle.std.proofs.lemmas.List.FromFn.{length-map-range_with_len, get_or-map-range_with_len}
+use Rattle.std.proofs.Math.Seq.{drop-cons}
 use Rattle.ua_lanes.specs.Columns.{lane_of}
 use Rattle.ua_rows.proofs.LineLaws.{all_or}
-use Rattle.ua_lanes.proofs.ListLaws.{all_drop, number_small, drop_more}
+use Rattle.ua_lanes.proofs.ListLaws.{all_drop, number_small}
 use Rattle.ua_lanes.proofs.ColumnLaws.{lane_small}
 use Rattle.ua_lanes.proofs.columns.word_in.Goals as goal
 
@@ -28,7 +29,7 @@ one_before tile lane c word entry some within is here =
     let next : suc (c - 1) ≡ c = omega (arith, some) in
     let at : slice_index digits (c - 1) ≡ slice_index (slice_index_or tile (c - 1) []) lane = get_or-map-range_with_len (λ k. slice_index (slice_index_or tile k []) lane) 0 16 (c - 1) (c - 1) 0 below (omega arith) in
     let sum : word * 16 + entry ≡ slice_index digits (c - 1) + 16 * number_l 16 (drop (suc (c - 1)) digits) = (let e = is ∙ ap (λ n. number_l 16 (drop n digits)) (sym next) in let f = here ∙ sym at in omega (arith, e, f)) in
-    sum ∙ sym (ap (number_l 16) (drop_more digits (c - 1) low))
+    sum ∙ sym (ap (number_l 16) (drop-cons digits (c - 1) 0 low))
 
 pub overflow_mul-word : goal.overflow_mul-word
 overflow_mul-word c =

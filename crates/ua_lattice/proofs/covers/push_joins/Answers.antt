@@ -1,6 +1,6 @@
 use Rattle.std.proofs.Common.{[], ◌∙◌, sym, subst}
 use Rattle.std.proofs.lemmas.List.Elements.{All-from_recursion}
-use Rattle.ua_table.proofs.Lists.{any_default}
+use Rattle.std.proofs.lemmas.List.{get_or_default}
 use Rattle.ua_part.specs.Partitions.{Partition}
 use Rattle.ua_lattice.specs.Joins.{HasJoins}
 use Rattle.ua_lattice.specs.Places.{AreJoinPushed}
@@ -18,7 +18,7 @@ loop-k-preserved c =
     let rows = c.args.rows.now.items in
     let generators = c.args.generators.now in
     let k = c.loop-k.k in
-    let generator = c.index-generators-k.is ∙ any_default generators k c.index-generators-k.result [] c.loop-k-test.true in
+    let generator = c.index-generators-k.is ∙ get_or_default generators k c.index-generators-k.result [] c.loop-k-test.true in
     let old = c.loop-k.places.items in
     let new = c.push_join.new.places.items in
     record {

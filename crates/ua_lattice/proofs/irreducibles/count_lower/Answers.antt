@@ -1,6 +1,6 @@
 use Rattle.std.proofs.Common.{◌+◌, ◌<◌, get_or, set, rules, refl, sym, ◌∙◌, subst, arith}
 use Rattle.std.proofs.lemmas.List.Elements.{All-from_recursion}
-use Rattle.ua_table.proofs.Lists.{any_default}
+use Rattle.std.proofs.lemmas.List.{get_or_default}
 use Rattle.ua_lattice.proofs.CountLaws.{AreCounted, counted_none, counted_low, counted_more, counted_all}
 use Rattle.ua_lattice.proofs.irreducibles.count_lower.Goals as goal
 
@@ -11,7 +11,7 @@ overflow_add-index_mut c =
     let above = (get_or covers c.loop-k.k (0, 0)).1 in
     let low : above < c.args.count = All-from_recursion _ covers c.requires c.loop-k.k (0, 0) c.loop-k-test.true in
     let few = counted_low covers c.args.count c.loop-k.k counts above c.loop-k.invariant low (omega (arith, c.loop-k-test.true)) in
-    let here = c.index_mut.ensures.value ∙ any_default counts above c.index_mut.result.now 0 (let n = c.loop-k.invariant.size in omega (arith, low, n)) in
+    let here = c.index_mut.ensures.value ∙ get_or_default counts above c.index_mut.result.now 0 (let n = c.loop-k.invariant.size in omega (arith, low, n)) in
     omega (arith, few, here, c.loop-k-test.true)
 
 pub loop-k-init : goal.loop-k-init
@@ -23,7 +23,7 @@ loop-k-preserved c =
     let counts = c.loop-k.counts.items in
     let above = (get_or covers c.loop-k.k (0, 0)).1 in
     let low : above < c.args.count = All-from_recursion _ covers c.requires c.loop-k.k (0, 0) c.loop-k-test.true in
-    let here = c.index_mut.ensures.value ∙ any_default counts above c.index_mut.result.now 0 (let n = c.loop-k.invariant.size in omega (arith, low, n)) in
+    let here = c.index_mut.ensures.value ∙ get_or_default counts above c.index_mut.result.now 0 (let n = c.loop-k.invariant.size in omega (arith, low, n)) in
     subst (λ v. AreCounted covers c.args.count (c.loop-k.k + 1) (set counts above (v + 1))) (sym here) (counted_more covers c.args.count c.loop-k.k counts c.loop-k.invariant c.loop-k-test.true above refl low)
 
 pub returns : goal.returns

@@ -5,7 +5,8 @@ use Rattle.ua_table.proofs.Lists.{all_weaker}
 use Rattle.ua_part.specs.Partitions.{Partition, IsPartition}
 use Rattle.ua_prod.specs.Congruences.{IsCongruence}
 use Rattle.ua_lattice.specs.Joins.{IsSpannedLattice}
-use Rattle.ua_lattice.proofs.FoundLaws.{contains_found, ok_both, old_among, goes_congruences, generator_there, lattice_more}
+use Rattle.ua_table.proofs.Results.{IfOk-both}
+use Rattle.ua_lattice.proofs.FoundLaws.{contains_found, old_among, goes_congruences, generator_there, lattice_more}
 use Rattle.ua_lattice.proofs.joins.take_in.Goals as goal
 
 pub copy-requires-clause-few : goal.copy-requires-clause-few
@@ -41,7 +42,7 @@ returns-clause-found c =
     let old = c.args.found.now in
     let new = c.enter_joins.new.rows.items in
     let generators : c.push.new.self.items ≡ old.generators.items ++ c.args.part.now ∷ [] = c.in_ok-push.ensures.items ∙ ap (λ (p : Partition). old.generators.items ++ p ∷ []) c.in_ok-copy.ensures in
-    ok_both c.enter_joins.result _ _ _
+    IfOk-both c.enter_joins.result _ _ _
     (λ _ g all whole. subst (λ (gens : List Partition). IsSpannedLattice a gens new) (sym generators)
     (lattice_more a old.generators.items old.rows.items c.args.part.now new c.requires.algebra.algebra c.requires.found c.requires.congruence g (all whole)))
     c.enter_joins.ensures.joins
@@ -50,7 +51,7 @@ returns-clause-found c =
 pub returns-clause-there : goal.returns-clause-there
 returns-clause-there c =
     let old = c.args.found.now in
-    ok_both c.enter_joins.result _ _ _
+    IfOk-both c.enter_joins.result _ _ _
     (λ _ g all whole. generator_there c.args.search.now.algebra.now old.generators.items old.rows.items c.args.part.now c.enter_joins.new.rows.items c.requires.algebra.algebra c.requires.found c.requires.congruence g (all whole))
     c.enter_joins.ensures.joins
     c.enter_joins.ensures.all

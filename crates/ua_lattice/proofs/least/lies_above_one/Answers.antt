@@ -2,7 +2,7 @@ use Rattle.std.proofs.Common.{◌≡◌, [], sym, ◌∙◌, subst, arith, below
 use Rattle.std.specs.Prelude.{slice_index}
 use Rattle.std.proofs.lemmas.Bool.{false≢true, iff_false}
 use Rattle.std.proofs.lemmas.List.Elements.{All-from_recursion}
-use Rattle.ua_table.proofs.Lists.{any_default}
+use Rattle.std.proofs.lemmas.List.{get_or_default}
 use Rattle.ua_part.specs.Partitions.{Partition, LiesBelow}
 use Rattle.ua_lattice.specs.Places.{at}
 use Rattle.ua_lattice.proofs.LeastLaws.{place_of}
@@ -13,8 +13,8 @@ loop-k-preserved c =
     let list = c.args.list.now in
     let places = c.args.places.now in
     let low = All-from_recursion _ places c.requires.within c.loop-k.k 0 c.loop-k-test.true in
-    let left : at list (slice_index places c.loop-k.k) ≡ c.index-list-places.result = any_default list _ [] c.index-list-places.result low ∙ sym c.index-list-places.is in
-    let right : at list c.args.place ≡ c.index-list-place.result = any_default list _ [] c.index-list-place.result c.requires.place ∙ sym c.index-list-place.is in
+    let left : at list (slice_index places c.loop-k.k) ≡ c.index-list-places.result = get_or_default list _ [] c.index-list-places.result low ∙ sym c.index-list-places.is in
+    let right : at list c.args.place ≡ c.index-list-place.result = get_or_default list _ [] c.index-list-place.result c.requires.place ∙ sym c.index-list-place.is in
     below_more _ _ c.loop-k.invariant (λ below. iff_false c.le.ensures c.if-le.false (subst (λ (p : Partition). LiesBelow p c.index-list-place.result) left (subst (LiesBelow (at list (slice_index places c.loop-k.k))) right below)))
 
 pub returns : goal.returns

@@ -1,7 +1,8 @@
 use Rattle.std.proofs.Common.{◌≡◌, ◌++◌, ◌<◌, length, take, sym, ◌∙◌, ap, subst, arith}
 use Rattle.std.specs.List.{flat_map}
+use Rattle.std.proofs.lemmas.List.{take_all}
 use Rattle.ua_text.specs.Printing.{Shows}
-use Rattle.ua_text.proofs.Prints.{shows_both, flat_push, take_whole}
+use Rattle.ua_text.proofs.Prints.{shows_both, flat_push}
 use Rattle.ua_operands.specs.Written.{identity}
 use Rattle.ua_operands.proofs.identities.put_identities.Goals as goal
 
@@ -15,5 +16,5 @@ loop-i-preserved c =
 pub returns : goal.returns
 returns c =
     let vs = c.args.identities.now in
-    let e : take c.loop-i.i-index vs ≡ vs = take_whole vs c.loop-i.i-index (let f = c.loop-i-test.false in omega arith) in
+    let e : take c.loop-i.i-index vs ≡ vs = take_all c.loop-i.i-index vs (let f = c.loop-i-test.false in omega arith) in
     subst (λ z. Shows c.args.printer.now c.loop-i.printer (flat_map identity z)) e c.loop-i.invariant

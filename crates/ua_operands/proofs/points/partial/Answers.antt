@@ -1,4 +1,4 @@
-use Rattle.std.proofs.Common.{rules, ◌≡◌, ◌++◌}
+use Rattle.std.proofs.Common.{rules, ◌++◌}
 use Rattle.std.specs.List.{flat_map}
 use Rattle.ua_operands.specs.Written.{vector}
 use Rattle.ua_operands.proofs.points.partial.Goals as goal

@@ -1,8 +1,9 @@
 use Rattle.std.proofs.Common.{◌≡◌, ◌∷◌, ◌++◌, [], ◌<◌, length, map, take, sym, ap, ◌∙◌, subst, arith}
+use Rattle.std.proofs.lemmas.List.{map_more, take_all}
 use Rattle.ua_text.specs.declared.symbols.Role.TheVariants as roles
 use Rattle.ua_text.specs.Signs.{sign}
 use Rattle.ua_text.specs.Printing.{Shows}
-use Rattle.ua_text.proofs.Prints.{shows_both, map_push, take_whole}
+use Rattle.ua_text.proofs.Prints.{shows_both}
 use Rattle.ua_operands.specs.Written.{further}
 use Rattle.ua_operands.proofs.printers.put_further.Goals as goal
 
@@ -12,11 +13,11 @@ loop-w-preserved c =
     let below : i < length ws = let l = c.loop-w-test.true in omega arith in
     let put = subst (λ z. Shows c.loop-w.printer c.put.new.self (sign roles.Further z ∷ [])) c.text.ensures.text c.in_ok-put.ensures in
     let one : Shows c.loop-w.printer c.put.new.self (further w ∷ []) = record { text = put.text; last = put.last } in
-    subst (λ z. Shows c.args.printer.now c.put.new.self z) (sym (map_push further ws i w below ∙ ap (λ z. map further (take i ws) ++ further z ∷ []) (sym c.w-item.is)))
+    subst (λ z. Shows c.args.printer.now c.put.new.self z) (sym (map_more further ws i w below ∙ ap (λ z. map further (take i ws) ++ further z ∷ []) (sym c.w-item.is)))
     (shows_both c.args.printer.now c.loop-w.printer c.put.new.self (map further (take i ws)) (further w ∷ []) c.loop-w.invariant one)
 
 pub returns : goal.returns
 returns c =
     let ws = c.args.words.now in
-    let e : take c.loop-w.w-index ws ≡ ws = take_whole ws c.loop-w.w-index (let f = c.loop-w-test.false in omega arith) in
+    let e : take c.loop-w.w-index ws ≡ ws = take_all c.loop-w.w-index ws (let f = c.loop-w-test.false in omega arith) in
     subst (λ z. Shows c.args.printer.now c.loop-w.printer (map further z)) e c.loop-w.invariant

@@ -1,8 +1,9 @@
 use Rattle.std.proofs.Common.{◌≡◌, ◌++◌, ◌<◌, length, take, sym, ◌∙◌, ap, subst, arith}
 use Rattle.std.specs.List.{flat_map}
+use Rattle.std.proofs.lemmas.List.{take_all}
 use Rattle.ua_text.specs.declared.symbols.Role.TheVariants as roles
 use Rattle.ua_text.specs.Printing.{Shows}
-use Rattle.ua_text.proofs.Prints.{shows_both, flat_push, take_whole}
+use Rattle.ua_text.proofs.Prints.{shows_both, flat_push}
 use Rattle.ua_operands.specs.Written.{part_block}
 use Rattle.ua_operands.proofs.ReadLemmas.{blocks_flat}
 use Rattle.ua_operands.proofs.printers.put_part_blocks.Goals as goal
@@ -18,5 +19,5 @@ loop-block-preserved c =
 pub returns : goal.returns
 returns c =
     let bs = c.args.blocks.now in
-    let e : take c.loop-block.block-index bs ≡ bs = take_whole bs c.loop-block.block-index (let f = c.loop-block-test.false in omega arith) in
+    let e : take c.loop-block.block-index bs ≡ bs = take_all c.loop-block.block-index bs (let f = c.loop-block-test.false in omega arith) in
     subst (λ z. Shows c.args.printer.now c.loop-block.printer z) (sym (blocks_flat bs)) (subst (λ z. Shows c.args.printer.now c.loop-block.printer (flat_map (part_block roles.More) z)) e c.loop-block.invariant)

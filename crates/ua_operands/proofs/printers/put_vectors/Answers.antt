@@ -1,7 +1,8 @@
 use Rattle.std.proofs.Common.{◌≡◌, ◌++◌, ◌<◌, length, take, sym, ◌∙◌, ap, subst, arith}
 use Rattle.std.specs.List.{flat_map}
+use Rattle.std.proofs.lemmas.List.{take_all}
 use Rattle.ua_text.specs.Printing.{Shows}
-use Rattle.ua_text.proofs.Prints.{shows_both, flat_push, take_whole}
+use Rattle.ua_text.proofs.Prints.{shows_both, flat_push}
 use Rattle.ua_operands.specs.Written.{vector}
 use Rattle.ua_operands.proofs.printers.put_vectors.Goals as goal
 
@@ -15,5 +16,5 @@ loop-v-preserved c =
 pub returns : goal.returns
 returns c =
     let vs = c.args.vectors.now in
-    let e : take c.loop-v.v-index vs ≡ vs = take_whole vs c.loop-v.v-index (let f = c.loop-v-test.false in omega arith) in
+    let e : take c.loop-v.v-index vs ≡ vs = take_all c.loop-v.v-index vs (let f = c.loop-v-test.false in omega arith) in
     subst (λ z. Shows c.args.printer.now c.loop-v.printer (flat_map vector z)) e c.loop-v.invariant

@@ -1,9 +1,9 @@
 use Rattle.std.proofs.Common.{ℕ, map, ap, ◌∙◌, arith}
 use Rattle.std.specs.Prelude.{slice_index}
 use Rattle.std.proofs.lemmas.List.{take_all}
+use Rattle.std.proofs.lemmas.Simd.{map-map}
 use Rattle.ua_table.specs.Algebras.{numeral}
 use Rattle.ua_prod.specs.Constructions.{tuples_among}
-use Rattle.ua_prod.proofs.TupleLaws.{map_map}
 use Rattle.ua_prod.proofs.renumbering.values_among.Goals as goal
 
 pub returns : goal.returns
@@ -18,4 +18,4 @@ returns c =
     let places = c.in_ok-places.ensures.numbers ∙ (λ j. map (numeral (c.size.ensures.size j)) (tuples_among (c.as_slice.ensures.value j) (c.arity.ensures.arity j))) in
     c.loop-i.invariant
     ∙ ap (map (λ (k : ℕ). slice_index numbers (slice_index o.values k))) (all ∙ places)
-    ∙ map_map (λ (k : ℕ). slice_index numbers (slice_index o.values k)) (numeral o.size) (tuples_among members o.arity)
+    ∙ map-map (λ (k : ℕ). slice_index numbers (slice_index o.values k)) (numeral o.size) (tuples_among members o.arity)

@@ -1,7 +1,7 @@
 use Rattle.std.proofs.Common.{◌≡◌, ◌+◌, ◌<◌, length, ap, sym, subst, ◌∙◌, arith}
 use Rattle.std.specs.Prelude.{slice_index}
 use Rattle.ua_part.specs.Partitions.{merged}
-use Rattle.ua_part.proofs.JoinLaws.{IsJoinedBelow, joined_none, joined_leader, joined_more}
+use Rattle.ua_part.proofs.JoinLaws.{IsJoinedBelow, joined_leader, joined_more}
 use Rattle.ua_part.proofs.sets.DisjointSets.unite_row.Goals as goal
 use Rattle.ua_part.proofs.sets.DisjointSets.unite_row.Goals.{then-leader-a, else-leader-a}
 
