@@ -1,18 +1,18 @@
 -- Vectors in columns: what a tile, a block and a key say of them.
-use Rattle.std.proofs.Common.{◌≡◌, ◌≢◌, ℕ, ◌+◌, ◌-◌, ◌*◌, ◌/◌, ◌%◌, ◌<◌, ◌≤◌, Bool, List, [], ◌++◌, length, map, take, drop, get_or, set, Vec, sym, ap, ◌∙◌, subst, arith, ⊎_elim}
+use Rattle.std.proofs.Common.{◌≡◌, ◌≢◌, ℕ, ◌+◌, ◌-◌, ◌*◌, ◌/◌, ◌%◌, ◌<◌, ◌≤◌, Bool, List, [], ◌++◌, length, map, take, drop, Vec, sym, ap, ◌∙◌, subst, arith, ⊎_elim}
 use Rattle.std.specs.Prelude.{slice_index, slice_index_or, slice_range, IsTrue}
 use Rattle.std.specs.List.{AllByRecursion, range_with_len}
 use Rattle.std.specs.Simd.Lanes.{number_l}
 use Rattle.std.specs.declared.alloc.Global.{Global}
 use Rattle.std.proofs.Math.Nat.{mul-le-mul_right}
 use Rattle.std.proofs.lemmas.Grind.{same_number_lists}
-use Rattle.std.proofs.lemmas.List.{get_or-set_same, get_or-set_other, length-map, take-append-drop}
+use Rattle.std.proofs.lemmas.List.{length-map, take-append-drop, get_or-map}
 use Rattle.ua_lanes.specs.Tiles.{key_at}
 use Rattle.ua_lanes.specs.Columns.{AreSmall, entry_of, lane_of, key_of, words_for, block_of, vector_in, vectors_in, HasRoom, AreColumns}
 use Rattle.std.proofs.lemmas.Bool.{cases_lt}
 use borrow.Rule.Slice.PartMut.{put_mid}
 use Rattle.ua_rows.proofs.LineLaws.{all_or}
-use Rattle.ua_lanes.proofs.ListLaws.{all_map_range, map_range_same, mapped_or, range_before, range_put, range_put_before, range_put_after}
+use Rattle.ua_lanes.proofs.ListLaws.{all_map_range, map_range_same, range_before, range_put, range_put_before, range_put_after}
 
 -- ---- entries
 
@@ -28,11 +28,11 @@ key_same one other r long same =
     (λ j low.
     let in_one : j < length one = (let l = length-map one word in omega (arith, low, l)) in
     let in_other : j < length other = omega (arith, in_one, long) in
-    mapped_or word one j [] 0 in_one
+    get_or-map word one j [] 0 in_one
     ∙ ap (number_l 16) (map_range_same (λ c. slice_index (slice_index_or (slice_index_or one j []) c []) r) (λ c. slice_index (slice_index_or (slice_index_or other j []) c []) r) 0 16
     (λ c small. (let d : (16 * j + c) / 16 ≡ j = omega (arith, small) in let m : (16 * j + c) % 16 ≡ 0 + c = omega (arith, small) in
     subst (λ (q : ℕ × ℕ). slice_index (slice_index_or (slice_index_or one q.0 []) q.1 []) r ≡ slice_index (slice_index_or (slice_index_or other q.0 []) q.1 []) r) (λ i. (d i, m i)) (same (16 * j + c)))))
-    ∙ sym (mapped_or word other j [] 0 in_other))
+    ∙ sym (get_or-map word other j [] 0 in_other))
 
 -- ---- blocks
 

@@ -6,12 +6,14 @@ use Rattle.std.specs.Simd.Lanes.{number_l}
 use Rattle.std.specs.declared.alloc.Global.{Global}
 use Rattle.std.proofs.lemmas.Grind.{div_ceil_times}
 use Rattle.std.proofs.lemmas.List.FromFn.{length-map-range_with_len, get_or-map-range_with_len}
+use Rattle.std.proofs.lemmas.List.{get_or-map}
 use Rattle.ua_table.specs.Algebras.{Vector}
+use Rattle.ua_table.proofs.Lists.{all_take}
 use Rattle.ua_lanes.specs.Tiles.{looked_at, word_at, IsKeyAt}
 use Rattle.ua_lanes.specs.Columns.{AreSmall, entry_of, lane_of, key_of, words_for, block_of, vector_in, vectors_in, AreColumns, AreLines, values_at}
 use Rattle.ua_lanes.proofs.TileLaws.{digits_of_word, same_digits}
 use Rattle.ua_rows.proofs.LineLaws.{all_or}
-use Rattle.ua_lanes.proofs.ListLaws.{all_take, all_drop, all_map_range, map_range_same, mapped_or}
+use Rattle.ua_lanes.proofs.ListLaws.{all_drop, all_map_range, map_range_same}
 use Rattle.ua_lanes.proofs.ColumnLaws.{lane_small}
 use Rattle.ua_lanes.proofs.PushLaws.{block_whole, length_block}
 
@@ -42,7 +44,7 @@ module _ (f : ℕ → ℕ → ℕ) (lines block other : List (List (List ℕ))) 
 
   word_is : (j : ℕ) → j < words → number_l 16 (lane_of (slice_index_or other j []) lane) ≡ number_l 16 (map (looked j) (range_with_len 0 16))
   word_is j below =
-      sym (mapped_or (λ (tile : List (List ℕ)). number_l 16 (lane_of tile lane)) other j [] 0 (omega (arith, below, other_long)))
+      sym (get_or-map (λ (tile : List (List ℕ)). number_l 16 (lane_of tile lane)) other j [] 0 (omega (arith, below, other_long)))
       ∙ key j below ∙ ap (λ (ws : List ℕ). slice_index ws r) (are_words j (omega (arith, below, values_long)))
       ∙ get_or-map-range_with_len (word_at (slice_index_or lines j []) (slice_index_or block j [])) 0 16 r r 0 low (omega arith)
       ∙ digits_of_word (slice_index_or lines j []) (slice_index_or block j []) r (looked j) (λ c. are.below (16 * j + c) (cell j c)) (λ c column. scaled j c below column)
@@ -70,7 +72,7 @@ module _ (f : ℕ → ℕ → ℕ) (lines block other : List (List (List ℕ))) 
 block_small : (tiles : List (List (List ℕ))) (words b : ℕ) → AreSmall tiles → AreSmall (block_of tiles words b)
 block_small tiles words b small =
     let P = AllByRecursion (AllByRecursion (λ x. x < 16)) in
-    all_take P (drop (b * words) tiles) (b * words + words - b * words) (all_drop P tiles (b * words) small)
+    all_take P (b * words + words - b * words) (drop (b * words) tiles) (all_drop P tiles (b * words) small)
 
 module _ (width words count blocks : ℕ) (tiles : List (List (List ℕ))) (keys : Vec ℕ Global) (key front : List ℕ) (ready : Bool) (h : AreColumns width words count blocks tiles keys key front ready) where
   pub vector_at : (i : ℕ) → i < count → slice_index_or (vectors_in width tiles count) i [] ≡ vector_in width tiles i

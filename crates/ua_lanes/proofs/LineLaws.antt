@@ -7,7 +7,7 @@ use Rattle.std.proofs.lemmas.Grind.{same_number_lists}
 use Rattle.std.proofs.lemmas.List.{length-set, map-set}
 use Rattle.std.proofs.lemmas.List.FromFn.{length-map-range_with_len, get_or-map-range_with_len}
 use Rattle.ua_table.specs.Algebras.{Vector, Operation, FiniteAlgebra, Product, IsOperation, IsAlgebra, IsProduct, IsVector, numeral, value_at, column, apply}
-use Rattle.ua_table.proofs.Lists.{found, get_or-slice_get, mapped_at, All-slice_get, AllZip-length, AllZip-slice_get, all_weaker}
+use Rattle.ua_table.proofs.Lists.{found, get_or-slice_get, mapped_at, All-slice_get, AllZip-length, AllZip-slice_get, all_weaker, all_set}
 use Rattle.ua_table.specs.Tables.{IsTable}
 use Rattle.ua_table.proofs.Codes.{numeral-cons}
 use Rattle.ua_table.proofs.ApplyLemmas.{operation_at, length-apply, apply_at, numeral-below}
@@ -15,7 +15,6 @@ use Rattle.ua_rows.proofs.ApplyForms.{size_is}
 use Rattle.ua_lanes.specs.Columns.{values_at}
 use Rattle.ua_lanes.specs.Lines.{IsSmallProduct, size_at, algebra_at, line_value}
 use Rattle.ua_rows.proofs.LineLaws.{all_or}
-use Rattle.ua_rows.proofs.PageLaws.{all_set}
 
 -- ---- the algebra of a coordinate
 

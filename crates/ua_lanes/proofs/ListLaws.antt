@@ -1,38 +1,23 @@
 -- Lists, their parts, and bits of numbers.
-use Rattle.std.proofs.Common.{◌≡◌, ℕ, zero, suc, ◌+◌, ◌-◌, ◌*◌, ◌/◌, ◌%◌, ◌^◌, ◌<◌, ◌≤◌, List, [], ◌∷◌, ◌++◌, length, map, take, drop, get_or, set, refl, sym, ap, ◌∙◌, subst, arith, ⊎_elim}
-use Rattle.std.specs.Prelude.{slice_index, slice_range, replicate}
+use Rattle.std.proofs.Common.{◌≡◌, ℕ, zero, suc, ◌+◌, ◌-◌, ◌*◌, ◌/◌, ◌%◌, ◌^◌, ◌<◌, ◌≤◌, List, [], ◌∷◌, ◌++◌, length, map, take, drop, set, refl, sym, ap, ◌∙◌, subst, arith, ⊎_elim}
+use Rattle.std.specs.Prelude.{slice_index, slice_range}
 use Rattle.std.specs.List.{AllByRecursion, range_with_len}
 use Rattle.std.specs.Simd.Lanes.{number_l}
 use Rattle.std.proofs.Math.Nat.{pow-le-pow_right, mod-lt, div-eq_of_lt}
 use Rattle.std.proofs.Math.Arith.{mod-mul}
 use Rattle.std.proofs.lemmas.Nat.{pow-add, pow_pos, div-mul-add, mod-mul-add}
-use Rattle.std.proofs.lemmas.List.{length-drop, length-take-le, drop-append-le, take-append-le, take-append-drop, append-nil, take_all, drop_all, drop_at, drop-drop}
+use Rattle.std.proofs.lemmas.List.{length-drop, length-take-le, drop-append-le, take-append-le, take-append-drop, drop_at, drop-drop}
 use Rattle.std.proofs.Math.Seq.{take-append_seam}
 use borrow.Rule.Slice.PartMut.{put_mid, post_of, drop_put}
 use Rattle.std.proofs.lemmas.List.FromFn.{map-range_with_len_more}
 use Rattle.std.proofs.lemmas.Bool.{cases_lt}
 use Rattle.ua_table.proofs.Lists.{all_weaker, all_append}
 
-pub all_below : {X : Type 0} (P : X → Type 0) (xs : List X) (k : ℕ) (d : X) → k < length xs → AllByRecursion P xs → P (get_or xs k d)
-all_below P [] k d low all = absurd (omega (arith, low))
-all_below P (x ∷ xs) zero d low all = all.0
-all_below P (x ∷ xs) (suc k) d low all = all_below P xs k d (omega (arith, low)) all.1
-
 pub all_drop : {X : Type 0} (P : X → Type 0) (xs : List X) (n : ℕ) → AllByRecursion P xs → AllByRecursion P (drop n xs)
 all_drop P [] zero all = tt
 all_drop P [] (suc n) all = tt
 all_drop P (x ∷ xs) zero all = all
 all_drop P (x ∷ xs) (suc n) all = all_drop P xs n all.1
-
-pub all_take : {X : Type 0} (P : X → Type 0) (xs : List X) (n : ℕ) → AllByRecursion P xs → AllByRecursion P (take n xs)
-all_take P [] zero all = tt
-all_take P [] (suc n) all = tt
-all_take P (x ∷ xs) zero all = tt
-all_take P (x ∷ xs) (suc n) all = (all.0, all_take P xs n all.1)
-
-pub all_replicate : {X : Type 0} (P : X → Type 0) (n : ℕ) (x : X) → P x → AllByRecursion P (replicate n x)
-all_replicate P zero x here = tt
-all_replicate P (suc n) x here = (here, all_replicate P n x here)
 
 -- a part of a list that goes on
 pub range_before : {X : Type 0} (xs ys : List X) (a b : ℕ) → a ≤ b → b ≤ length xs → slice_range (xs ++ ys) a b ≡ slice_range xs a b
@@ -64,22 +49,10 @@ range_put_after xs ys a k b n long within after =
     let same : drop (a + k) (put_mid a k xs ys) ≡ drop (a + k) xs = subst (λ m. drop (a + k) (put_mid a m xs ys) ≡ drop (a + k) xs) e (drop_put a (a + k) xs ys order within (long ∙ sym e)) in
     ap (take (b + n - b)) (ap (λ m. drop m (put_mid a k xs ys)) split ∙ sym (drop-drop (b - (a + k)) (a + k) (put_mid a k xs ys)) ∙ ap (drop (b - (a + k))) same ∙ drop-drop (b - (a + k)) (a + k) xs ∙ sym (ap (λ m. drop m xs) split))
 
--- a vector of a `Vec` that was written through its slice
-pub rewritten : {X : Type 0} (n : ℕ) (ys xs : List X) → length ys ≡ length xs → length xs ≡ n → take n (ys ++ drop (length ys) xs) ≡ ys
-rewritten n ys xs same long =
-    let all : length xs ≤ length ys = omega (arith, same) in
-    ap (λ t. take n (ys ++ t)) (drop_all (length ys) xs all) ∙ ap (take n) (append-nil ys) ∙ take_all n ys (omega (arith, same, long))
-
 pub drop_more : (xs : List ℕ) (k : ℕ) → k < length xs → drop k xs ≡ slice_index xs k ∷ drop (suc k) xs
 drop_more [] k low = absurd (omega (arith, low))
 drop_more (x ∷ xs) zero low = refl
 drop_more (x ∷ xs) (suc k) low = drop_more xs k (omega (arith, low))
-
--- at each place a list of lists that was mapped
-pub mapped_or : {X Y : Type 0} (f : X → Y) (xs : List X) (k : ℕ) (d : X) (e : Y) → k < length xs → get_or (map f xs) k e ≡ f (get_or xs k d)
-mapped_or f [] k d e low = absurd (omega (arith, low))
-mapped_or f (x ∷ xs) zero d e low = refl
-mapped_or f (x ∷ xs) (suc k) d e low = mapped_or f xs k d e (omega (arith, low))
 
 -- ---- what a function makes of a range
 

@@ -14,8 +14,8 @@ use Rattle.ua_lanes.specs.Tiles.{key_at, IsKeyAt}
 use Rattle.ua_lanes.specs.Columns.{values_at}
 use Rattle.ua_lanes.specs.Quads.{IsBelow, quad_entry, quad_vector, quad_vectors, AreQuads, AreLongLines, values_in_word}
 use Rattle.ua_rows.proofs.LineLaws.{all_or}
-use Rattle.ua_table.proofs.Lists.{all_weaker, all_append}
-use Rattle.ua_lanes.proofs.ListLaws.{range_put, range_put_before, all_below, map_range_same}
+use Rattle.ua_table.proofs.Lists.{all_weaker, all_append, all_get_or}
+use Rattle.ua_lanes.proofs.ListLaws.{range_put, range_put_before, map_range_same}
 
 -- ---- places
 
@@ -145,7 +145,7 @@ module _ (width size words count : ℕ) (keys lines : List ℕ) (f : ℕ → ℕ
   entry_below : (x : ℕ) → x < width → quad_entry keys words (16 * block + r) x < size
   entry_below x inside =
       let s = spot width words count (16 * block + r) x is here inside in
-      all_or (λ y. y < size) (lanes_of (slice_index keys ((16 * block + r) * words + x / 4))) (x % 4) 0 some (all_below (IsBelow size) keys ((16 * block + r) * words + x / 4) 0 (omega (arith, s, long)) small)
+      all_or (λ y. y < size) (lanes_of (slice_index keys ((16 * block + r) * words + x / 4))) (x % 4) 0 some (all_get_or (IsBelow size) keys ((16 * block + r) * words + x / 4) 0 (omega (arith, s, long)) small)
 
   entry_known : (x : ℕ) → x < width → quad_entry keys words g x ≡ f x (quad_entry keys words (16 * block + r) x)
   entry_known x inside =

@@ -1,14 +1,15 @@
 -- Vectors of bytes.
 use Rattle.std.proofs.Common.{rules, ◌-◌, ◌≡◌, ℕ, zero, suc, ◌+◌, ◌*◌, ◌/◌, ◌%◌, ◌^◌, ◌<◌, ◌≤◌, List, [], ◌∷◌, ◌++◌, length, map, get_or, cond, true, false, refl, sym, ap, ◌∙◌, arith, w8, subst, bit_or, ◌⊎◌, inl, inr, Bool}
-use Rattle.std.specs.Int.Bits.{bit_xor, xor_self, xor_zero_l, xor_zero_r, xor_assoc, or_shifted_r}
+use Rattle.std.specs.Int.Bits.{bit_xor, or_shifted_r}
 use Rattle.std.proofs.lemmas.Nat.{le_or_l, le_or_r}
 use Rattle.std.proofs.Math.Nat.{eq-or-lt_of_le, add-mul-div_left, add-mul-mod_self_left, pow-le-pow_right, mod-eq_of_lt}
 use Rattle.std.proofs.lemmas.Nat.{pow-add, pow_pos, div-mul-add}
-use Rattle.std.specs.Prelude.{slice_index, slice_index_or}
+use Rattle.std.specs.Prelude.{slice_index}
 use Rattle.std.specs.List.{AllByRecursion, range_with_len}
 use lib.Lanes.{Each1, number_l, zip2}
 use mir.Val.{zeroes, bool_byte}
 use Rattle.ua_rows.proofs.LineLaws.{all_or}
+use Rattle.ua_rows.proofs.WordLaws.{same_from_xor}
 use Rattle.ua_lanes.specs.Tiles.{word_across, looked_at, word_at}
 use Rattle.std.proofs.lemmas.Simd.{swz_l, get_or-zip2}
 
@@ -81,11 +82,6 @@ looked_sum_at line js line' js' xs ys r low long long' is is' l l' =
 
 -- ---- two digits in a byte
 
-pub column_below : (columns : List (List ℕ)) (k r : ℕ) → AllByRecursion (AllByRecursion (λ x. x < 16)) columns → slice_index (slice_index_or columns k []) r < 16
-column_below [] k r h = omega arith
-column_below (v ∷ columns) zero r h = all_or (λ x. x < 16) v r 0 (omega arith) h.0
-column_below (v ∷ columns) (suc k) r h = column_below columns k r h.1
-
 two_digits : (a b x y p q : ℕ) → a ≡ 1 * p → b ≡ 16 * q → p < 16 → q < 16 → x ≡ y → (a + b) % 256 + 256 * x ≡ p + 16 * (q + 16 * y)
 two_digits a b x y p q ea eb lp lq e =
     let sum : a + b ≡ p + 16 * q = omega (arith, ea, eb) in
@@ -115,10 +111,6 @@ one_more P j before here k low = by_cases (eq-or-lt_of_le (omega (arith, low)))
     by_cases : (k ≡ j) ⊎ (k < j) → P k
     by_cases (inl e) = subst P (sym e) here
     by_cases (inr l) = before k l
-
-pub same_from_xor : (a b : ℕ) → bit_xor a b ≡ 0 → a ≡ b
-same_from_xor a b e =
-    sym (xor_zero_r a) ∙ ap (bit_xor a) (sym (xor_self b)) ∙ sym (xor_assoc a b b) ∙ ap (λ n. bit_xor n b) e ∙ xor_zero_l b
 
 pub none_differs : (bits a b : ℕ) → bit_or bits (bit_xor a b) ≡ 0 → (bits ≡ 0) × (a ≡ b)
 none_differs bits a b e =

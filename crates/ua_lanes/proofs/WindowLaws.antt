@@ -1,11 +1,11 @@
 -- What a window tells, and that it stays true.
-use Rattle.std.proofs.Common.{◌≡◌, ◌≢◌, ℕ, zero, suc, ◌+◌, ◌*◌, ◌<◌, List, [], ◌∷◌, ◌++◌, length, map, get_or, set, refl, sym, ap, ◌∙◌, subst, arith, ⊎_elim}
+use Rattle.std.proofs.Common.{◌≡◌, ◌≢◌, ℕ, suc, ◌+◌, ◌*◌, ◌<◌, List, [], ◌∷◌, ◌++◌, length, map, get_or, set, refl, sym, ap, ◌∙◌, subst, arith, ⊎_elim}
 use Rattle.std.specs.Prelude.{slice_index, slice_index_or, slice_set, Contains}
 use Rattle.std.specs.List.{AllByRecursion}
 use Rattle.std.proofs.Math.Seq.{take-set-lt}
 use Rattle.std.proofs.lemmas.Bool.{cases_eq}
 use Rattle.std.proofs.lemmas.Grind.{same_number_lists}
-use Rattle.std.proofs.lemmas.List.{length-append, length-set, map-set, get_or-set_same, get_or-set_other, get_or_append_left}
+use Rattle.std.proofs.lemmas.List.{length-append, length-set, map-set, get_or-set_same, get_or-set_other, get_or_append_left, set-set}
 use Rattle.std.proofs.lemmas.List.Elements.{Contains-append_left}
 use Rattle.ua_table.specs.Algebras.{Vector, FiniteAlgebra, Product, IsVector, arities, apply}
 use Rattle.ua_rows.specs.RowLists.{rows_at}
@@ -13,9 +13,7 @@ use Rattle.ua_lanes.specs.Columns.{AreLines, values_at}
 use Rattle.ua_lanes.specs.Lines.{IsSmallProduct, line_value}
 use Rattle.ua_lanes.specs.Windows.{tuple_of, IsKnown, HasLines, IsWindow}
 use Rattle.ua_lanes.specs.declared.windows.Window.{Window}
-use Rattle.ua_rows.proofs.PageLaws.{all_set}
-use Rattle.ua_table.proofs.Lists.{all_weaker}
-use Rattle.ua_lanes.proofs.ListLaws.{all_below}
+use Rattle.ua_table.proofs.Lists.{all_weaker, all_set, all_get_or}
 use Rattle.ua_lanes.proofs.LineLaws.{lines_apply}
 
 -- ---- tuples that agree but at one place
@@ -29,15 +27,10 @@ agreeing args fixed free long long' low same =
     (λ other. get_or-set_other fixed free k (slice_index args free) 0 other ∙ sym (same k four other))
     (cases_eq k free)))
 
-set_twice : (xs : List ℕ) (k a b : ℕ) → set (set xs k a) k b ≡ set xs k b
-set_twice [] k a b = refl
-set_twice (x ∷ xs) zero a b = refl
-set_twice (x ∷ xs) (suc k) a b = λ i. x ∷ set_twice xs k a b i
-
 -- whatever stands there
 pub agreeing_with : (args fixed : List ℕ) (free n : ℕ) → length args ≡ 4 → length fixed ≡ 4 → free < 4 → ((j : ℕ) → j < 4 → j ≢ free → slice_index args j ≡ slice_index fixed j) → slice_set fixed free n ≡ slice_set args free n
 agreeing_with args fixed free n long long' low same =
-    sym (set_twice fixed free (slice_index args free) n) ∙ ap (λ (xs : List ℕ). slice_set xs free n) (agreeing args fixed free long long' low same)
+    sym (set-set fixed free (slice_index args free) n) ∙ ap (λ (xs : List ℕ). slice_set xs free n) (agreeing args fixed free long long' low same)
 
 -- ---- a bit tells of a tuple
 
@@ -51,7 +44,7 @@ told_by_value p items f fixed free i place named vectors low there =
     let rows : set (rows_at items tuple) free v ≡ rows_at items (tuple_of p f (slice_set fixed free i)) = sym (map-set (λ a. slice_index_or items a []) tuple free i) ∙ ap (rows_at items) (sym taken) in
     record {
       named = subst (AllByRecursion (λ a. a < length items)) (sym taken) (all_set (λ a. a < length items) tuple free i low named);
-      stands = subst (Contains items) (lines_apply p f (rows_at items tuple) free v (all_below (IsVector p) items i [] low vectors) ∙ ap (apply p f) rows) there;
+      stands = subst (Contains items) (lines_apply p f (rows_at items tuple) free v (all_get_or (IsVector p) items i [] low vectors) ∙ ap (apply p f) rows) there;
     }
 
 -- ---- what was told stays true as vectors are added

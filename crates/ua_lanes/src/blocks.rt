@@ -1,6 +1,6 @@
 //! The values of lines at a block of sixteen vectors, and whether they are the vectors of some keys.
 
-ghost use Rattle.std.specs.Prelude.{◌≡◌, ℕ, ◌<◌, ◌≤◌, ◌-◌, [], length, map, slice_index, slice_index_or, IsTrue, true, false, ◌*◌, ◌/◌, ◌%◌, ◌^◌};
+ghost use Rattle.std.specs.Prelude.{◌≡◌, ℕ, ◌<◌, ◌≤◌, ◌-◌, [], length, map, slice_index, slice_index_or, IsTrue, true, ◌*◌, ◌/◌, ◌%◌, ◌^◌};
 ghost use Rattle.std.specs.List.{AllByRecursion, range_with_len};
 ghost use Rattle.ua_lanes.specs.Tiles.{word_at, IsSomeKeyAt};
 

@@ -1,6 +1,6 @@
 //! Vectors of a product of algebras of any size in lanes.
 
-ghost use Rattle.std.specs.Prelude.{◌≡◌, ◌^◌, ◌<◌, ◌≤◌, ◌++◌, [], ◌∷◌, length, slice_index, OnOk, IfOk};
+ghost use Rattle.std.specs.Prelude.{◌≡◌, ◌<◌, ◌≤◌, ◌++◌, [], ◌∷◌, length, slice_index, OnOk, IfOk};
 ghost use Rattle.std.specs.List.{AllByRecursion};
 ghost use Rattle.ua_table.specs.Algebras.{FiniteAlgebra, IsVector, arities};
 ghost use Rattle.ua_lanes.specs.Windows.{tuple_of, AreBitsOf};

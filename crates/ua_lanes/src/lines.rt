@@ -2,10 +2,10 @@
 
 ghost use Rattle.std.specs.Prelude.{◌≡◌, ◌≢◌, ℕ, ◌+◌, ◌*◌, ◌%◌, ◌^◌, ◌<◌, ◌≤◌, nat_lt, if◌then◌else◌, [], length, take, slice_index, slice_index_or, slice_set};
 ghost use Rattle.std.specs.List.{AllByRecursion};
-ghost use Rattle.ua_table.specs.Algebras.{IsVector, arities, column, numeral};
+ghost use Rattle.ua_table.specs.Algebras.{arities, column, numeral};
 ghost use Rattle.ua_rows.specs.RowLists.{rows_at};
-ghost use Rattle.ua_lanes.specs.Columns.{words_for, entry_of, AreLines};
-ghost use Rattle.ua_lanes.specs.Lines.{AreByteTiles, IsSmallProduct, line_value};
+ghost use Rattle.ua_lanes.specs.Columns.{AreLines};
+ghost use Rattle.ua_lanes.specs.Lines.{AreByteTiles, line_value};
 ghost use Rattle.ua_lanes.specs.Windows.{AreVectors};
 
 use crate::columns::Columns;

@@ -1,9 +1,8 @@
 //! A window on vectors in words: the lines of an operation, and what is known by them of sixteen tuples.
 
-ghost use Rattle.std.specs.Prelude.{◌≡◌, ◌*◌, ◌^◌, ◌<◌, ◌≤◌, [], length, slice_index, IfOk};
+ghost use Rattle.std.specs.Prelude.{◌≡◌, ◌*◌, ◌^◌, ◌<◌, ◌≤◌, length, slice_index, IfOk};
 ghost use Rattle.std.specs.List.{AllByRecursion};
 ghost use Rattle.ua_table.specs.Algebras.{Product, arities};
-ghost use Rattle.ua_rows.specs.Words.{words_for};
 ghost use Rattle.ua_lanes.specs.LargeLanes.{AreQuadVectors, IsLongWindow, IsLongLinedFor};
 ghost use Rattle.ua_lanes.specs.Quads.{QuadVectors};
 ghost use Rattle.ua_lanes.specs.Windows.{tuple_of, AreBitsOf};

@@ -6,7 +6,7 @@ ghost use Rattle.ua_table.specs.Algebras.{column};
 ghost use Rattle.ua_rows.specs.RowLists.{rows_at};
 ghost use Rattle.ua_rows.specs.Words.{lanes_of, words_for};
 ghost use Rattle.ua_lanes.specs.Columns.{values_at};
-ghost use Rattle.ua_lanes.specs.Quads.{IsBelow, AreLongLines};
+ghost use Rattle.ua_lanes.specs.Quads.{AreLongLines};
 
 use crate::blocks::known_lanes;
 use crate::fronts::{FRONT, enter, first_bits, hash_of, reserve_slots};

@@ -3,7 +3,7 @@ use Rattle.std.proofs.Common.{◌≡◌, ℕ, ◌<◌, List, [], ◌∷◌, ◌+
 use Rattle.std.specs.Prelude.{slice_get, slice_index, slice_index_or, Contains}
 use Rattle.std.specs.List.{AllByRecursion}
 use Rattle.std.specs.Option.{option_map}
-use Rattle.std.proofs.lemmas.List.{length-map, get_or-map, take-append-drop}
+use Rattle.std.proofs.lemmas.List.{length-map, get_or-map, take-append-drop, take_at, drop_at, get_or_default}
 use Rattle.std.proofs.lemmas.List.Elements.{All-from_recursion}
 use Rattle.std.proofs.lemmas.Option.{slice_get-map, slice_get-get_or, get_or_from_slice_get}
 use Rattle.ua_table.specs.declared.origins.Origin.{Origin}
@@ -13,8 +13,7 @@ use Rattle.ua_table.specs.Origins.{arguments_of}
 use Rattle.ua_table.specs.Counting.{EachOnceBelow}
 use Rattle.ua_table.specs.Listings.{Row, vectors_of, ranks_of}
 use Rattle.ua_table.specs.Orders.{Record, by_rank, rows_of}
-use Rattle.ua_table.proofs.Lists.{any_default, mapped_from, All-slice_get, all_from_contains, all_weaker, all_map}
-use Rattle.ua_table.proofs.Members.{take_seam, drop_seam}
+use Rattle.ua_table.proofs.Lists.{mapped_from, All-slice_get, all_from_contains, all_weaker, all_map}
 use Rattle.ua_rows.specs.RowLists.{rows_at}
 use Rattle.ua_listing.specs.Rankings.{IsRanking, ArePositions}
 use Rattle.ua_listing.specs.Arrangements.{origins_of, listed, IsIndex, by_position, origins_at, IsOriginOver, IsArranged}
@@ -66,7 +65,7 @@ module _ (rows : List Vector) (ranks places : List ℕ) (os : List Origin) (inde
   pub place_of : (r : ℕ) → r < length rows → IsPlaceOf r
   place_of r h =
       let c = once-some (length rows) ranks index.ranking.once r h in
-      let at : get_or ranks c.0 0 ≡ r = any_default ranks c.0 0 r c.1 ∙ c.2 in
+      let at : get_or ranks c.0 0 ≡ r = get_or_default ranks c.0 0 r c.1 ∙ c.2 in
       let place : get_or places r 0 ≡ c.0 = ap (λ n. get_or places n 0) (sym at) ∙ index.positions.each c.0 c.1 in
       record { within = omega (arith, place, c.1); rank = ap (λ n. get_or ranks n 0) place ∙ at }
 
@@ -77,7 +76,7 @@ module _ (rows : List Vector) (ranks places : List ℕ) (os : List Origin) (inde
       let h : c'.0 < length ranks = omega (arith, c'.1, length-map ranks (λ r. slice_index_or rows r [])) in
       let low = rank-below c'.0 h in
       let same : get_or rows (get_or ranks c'.0 0) [] ≡ v = sym (get_or-map (λ r. slice_index_or rows r []) ranks c'.0 0 v h) ∙ c'.2 in
-      (get_or ranks c'.0 0, low, any_default rows (get_or ranks c'.0 0) v [] low ∙ same)
+      (get_or ranks c'.0 0, low, get_or_default rows (get_or ranks c'.0 0) v [] low ∙ same)
 
 -- ---- origins by ranks and by positions
 
@@ -97,7 +96,7 @@ module _ (ks : List ℕ) (log : List Record) (ranks places : List ℕ) (ranking 
   pub ranks-within : AllByRecursion (λ r. r < length log) ranks
   ranks-within = all_from_contains (λ r. r < length log) ranks (λ r c.
       let low = once-below (length (rows_of log)) ranks ranking.once c.0 c.1 in
-      let at : get_or ranks c.0 0 ≡ r = any_default ranks c.0 0 r c.1 ∙ c.2 in
+      let at : get_or ranks c.0 0 ≡ r = get_or_default ranks c.0 0 r c.1 ∙ c.2 in
       omega (arith, low, at, length-map log (λ (q : Record). q.0)))
 
   -- ranks and positions undo each other
@@ -118,8 +117,8 @@ module _ (ks : List ℕ) (log : List Record) (ranks places : List ℕ) (ranking 
       let k = slice_index ks f in
       let there = map (λ a. slice_index places a) (take k args) in
       let n : length there ≡ k = length-map (take k args) (λ a. slice_index places a) ∙ v.valid.count in
-      let front : map (λ a. slice_index ranks a) (take k (there ++ drop k args)) ≡ take k args = ap (map (λ a. slice_index ranks a)) (take_seam k there (drop k args) n) ∙ map_back (λ a. slice_index places a) (λ a. slice_index ranks a) (take k args) (undone (take k args) v.valid.earlier) in
-      (λ l. Op f (front l ++ drop_seam k there (drop k args) n l)) ∙ ap (Op f) (take-append-drop k args)
+      let front : map (λ a. slice_index ranks a) (take k (there ++ drop k args)) ≡ take k args = ap (map (λ a. slice_index ranks a)) (take_at there (drop k args) k n) ∙ map_back (λ a. slice_index places a) (λ a. slice_index ranks a) (take k args) (undone (take k args) v.valid.earlier) in
+      (λ l. Op f (front l ++ drop_at there (drop k args) k n l)) ∙ ap (Op f) (take-append-drop k args)
 
   named_below : (o : Origin) → IsOriginOver ks (length log) o → AllByRecursion (λ a. a < length ranks) (arguments_of ks (by_position ks places o))
   named_below (Gen i) v = tt
@@ -127,7 +126,7 @@ module _ (ks : List ℕ) (log : List Record) (ranks places : List ℕ) (ranking 
       let k = slice_index ks f in
       let there = map (λ a. slice_index places a) (take k args) in
       let n : length there ≡ k = length-map (take k args) (λ a. slice_index places a) ∙ v.valid.count in
-      subst (AllByRecursion (λ a. a < length ranks)) (sym (take_seam k there (drop k args) n)) (placed_below (take k args) v.valid.earlier)
+      subst (AllByRecursion (λ a. a < length ranks)) (sym (take_at there (drop k args) k n)) (placed_below (take k args) v.valid.earlier)
 
   -- the row of a rank
   abbrev row_for : ℕ → Row

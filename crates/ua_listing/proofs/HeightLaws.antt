@@ -1,11 +1,10 @@
 -- A whole search reaches each row at its least height, by the first origin at it.
 use Rattle.std.proofs.Common.{◌≡◌, ◌↔◌, ⊎_elim, ℕ, zero, suc, ◌-◌, ◌<◌, ◌≤◌, List, [], ◌∷◌, ◌++◌, length, map, take, drop, fold, max, replicate, refl, sym, ap, ◌∙◌, subst, arith, Some}
-use Rattle.std.specs.Prelude.{Contains, slice_get, slice_index, slice_index_or, nat_eq, sum}
+use Rattle.std.specs.Prelude.{Contains, slice_get, slice_index, slice_index_or, nat_eq}
 use Rattle.std.specs.List.{AllByRecursion, IsDistinct}
 use Rattle.std.specs.Cmp.Lexicographic.{pointwise}
-use Rattle.std.proofs.lemmas.List.Sums.{get_or-le-sum_by}
 use Rattle.std.proofs.lemmas.Bool.{cases_lt}
-use Rattle.std.proofs.lemmas.List.{length-map, take-append-drop}
+use Rattle.std.proofs.lemmas.List.{length-map, take-append-drop, take_at, drop_at, get_or_default}
 use Rattle.std.proofs.lemmas.Option.{slice_get-get_or, get_or_from_slice_get}
 use Rattle.ua_table.specs.declared.origins.Origin.{Origin}
 use Rattle.ua_table.specs.declared.origins.Origin.TheVariants.{Gen, Op}
@@ -17,17 +16,15 @@ use Rattle.ua_table.specs.Orders.{height_of, IsHeight, IsFirstOrigin}
 use Rattle.ua_table.specs.Origins.{IsApplication, IsOrigin, arguments_of, origin_value}
 use Rattle.ua_table.specs.Slices.{slice_row, slice_operation, slice_tuples}
 use Rattle.ua_table.proofs.Choices.{greatest_low, greatest_tops}
-use Rattle.ua_table.proofs.Lists.{any_default, all_at, all_weaker, all_map, all_from_contains}
+use Rattle.ua_table.proofs.Lists.{all_at, all_weaker, all_map, all_from_contains}
 use Rattle.ua_table.proofs.SliceLaws.{bound_laws, slices_partition}
+use Rattle.ua_table.proofs.GeneratedLaws.{length-term_values}
+use Rattle.ua_table.proofs.Units.{positive_sum}
 use Rattle.ua_rows.specs.RowLists.{rows_at}
 use Rattle.ua_listing.specs.Searches.{height_in, origin_in, IsReached, IsSearch, IsVisited, no_arguments, IsTupleVisited, IsWholeSearch}
 use Rattle.ua_listing.specs.declared.searches.Search.{Search}
-use Rattle.ua_table.proofs.Members.{take_seam, drop_seam}
 use Rattle.ua_listing.proofs.MarkLaws.{marked_below}
 use Rattle.ua_listing.proofs.SearchLaws.{one_row}
-
-positive_sum : (ks : List ℕ) (f : ℕ) → f < length ks → 0 < slice_index ks f → 0 < sum ks
-positive_sum ks f in_range some = let le = get_or-le-sum_by (λ x. x) ks f 0 in_range in omega (arith, le, some)
 
 -- ---- the greatest of numbers
 
@@ -49,12 +46,12 @@ four_whole ks n f args valid = ap (λ rest. take (slice_index ks f) args ++ rest
 
 from_places : (ks : List ℕ) (n f : ℕ) (xs : List ℕ) → f < length ks → length xs ≡ slice_index ks f → AllByRecursion (λ a. a < n) xs → IsApplication ks n f (four_places ks f xs)
 from_places ks n f xs low count earlier =
-    let front = take_seam (slice_index ks f) xs (replicate (4 - slice_index ks f) 0) count in
+    let front = take_at xs (replicate (4 - slice_index ks f) 0) (slice_index ks f) count in
     record {
       operation = low;
       count = ap (length {A = ℕ}) front ∙ count;
       earlier = subst (AllByRecursion (λ a. a < n)) (sym front) earlier;
-      unused = drop_seam (slice_index ks f) xs (replicate (4 - slice_index ks f) 0) count;
+      unused = drop_at xs (replicate (4 - slice_index ks f) 0) (slice_index ks f) count;
     }
 
 -- numbers at which positions stand in a list
@@ -69,7 +66,7 @@ numbers_of order [] h = record { numbers = []; are = refl; within = tt; count = 
 numbers_of order (x ∷ xs) h =
     let rest = numbers_of order xs h.1 in
     let c = h.0 in
-    let here : slice_index order c.0 ≡ x = any_default order c.0 0 x c.1 ∙ c.2 in
+    let here : slice_index order c.0 ≡ x = get_or_default order c.0 0 x c.1 ∙ c.2 in
     record {
       numbers = c.0 ∷ rest.numbers;
       are = λ i. here i ∷ rest.are i;
@@ -100,7 +97,7 @@ module _ (p : Product) (gens vs : List Vector) (s : Search) (whole : IsWholeSear
       let row : slice_row (arities p) cut.slice < length s.order.items = (let e = cut.row in omega (arith, top, e)) in
       let below = (laws.below (length s.order.items) cut.slice (positive_sum (arities p) f low some)).1 row in
       let stands = cut.stands in
-      let here : Contains (slice_tuples (arities p) cut.slice) ns.numbers = (cut.number, stands.number, any_default (slice_tuples (arities p) cut.slice) cut.number ns.numbers [] stands.number ∙ stands.standing) in
+      let here : Contains (slice_tuples (arities p) cut.slice) ns.numbers = (cut.number, stands.number, get_or_default (slice_tuples (arities p) cut.slice) cut.number ns.numbers [] stands.number ∙ stands.standing) in
       let t = all_at (IsTupleVisited p gens vs s (slice_operation (arities p) cut.slice)) (slice_tuples (arities p) cut.slice) ns.numbers (whole.slices cut.slice below) here in
       subst (λ (x : ℕ × List ℕ). IsVisited p gens vs s (Op x.0 (four_places (arities p) x.0 x.1))) (λ i. (stands.operation i, ns.are i)) t.visited
 
@@ -132,10 +129,6 @@ module _ (p : Product) (gens vs : List Vector) (s : Search) (whole : IsWholeSear
     reached : AllByRecursion (IsReached s) places
     low : AllByRecursion (λ q. height_in s q ≤ h) places
 
-  length-values : (ts : Trees) → length (term_values p gens ts) ≡ count_of ts
-  length-values none = refl
-  length-values (more t ts) = ap suc (length-values ts)
-
   by_origin : (o : Origin) (v : Vector) (h : ℕ) → Sg p gens v → IsOrigin (arities p) (length gens) (length vs) o → AllByRecursion (IsReached s) (arguments_of (arities p) o) → origin_value p gens vs o ≡ v → height_of (arities p) s.heights.items o ≤ h → IsReachedBelow v h
   by_origin o v h g valid reached value low =
       let st = stands v g in
@@ -152,8 +145,8 @@ module _ (p : Product) (gens vs : List Vector) (s : Search) (whole : IsWholeSear
     reach_term (Generator i) h = by_origin (Gen i) (slice_index_or gens i []) 0 (record { term = Generator i; is_term = h; value = refl }) h tt refl (omega arith)
     reach_term (Application f ts) h =
         let all = reach_terms ts h.2 in
-        let count : length all.places ≡ slice_index (arities p) f = sym (length-map all.places (λ a. slice_index_or vs a [])) ∙ ap (length {A = Vector}) all.at ∙ length-values ts ∙ h.1 in
-        let front = take_seam (slice_index (arities p) f) all.places (replicate (4 - slice_index (arities p) f) 0) count in
+        let count : length all.places ≡ slice_index (arities p) f = sym (length-map all.places (λ a. slice_index_or vs a [])) ∙ ap (length {A = Vector}) all.at ∙ length-term_values p gens ts ∙ h.1 in
+        let front = take_at all.places (replicate (4 - slice_index (arities p) f) 0) (slice_index (arities p) f) count in
         by_origin (Op f (four_places (arities p) f all.places)) (term_value p gens (Application f ts)) (suc (greatest_height ts)) (record { term = Application f ts; is_term = h; value = refl })
         (from_places (arities p) (length vs) f all.places h.0 count (all_weaker (IsReached s) (λ a. a < length vs) reached_low all.places all.reached))
         (subst (AllByRecursion (IsReached s)) (sym front) all.reached)
@@ -178,7 +171,7 @@ module _ (p : Product) (gens vs : List Vector) (s : Search) (whole : IsWholeSear
   here q h = slice_get-get_or vs q [] h
 
   inside : (q : ℕ) → q < length vs → Sg p gens (slice_index_or vs q [])
-  inside q h = (member (slice_index_or vs q [])).0 (q, h, any_default vs q (slice_index_or vs q []) [] h)
+  inside q h = (member (slice_index_or vs q [])).0 (q, h, get_or_default vs q (slice_index_or vs q []) [] h)
 
   -- each row is reached
   pub all_reached : (q : ℕ) → q < length vs → IsReached s q

@@ -6,11 +6,11 @@ use Rattle.std.specs.Cmp.{nat_cmp_is}
 use Rattle.std.specs.Ordering.{nat_cmp, ordering_then, is_lt}
 use Rattle.std.specs.declared.cmp.Ordering.TheVariants.{Less, Equal}
 use Rattle.std.proofs.lemmas.Bool.{cases_lt}
-use Rattle.std.proofs.lemmas.List.{length-map, get_or-map, map-append}
+use Rattle.std.proofs.lemmas.List.{length-map, get_or-map, map-append, get_or_default}
 use Rattle.std.proofs.lemmas.List.Sorted.{IsPermutation-map, length_permutation, Contains-permutation, IsPermutation-sym}
 use Rattle.ua_table.specs.Counting.{EachOnceBelow, numbers_below}
 use Rattle.ua_table.proofs.Counts.{each_once-numbers_below, each_once-IsPermutation, length-numbers_below}
-use Rattle.ua_table.proofs.Lists.{any_default, Contains-map_from}
+use Rattle.ua_table.proofs.Lists.{Contains-map_from}
 use Rattle.ua_listing.specs.declared.sorting.HighRow.{HighRow}
 use Rattle.ua_listing.specs.Leasts.{ComesBefore, AreByHeight}
 use Rattle.ua_listing.specs.Rankings.{places_of}
@@ -73,7 +73,7 @@ module _ (heights : List ℕ) (ps : List High) (permutation : IsPermutation (hig
   height_at : (i : ℕ) (d : High) → i < length ps → (get_or ps i d).0 ≡ slice_index heights (get_or ps i d).1
   height_at i d h =
       let a = get_or ps i d in
-      let c = Contains-permutation ps (highs heights (length heights)) a (IsPermutation-sym (highs heights (length heights)) ps permutation) (i, h, any_default ps i a d h) in
+      let c = Contains-permutation ps (highs heights (length heights)) a (IsPermutation-sym (highs heights (length heights)) ps permutation) (i, h, get_or_default ps i a d h) in
       let m = Contains-map_from (λ i. (slice_index heights i, i)) a (numbers_below (length heights)) c in
       ap (λ (x : High). x.0) (sym m.2) ∙ ap (slice_index heights) (ap (λ (x : High). x.1) m.2)
 

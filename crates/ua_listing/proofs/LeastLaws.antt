@@ -1,41 +1,39 @@
 -- The least listing, from a whole search and the order of its rows.
-use Rattle.std.proofs.Common.{◌≡◌, ◌↔◌, inl, ⊎_elim, ℕ, suc, ◌<◌, List, [], ◌∷◌, length, get_or, refl, sym, ap, ◌∙◌, subst, arith}
+use Rattle.std.proofs.Common.{◌≡◌, ◌↔◌, inl, ⊎_elim, ℕ, suc, ◌<◌, List, [], ◌∷◌, length, get_or, sym, ap, ◌∙◌, subst, arith}
 use Rattle.std.specs.Prelude.{Contains, slice_index, slice_index_or}
 use Rattle.std.specs.List.{AllByRecursion}
 use Rattle.std.proofs.lemmas.Bool.{cases_lt}
-use Rattle.std.proofs.lemmas.List.{length-map, get_or-map}
+use Rattle.std.proofs.lemmas.List.{length-map, get_or-map, get_or_default}
+use Rattle.std.proofs.lemmas.Option.{get_or_from_slice_get}
 use Rattle.ua_table.specs.declared.origins.Origin.{Origin}
 use Rattle.ua_table.specs.declared.origins.Origin.TheVariants.{Gen, Op}
 use Rattle.ua_table.specs.Algebras.{Vector, Product, IsProduct, IsVector, IsIncreasing, arities}
 use Rattle.ua_table.specs.Counting.{EachOnceBelow}
-use Rattle.ua_table.specs.Terms.{Tree, Generator, Application, Trees, none, more, count_of, IsTerm, AreTerms, term_value, term_values}
+use Rattle.ua_table.specs.Terms.{Tree, Generator, Application, Trees, none, more, IsTerm, AreTerms, term_value, term_values}
 use Rattle.ua_table.specs.Generated.{Sg}
 use Rattle.ua_table.specs.Listings.{Row, vectors_of, ranks_of, IsMadeFrom, IsClosedListing}
 use Rattle.ua_table.specs.Numbering.{IsShape}
 use Rattle.ua_table.specs.Orders.{IsHeight, IsFirstOrigin, IsLeast}
 use Rattle.ua_table.specs.Origins.{IsOrigin, arguments_of, origin_value}
 use Rattle.ua_table.proofs.ApplyLemmas.{IsVector-apply}
-use Rattle.ua_table.proofs.Lists.{found, get_or-slice_get, any_default, all_at, all_from_contains, All-slice_get}
+use Rattle.ua_table.proofs.Lists.{found, all_at, all_from_contains, All-slice_get}
 use Rattle.ua_listing.specs.Arrangements.{origins_of}
 use Rattle.ua_listing.specs.Leasts.{ComesBefore, AreByHeight}
 use Rattle.ua_listing.specs.Rankings.{ArePositions}
 use Rattle.ua_listing.specs.Searches.{height_in, origin_in, IsWholeSearch}
 use Rattle.ua_listing.specs.declared.searches.Search.{Search}
 use Rattle.ua_table.proofs.Members.{zip_by_index}
+use Rattle.ua_table.proofs.GeneratedLaws.{length-term_values}
 use Rattle.ua_listing.proofs.HeightLaws.{is_height, is_first, arguments_lower}
 use Rattle.ua_listing.proofs.RearrangeLaws.{IsRankOf, rank_of, inverse_once, increasing_different}
 
 -- ---- members are vectors of the product
 
 module _ (p : Product) (gens : List Vector) (product : IsProduct p) (admitted : AllByRecursion (IsVector p) gens) where
-  length-values : (ts : Trees) → length (term_values p gens ts) ≡ count_of ts
-  length-values none = refl
-  length-values (more t ts) = let r = length-values ts in omega (arith, r)
-
   mutual
     term_vector : (t : Tree) → IsTerm (arities p) (length gens) t → IsVector p (term_value p gens t)
-    term_vector (Generator i) h = let there = found gens i h in subst (IsVector p) (sym (get_or-slice_get gens i there.0 [] there.1)) (All-slice_get (IsVector p) gens i there.0 admitted there.1)
-    term_vector (Application f ts) h = IsVector-apply p f (term_values p gens ts) product h.0 (length-values ts ∙ h.1) (term_vectors ts h.2)
+    term_vector (Generator i) h = let there = found gens i h in subst (IsVector p) (sym (get_or_from_slice_get gens i there.0 [] there.1)) (All-slice_get (IsVector p) gens i there.0 admitted there.1)
+    term_vector (Application f ts) h = IsVector-apply p f (term_values p gens ts) product h.0 (length-term_values p gens ts ∙ h.1) (term_vectors ts h.2)
 
     term_vectors : (ts : Trees) → AreTerms (arities p) (length gens) ts → AllByRecursion (IsVector p) (term_values p gens ts)
     term_vectors none h = tt
@@ -119,7 +117,7 @@ module _ (p : Product) (gens : List Vector) (b : ℕ) (old new : List Row) (s : 
   rank_at i d h = sym (get_or-map (λ (r : Row). r.rank) new i d 0 h)
 
   height_at : (i x : ℕ) → i < length (vectors_of old) → get_or s.heights.items i x ≡ height_in s i
-  height_at i x h = any_default s.heights.items i x 0 (let c = heights_count in omega (arith, c, h))
+  height_at i x h = get_or_default s.heights.items i x 0 (let c = heights_count in omega (arith, c, h))
 
   tall : (i : ℕ) → i < length (vectors_of old) → IsHeight p gens (slice_index_or (vectors_of old) i []) (height_in s i)
   tall i h = is_height p gens (vectors_of old) s whole shape (increasing_different (vectors_of old) inc) closed.exact i h

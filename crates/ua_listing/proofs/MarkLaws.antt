@@ -1,7 +1,7 @@
 -- Marks of rows.
 use Rattle.std.proofs.Common.{◌≡◌, ◌⊎◌, ◌↔◌, inl, inr, ⊎_elim, ℕ, zero, suc, ◌<◌, Bool, true, false, List, [], ◌∷◌, length, replicate, set, refl, sym, ap, ◌∙◌, arith}
 use Rattle.std.specs.Prelude.{slice_index_or}
-use Rattle.ua_table.proofs.Lists.{any_default}
+use Rattle.std.proofs.lemmas.List.{get_or_default}
 use Rattle.ua_listing.specs.Searches.{IsMarked}
 
 pub marked_below : (marks : List Bool) (q : ℕ) → IsMarked marks q → q < length marks
@@ -25,4 +25,4 @@ marked_set (b ∷ bs) (suc a) (suc q) h =
 
 -- a mark that was read
 pub mark_is : (marks : List Bool) (q : ℕ) (b : Bool) → q < length marks → b ≡ slice_index_or marks q b → slice_index_or marks q false ≡ b
-mark_is marks q b h e = any_default marks q false b h ∙ sym e
+mark_is marks q b h e = get_or_default marks q false b h ∙ sym e

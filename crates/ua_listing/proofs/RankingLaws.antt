@@ -8,13 +8,12 @@ use Rattle.std.specs.Ordering.{nat_cmp, ordering_then, ordering_reverse, is_lt}
 use Rattle.std.specs.declared.cmp.Ordering.TheVariants.{Less, Equal, Greater}
 use Rattle.std.proofs.lemmas.Map.Lookups.{exact_bytes}
 use Rattle.std.proofs.lemmas.Map.Keys.{sorted_from_all_adjacent, apart_from_distinct}
-use Rattle.std.proofs.lemmas.List.{length-map, get_or-map, take_more, take_all, length-take-le, map-append}
+use Rattle.std.proofs.lemmas.List.{length-map, get_or-map, take_more, take_all, length-take-le, map-append, get_or_default}
 use Rattle.std.proofs.lemmas.List.Sorted.{IsPermutation-map, length_permutation, Contains-permutation, IsPermutation-sym}
 use Rattle.std.proofs.lemmas.Bool.{cases_lt}
 use Rattle.ua_table.specs.Algebras.{Vector, IsIncreasing}
 use Rattle.ua_table.specs.Counting.{EachOnceBelow, numbers_below}
 use Rattle.ua_table.proofs.Counts.{each_once-numbers_below, each_once-IsPermutation}
-use Rattle.ua_table.proofs.Lists.{any_default}
 use Rattle.ua_rows.specs.RowLists.{rows_at}
 use Rattle.ua_listing.specs.declared.sorting.RankedRow.{RankedRow}
 use Rattle.ua_listing.specs.Rankings.{ranks_of_rows, IsRanking}
@@ -108,7 +107,7 @@ module _ (rows : List Vector) (ps : List Ranked) (different : IsDistinct (pointw
   ranked_row : (i : ℕ) (d : Ranked) → i < length ps → ((get_or ps i d).1 < length rows) × (get_or rows (get_or ps i d).1 [] ≡ (get_or ps i d).0)
   ranked_row i d h =
       let p = get_or ps i d in
-      let c = Contains-permutation ps (numbered 0 rows) p (IsPermutation-sym (numbered 0 rows) ps o.permutation) (i, h, any_default ps i p d h) in
+      let c = Contains-permutation ps (numbered 0 rows) p (IsPermutation-sym (numbered 0 rows) ps o.permutation) (i, h, get_or_default ps i p d h) in
       let low : c.0 < length rows = omega (arith, c.1, length-numbered 0 rows) in
       let r = numbered_at 0 rows c.0 p p low c.2 in
       let same : p.1 ≡ c.0 = omega (arith, r.0) in

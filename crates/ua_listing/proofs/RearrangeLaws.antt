@@ -6,13 +6,14 @@ use Rattle.std.specs.Cmp.Lexicographic.{slice_cmp, nat_list_cmp_total, pointwise
 use Rattle.std.specs.Ordering.{nat_cmp, ordering_reverse}
 use Rattle.std.specs.declared.cmp.Ordering.TheVariants.{Less, Greater}
 use Rattle.std.proofs.lemmas.Bool.{cases_lt}
-use Rattle.std.proofs.lemmas.List.{length-map, get_or-map, take_more, map-append, get_or_append_left}
+use Rattle.std.proofs.lemmas.List.{length-map, get_or-map, take_more, map-append, get_or_append_left, get_or_default}
 use Rattle.std.proofs.lemmas.Map.Keys.{Less-from_sorted, IsDistinct-from_sorted}
+use Rattle.std.proofs.Math.Seq.{get_or-append_seam}
 use Rattle.ua_table.specs.declared.origins.Origin.{Origin}
 use Rattle.ua_table.specs.Algebras.{Vector, IsIncreasing}
 use Rattle.ua_table.specs.Counting.{EachOnceBelow, times, numbers_below}
 use Rattle.ua_table.proofs.Counts.{length-numbers_below, once_in, once_out, one_if-same, one_if-other}
-use Rattle.ua_table.proofs.Lists.{any_default, Contains-map_from}
+use Rattle.ua_table.proofs.Lists.{Contains-map_from}
 use Rattle.ua_rows.specs.RowLists.{rows_at}
 use Rattle.ua_listing.specs.Rankings.{ArePositions}
 use Rattle.ua_listing.specs.Arrangements.{IsIndex}
@@ -96,7 +97,7 @@ module _ (n : ℕ) (places ranks : List ℕ) (once : EachOnceBelow n places) (co
   pub rank_of : (i : ℕ) → i < n → IsRankOf i
   rank_of i h =
       let c = once-some n places once i h in
-      let at : slice_index places c.0 ≡ i = any_default places c.0 0 i c.1 ∙ c.2 in
+      let at : slice_index places c.0 ≡ i = get_or_default places c.0 0 i c.1 ∙ c.2 in
       let r : slice_index ranks i ≡ c.0 = ap (slice_index ranks) (sym at) ∙ positions.each c.0 c.1 in
       record { low = (let l = c.1 in omega (arith, r, l, count)); back = ap (slice_index places) r ∙ at }
 
@@ -151,12 +152,8 @@ numbers_at (suc n) i h = ⊎_elim
     (λ low. get_or_append_left (numbers_below n) (n ∷ []) 0 i (let l = length-numbers_below n in omega (arith, l, low)) ∙ numbers_at n i low)
     (λ high.
     let at : i ≡ n = omega (arith, high, h) in
-    ap (λ k. get_or (numbers_below n ++ n ∷ []) k 0) (at ∙ sym (length-numbers_below n)) ∙ last_at (numbers_below n) n ∙ sym at)
+    ap (λ k. get_or (numbers_below n ++ n ∷ []) k 0) (at ∙ sym (length-numbers_below n)) ∙ get_or-append_seam (numbers_below n) n [] 0 ∙ sym at)
     (cases_lt i n)
-  where
-    last_at : (xs : List ℕ) (x : ℕ) → get_or (xs ++ x ∷ []) (length xs) 0 ≡ x
-    last_at [] x = refl
-    last_at (y ∷ xs) x = last_at xs x
 
 pub rows_whole : (vs : List Vector) (n : ℕ) → length vs ≡ n → rows_at vs (numbers_below n) ≡ vs
 rows_whole vs n e = same_vectors (rows_at vs (numbers_below n)) vs (length-map (numbers_below n) (λ i. slice_index_or vs i []) ∙ length-numbers_below n ∙ sym e)

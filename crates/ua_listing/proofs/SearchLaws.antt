@@ -10,6 +10,8 @@ use Rattle.std.proofs.lemmas.Bool.{cases_lt}
 use Rattle.std.proofs.lemmas.List.{length-set, get_or-set_same, get_or-set_other, get_or_append_left}
 use Rattle.std.proofs.lemmas.Map.Keys.{apart_from_distinct}
 use Rattle.std.proofs.lemmas.Option.{slice_get_within, get_or_from_slice_get}
+use Rattle.std.proofs.lemmas.List.Elements.{Contains-append_left, Contains-append_cases, Contains-push}
+use Rattle.std.proofs.Math.Seq.{get_or-append_seam}
 use Rattle.ua_table.specs.declared.origins.Origin.{Origin}
 use Rattle.ua_table.specs.declared.origins.Origin.TheVariants.{Gen, Op}
 use Rattle.ua_table.specs.Algebras.{Vector, Product, arities}
@@ -21,7 +23,7 @@ use Rattle.ua_table.proofs.Lists.{all_weaker}
 use Rattle.ua_listing.specs.Searches.{IsMarked, height_in, origin_in, IsReached, IsBefore, IsNotAfter, IsFound, IsSearch, IsNear, IsVisited, ReachesMore, IsTop, MayVisit, HasReachedBy}
 use Rattle.ua_listing.specs.declared.searches.Search.{Search}
 use Rattle.ua_listing.proofs.MarkLaws.{marked_set}
-use Rattle.ua_table.proofs.Members.{member_at, in_left, in_last, in_either}
+use Rattle.ua_table.proofs.Members.{member_at}
 
 -- ---- the order of origins
 
@@ -111,7 +113,7 @@ one_row vs different q r v e f = ⊎_elim
 -- ---- a search that went on
 
 pub later_reached : (ks : List ℕ) (s new : Search) → ReachesMore ks s new → (q : ℕ) → IsReached s q → IsReached new q
-later_reached ks s new l q r = subst (λ (xs : List ℕ). Contains xs q) (sym l.order) (in_left s.order.items l.rest q r)
+later_reached ks s new l q r = subst (λ (xs : List ℕ). Contains xs q) (sym l.order) (Contains-append_left s.order.items l.rest q r)
 
 heights_kept : (ks : List ℕ) (s new : Search) → ReachesMore ks s new → (xs : List ℕ) → AllByRecursion (IsReached s) xs → map (λ a. slice_index new.heights.items a) xs ≡ map (λ a. slice_index s.heights.items a) xs
 heights_kept ks s new l [] h = refl
@@ -180,10 +182,6 @@ total_below [] = omega arith
 total_below (true ∷ bs) = let r = total_below bs in omega (arith, r)
 total_below (false ∷ bs) = let r = total_below bs in omega (arith, r)
 
-last_at : (xs : List ℕ) (x : ℕ) → get_or (xs ++ x ∷ []) (length xs) 0 ≡ x
-last_at [] x = refl
-last_at (y ∷ xs) x = last_at xs x
-
 only : (x q : ℕ) → Contains (x ∷ []) q → q ≡ x
 only x q c = let low = c.1 in let z : c.0 ≡ 0 = omega (arith, low) in sym (ap (λ k. get_or (x ∷ []) k q) (sym z) ∙ c.2)
 
@@ -222,10 +220,10 @@ module _ (p : Product) (gens vs : List Vector) (different : IsDistinct (pointwis
     }
 
     reached_cases : (r : ℕ) → IsReached new r → IsReached s r ⊎ (r ≡ q)
-    reached_cases r c = ⊎_elim (λ old. inl old) (λ last. inr (only q r last)) (in_either s.order.items (q ∷ []) r (subst (λ (xs : List ℕ). Contains xs r) order c))
+    reached_cases r c = ⊎_elim (λ old. inl old) (λ last. inr (only q r last)) (Contains-append_cases s.order.items (q ∷ []) r (subst (λ (xs : List ℕ). Contains xs r) order c))
 
     reached_here : IsReached new q
-    reached_here = subst (λ (xs : List ℕ). Contains xs q) (sym order) (in_last s.order.items q)
+    reached_here = subst (λ (xs : List ℕ). Contains xs q) (sym order) (Contains-push s.order.items q)
 
     count : length new.order.items ≡ suc (length s.order.items)
     count = ap (length {A = ℕ}) order ∙ (let n = length-append s.order.items (q ∷ []) in omega (arith, n))
@@ -234,7 +232,7 @@ module _ (p : Product) (gens vs : List Vector) (different : IsDistinct (pointwis
     before i low = ap (λ (xs : List ℕ). get_or xs i 0) order ∙ get_or_append_left s.order.items (q ∷ []) 0 i low
 
     last : slice_index new.order.items (length s.order.items) ≡ q
-    last = ap (λ (xs : List ℕ). get_or xs (length s.order.items) 0) order ∙ last_at s.order.items q
+    last = ap (λ (xs : List ℕ). get_or xs (length s.order.items) 0) order ∙ get_or-append_seam s.order.items q [] 0
 
     height_before : (i : ℕ) → i < length s.order.items → height_in new (slice_index new.order.items i) ≡ height_in s (slice_index s.order.items i)
     height_before i low = ap (height_in new) (before i low) ∙ entered_later.heights (slice_index s.order.items i) (member_at s.order.items i low)

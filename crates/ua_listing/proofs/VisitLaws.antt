@@ -3,17 +3,17 @@ use Rattle.std.proofs.Common.{◌≡◌, ◌≢◌, ⊎_elim, ℕ, suc, ◌+◌,
 use Rattle.std.specs.Prelude.{Contains, slice_index, sum}
 use Rattle.std.specs.List.{AllByRecursion}
 use Rattle.std.proofs.lemmas.Bool.{cases_lt}
-use Rattle.std.proofs.lemmas.List.{length-map, get_or_append_left}
+use Rattle.std.proofs.lemmas.List.{length-map, get_or_append_left, take_at, drop_at, get_or_default}
 use Rattle.std.proofs.Math.Nat.{mod-lt}
 use Rattle.ua_table.specs.declared.origins.Origin.{Origin}
 use Rattle.ua_table.specs.declared.origins.Origin.TheVariants.{Gen, Op}
 use Rattle.ua_table.specs.Algebras.{Vector, Product, arities}
 use Rattle.ua_table.specs.declared.limits.TheConstants.{BUDGET}
 use Rattle.ua_table.specs.Numbering.{greatest, four_places, IsShape, Fits}
-use Rattle.ua_table.specs.Origins.{IsApplication, origin_value}
+use Rattle.ua_table.specs.Origins.{origin_value}
 use Rattle.ua_table.specs.Slices.{slice_unit, slice_row, slice_operation, slice_tuples, bound}
 use Rattle.ua_table.proofs.Choices.{greatest_low, greatest_tops}
-use Rattle.ua_table.proofs.Lists.{any_default, all_at, all_weaker, all_map, all_append, Contains-map, Contains-head, Contains-tail, Contains-slice_get}
+use Rattle.ua_table.proofs.Lists.{all_at, all_weaker, all_map, all_append, Contains-map, Contains-head, Contains-tail, Contains-slice_get}
 use Rattle.ua_table.proofs.Rows.{slices_of_rows}
 use Rattle.ua_table.proofs.SliceLaws.{bound_laws, slices_partition}
 use Rattle.ua_table.proofs.Units.{place_from}
@@ -21,7 +21,7 @@ use Rattle.ua_listing.specs.Searches.{height_in, height_number, IsReached, IsNea
 use Rattle.ua_listing.specs.declared.searches.Search.{Search}
 use Rattle.ua_listing.specs.declared.searches.Table.{Table}
 use Rattle.ua_listing.proofs.MarkLaws.{marked_below}
-use Rattle.ua_table.proofs.Members.{member_at, take_seam, drop_seam}
+use Rattle.ua_table.proofs.Members.{member_at}
 use Rattle.ua_listing.proofs.SearchLaws.{later_itself, later_chain, later_visited, total_below}
 
 -- a value that is no row
@@ -128,7 +128,7 @@ tuple_of_slice ks m k tuple is c =
     let spot = place_from ks (slice_unit ks k % sum ks) (mod-lt (slice_unit ks k) is.some) in
     let some : 0 < slice_index ks f = (let w = spot.place in omega (arith, w)) in
     let cut = slices_partition ks f tuple of.operation some of.arity in
-    let same = cut.only k c.0 (record { operation = refl; number = c.1; standing = any_default (slice_tuples ks k) c.0 [] tuple c.1 ∙ c.2 }) in
+    let same = cut.only k c.0 (record { operation = refl; number = c.1; standing = get_or_default (slice_tuples ks k) c.0 [] tuple c.1 ∙ c.2 }) in
     let top : greatest tuple ≡ m = sym cut.row ∙ ap (slice_row ks) (sym same.0) ∙ is.row in
     record {
       operation = of.operation;
@@ -146,7 +146,7 @@ module _ (p : Product) (gens vs : List Vector) (s : Search) (is : IsSearch p gen
   count = length-map tuple (λ x. slice_index s.order.items x) ∙ of.arity
 
   taken : take (slice_index (arities p) f) (four_places (arities p) f (map (λ x. slice_index s.order.items x) tuple)) ≡ map (λ x. slice_index s.order.items x) tuple
-  taken = take_seam (slice_index (arities p) f) (map (λ x. slice_index s.order.items x) tuple) (replicate (4 - slice_index (arities p) f) 0) count
+  taken = take_at (map (λ x. slice_index s.order.items x) tuple) (replicate (4 - slice_index (arities p) f) 0) (slice_index (arities p) f) count
 
   all_reached : AllByRecursion (IsReached s) (map (λ x. slice_index s.order.items x) tuple)
   all_reached = all_map (IsReached s) (λ x. slice_index s.order.items x) tuple (all_weaker (λ x. x < length s.order.items) (λ x. IsReached s (slice_index s.order.items x)) (λ x h. member_at s.order.items x h) tuple within)
@@ -165,7 +165,7 @@ module _ (p : Product) (gens vs : List Vector) (s : Search) (is : IsSearch p gen
       operation = of.operation;
       count = ap (length {A = ℕ}) taken ∙ count;
       earlier = subst (AllByRecursion (λ a. a < length vs)) (sym taken) (all_weaker (IsReached s) (λ a. a < length vs) reached_low (map (λ x. slice_index s.order.items x) tuple) all_reached);
-      unused = drop_seam (slice_index (arities p) f) (map (λ x. slice_index s.order.items x) tuple) (replicate (4 - slice_index (arities p) f) 0) count;
+      unused = drop_at (map (λ x. slice_index s.order.items x) tuple) (replicate (4 - slice_index (arities p) f) 0) (slice_index (arities p) f) count;
     };
     arguments = subst (AllByRecursion (IsReached s)) (sym taken) all_reached;
     height = height_here ∙ ap (λ (xs : List ℕ). suc (greatest (map (λ a. slice_index s.heights.items a) xs))) (sym taken);
@@ -181,7 +181,7 @@ module _ (p : Product) (gens vs : List Vector) (s : Search) (is : IsSearch p gen
   pub named_by : (n : ℕ) (places : List ℕ) → n ≡ slice_index (arities p) f → places ≡ four_places (arities p) f tuple → map (λ x. slice_index s.order.items x) (take n places) ++ drop n places ≡ four_places (arities p) f (map (λ x. slice_index s.order.items x) tuple)
   named_by n places en ep =
       (λ i. map (λ x. slice_index s.order.items x) (take (en i) (ep i)) ++ drop (en i) (ep i))
-      ∙ (λ i. map (λ x. slice_index s.order.items x) (take_seam (slice_index (arities p) f) tuple (replicate (4 - slice_index (arities p) f) 0) of.arity i) ++ drop_seam (slice_index (arities p) f) tuple (replicate (4 - slice_index (arities p) f) 0) of.arity i)
+      ∙ (λ i. map (λ x. slice_index s.order.items x) (take_at tuple (replicate (4 - slice_index (arities p) f) 0) (slice_index (arities p) f) of.arity i) ++ drop_at tuple (replicate (4 - slice_index (arities p) f) 0) (slice_index (arities p) f) of.arity i)
 
 -- ---- how far a slice has been walked
 
@@ -240,11 +240,8 @@ next_in p gens vs s k f args left n = subst (λ (ts : List (List ℕ)). Contains
 -- ---- the top of a search
 
 -- heights of rows that were reached earlier stay
-number_kept : (ks : List ℕ) (s new : Search) → ReachesMore ks s new → (m : ℕ) → m < length s.order.items → height_number new m ≡ height_number s m
-number_kept ks s new l m low = ap (height_in new) (ap (λ (o : List ℕ). get_or o m 0) l.order ∙ get_or_append_left s.order.items l.rest 0 m low) ∙ l.heights (slice_index s.order.items m) (member_at s.order.items m low)
-
 pub height_kept : (ks : List ℕ) (s new : Search) → ReachesMore ks s new → (m : ℕ) → m < length s.order.items → height_number new m ≡ height_number s m
-height_kept ks s new l m low = number_kept ks s new l m low
+height_kept ks s new l m low = ap (height_in new) (ap (λ (o : List ℕ). get_or o m 0) l.order ∙ get_or_append_left s.order.items l.rest 0 m low) ∙ l.heights (slice_index s.order.items m) (member_at s.order.items m low)
 
 pub row_kept : (ks : List ℕ) (s new : Search) → ReachesMore ks s new → (m : ℕ) → m < length s.order.items → m < length new.order.items
 row_kept ks s new l m low = let n = later_length ks s new l in omega (arith, n, low)
@@ -257,7 +254,7 @@ top_of p gens vs s m is low near = record { high = near; low = let r = is.low m 
 pub near_next : (p : Product) (gens vs : List Vector) (s new : Search) (m i : ℕ) → IsSearch p gens vs new → ReachesMore (arities p) s new → m < length s.order.items → IsTop new (suc (height_number s m)) → m ≤ i → i < length new.order.items → IsNearTop new i
 near_next p gens vs s new m i is l low top le within = λ q r.
     let t = top.high q r in
-    let e = number_kept (arities p) s new l m low in
+    let e = height_kept (arities p) s new l m low in
     let up = is.rising m i le within in
     omega (arith, t, e, up)
 
@@ -308,7 +305,7 @@ module _ (t : Table) (m k : ℕ) (table : IsTable t) (after : bound t.shape m �
 
     pub names_low : (n : ℕ) (order : List ℕ) → n ≡ slice_index t.shape op → order ≡ s.order.items → AllByRecursion (λ a. a < length order) (take n args)
     names_low n order e o =
-        let front : take n args ≡ tuple_next.tuple = (λ i. take (arity_now n e i) (args_now i)) ∙ take_seam _ tuple_next.tuple (replicate (4 - slice_index (arities t.operations) (slice_operation (arities t.operations) k)) 0) tuple_of.arity in
+        let front : take n args ≡ tuple_next.tuple = (λ i. take (arity_now n e i) (args_now i)) ∙ take_at tuple_next.tuple (replicate (4 - slice_index (arities t.operations) (slice_operation (arities t.operations) k)) 0) _ tuple_of.arity in
         subst (λ (x : List ℕ × List ℕ). AllByRecursion (λ a. a < length x.0) x.1) (λ i. (sym o i, sym front i)) (all_weaker (λ x. x ≤ m) (λ x. x < length s.order.items) (λ x l. let r = row_now in omega (arith, l, r)) tuple_next.tuple tuple_of.low)
 
     moved_is : (n : ℕ) (order moved : List ℕ) → n ≡ slice_index t.shape op → order ≡ s.order.items → moved ≡ map (λ a. slice_index order a) (take n args) ++ drop n args

@@ -1,6 +1,6 @@
 //! The least listing of a generated subuniverse.
 
-ghost use Rattle.std.specs.Prelude.{◌≡◌, ◌+◌, ◌<◌, ◌≤◌, ℕ, suc, length, slice_index, IfOk, OnOk};
+ghost use Rattle.std.specs.Prelude.{◌≡◌, ◌+◌, ◌<◌, ◌≤◌, ℕ, suc, length, IfOk, OnOk};
 ghost use Rattle.std.specs.List.{AllByRecursion};
 ghost use Rattle.ua_table.specs.declared.origins.Origin.TheVariants.{Op};
 ghost use Rattle.ua_table.specs.Algebras.{IsVector, arities};

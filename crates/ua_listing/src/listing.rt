@@ -1,6 +1,6 @@
 //! Listings of a generated subuniverse.
 
-ghost use Rattle.std.specs.Prelude.{◌≡◌, ℕ, ◌<◌, ◌≤◌, ◌^◌, ◌++◌, length, map, take, drop, slice_get, slice_index, Some, IfOk, IfSome, IfNone, Contains};
+ghost use Rattle.std.specs.Prelude.{◌≡◌, ◌<◌, ◌≤◌, ◌^◌, ◌++◌, length, map, take, drop, slice_get, slice_index, Some, IfOk, IfSome, IfNone, Contains};
 ghost use Rattle.std.specs.List.{AllByRecursion, zip};
 ghost use Rattle.ua_table.specs.Algebras.{Vector, IsIncreasing};
 ghost use Rattle.ua_table.specs.Counting.{EachOnceBelow};

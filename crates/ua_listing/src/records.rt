@@ -1,6 +1,6 @@
 //! The records of a closure in the order of their discovery.
 
-ghost use Rattle.std.specs.Prelude.{◌≡◌, ◌+◌, ◌<◌, ◌≤◌, ◌++◌, [], ◌∷◌, length, take, slice_get, nat_eq, Some, IfOk, IfSome, IfNone, Contains};
+ghost use Rattle.std.specs.Prelude.{◌≡◌, ◌<◌, length, slice_get, nat_eq, Some};
 ghost use Rattle.std.specs.List.{IsDistinct, zip};
 ghost use Rattle.std.specs.Cmp.Lexicographic.{pointwise};
 ghost use Rattle.ua_table.specs.Algebras.{Vector};

@@ -1,5 +1,5 @@
 -- From the steps to what the call `join` ensures.
-use Rattle.std.proofs.Common.{◌≡◌, ℕ, ◌+◌, ◌<◌, ◌≤◌, Bool, List, [], ◌∷◌, ◌++◌, length, refl, sym, ap, ◌∙◌, subst, le_trans, arith}
+use Rattle.std.proofs.Common.{◌≡◌, ℕ, ◌<◌, ◌≤◌, Bool, List, [], ◌∷◌, ◌++◌, length, refl, sym, ap, ◌∙◌, subst, le_trans, arith}
 use Rattle.std.specs.Prelude.{if◌then◌else◌}
 use Rattle.std.proofs.lemmas.Bool.{lt-ltb, le-ltb}
 use Rattle.atomic_table.specs.Seated.{TableId}
@@ -10,10 +10,10 @@ use Rattle.ua_table.proofs.Lists.{all_weaker}
 use Rattle.ua_log.specs.declared.views.Plan.{Plan}
 use Rattle.ua_log.specs.declared.views.Worker.{Worker}
 use Rattle.ua_log.specs.Boards.{IsRuled}
-use Rattle.ua_log.specs.Moves.{own_of, kept_of, longer, join_first, spent_view}
+use Rattle.ua_log.specs.Moves.{own_of, kept_of, longer, join_first, spent_view, Token}
 use Rattle.ua_log.specs.Seats.{Home, SeatView, IsSeat}
 use Rattle.ua_log.proofs.SeatSteps.{joins, longer_left}
-use Rattle.ua_log.proofs.Calls.{Token, At, as_parts, tables, plans, keys, some_word, inside}
+use Rattle.ua_log.proofs.Calls.{At, as_parts, tables, plans, keys, some_word, inside}
 
 longer_second : (xs ys : List Origin) → length xs < length ys → longer xs ys ≡ ys
 longer_second xs ys lt = ap (λ (b : Bool). if b then ys else xs) (lt-ltb (length xs) (length ys) lt)

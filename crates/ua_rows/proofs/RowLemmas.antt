@@ -1,16 +1,17 @@
 -- Rows: those named by tuples, and what stays when there is one more.
-use Rattle.std.proofs.Common.{◌≡◌, ◌≢◌, ◌⊎◌, inl, inr, ⊎_elim, ℕ, zero, suc, ◌<◌, ◌≤◌, Bool, true, false, List, [], ◌∷◌, ◌++◌, length, take, set, Some, refl, sym, ap, ◌∙◌, subst, arith}
-use Rattle.std.specs.Prelude.{Contains, slice_get, slice_index, nat_eq}
+use Rattle.std.proofs.Common.{◌≡◌, ◌≢◌, ⊎_elim, ℕ, zero, suc, ◌<◌, ◌≤◌, Bool, true, false, List, [], ◌∷◌, ◌++◌, length, take, set, Some, refl, sym, ap, ◌∙◌, subst, arith}
+use Rattle.std.specs.Prelude.{Contains, slice_get, slice_index, slice_index_or, nat_eq}
 use Rattle.std.specs.List.{AllByRecursion, IsDistinct}
 use Rattle.std.specs.Cmp.Lexicographic.{pointwise, bytes_decides}
-use Rattle.std.proofs.lemmas.List.{get_or_append_left}
+use Rattle.std.proofs.lemmas.List.{get_or_append_left, length-map}
+use Rattle.std.proofs.lemmas.Option.{slice_get_within}
 use Rattle.ua_table.specs.declared.origins.Origin.{Origin}
 use Rattle.ua_table.specs.declared.origins.Origin.TheVariants.{Gen, Op}
 use Rattle.ua_table.specs.Algebras.{Vector, Product, IsProduct, IsVector, arities, apply}
 use Rattle.ua_table.specs.Origins.{IsOrigin, origin_value}
 use Rattle.ua_table.specs.Numbering.{IsShape}
 use Rattle.ua_table.specs.Slices.{bound, slice_operation, slice_tuples, slice_row}
-use Rattle.ua_table.proofs.Lists.{all_at, All-slice_get, found, get_or-slice_get, all_from_contains, all_weaker, Contains-cases, Contains-head, Contains-tail, Contains-none}
+use Rattle.ua_table.proofs.Lists.{all_at, All-slice_get, found, get_or-slice_get, all_from_contains, all_weaker, Contains-cases, Contains-head, Contains-tail, Contains-none, all_from_places, all_push}
 use Rattle.ua_table.proofs.Rows.{slices_of_rows}
 use Rattle.ua_table.proofs.SliceLaws.{bound_laws}
 use Rattle.ua_rows.specs.RowLists.{rows_at}
@@ -57,25 +58,10 @@ module _ {X : Type 0} where
   place_of [] x h = absurd (Contains-none x h)
   place_of (y ∷ ys) x h = ⊎_elim (λ here. (0, ap Some here)) (λ rest. let p = place_of ys x rest in (suc p.0, p.1)) (Contains-cases y x ys h)
 
-  pub place_below : (xs : List X) (k : ℕ) (x : X) → slice_get xs k ≡ Some x → k < length xs
-  place_below [] k x e = cc
-  place_below (y ∷ ys) zero x e = omega arith
-  place_below (y ∷ ys) (suc k) x e = let r = place_below ys k x e in omega (arith, r)
-
   pub at_longer : (xs ys : List X) (k : ℕ) (x : X) → slice_get xs k ≡ Some x → slice_get (xs ++ ys) k ≡ Some x
   at_longer [] ys k x e = cc
   at_longer (z ∷ zs) ys zero x e = e
   at_longer (z ∷ zs) ys (suc k) x e = at_longer zs ys k x e
-
-  pub at_end : (xs : List X) (x y : X) (k : ℕ) → slice_get (xs ++ x ∷ []) k ≡ Some y → (slice_get xs k ≡ Some y) ⊎ ((k ≡ length xs) × (x ≡ y))
-  at_end [] x y zero e = inr (refl, cc)
-  at_end [] x y (suc k) e = inl e
-  at_end (z ∷ zs) x y zero e = inl e
-  at_end (z ∷ zs) x y (suc k) e = ⊎_elim (λ o. inl o) (λ (n : (k ≡ length zs) × (x ≡ y)). inr (ap suc n.0, n.1)) (at_end zs x y k e)
-
-  pub at_last : (xs : List X) (x : X) → slice_get (xs ++ x ∷ []) (length xs) ≡ Some x
-  at_last [] x = refl
-  at_last (z ∷ zs) x = at_last zs x
 
   pub all_both : (P Q : X → Type 0) (xs : List X) → AllByRecursion P xs → AllByRecursion Q xs → AllByRecursion (λ x. P x × Q x) xs
   all_both P Q [] p q = tt
@@ -93,15 +79,15 @@ module _ {X : Type 0} where
 pub distinct_more : (rows : List Vector) (v : Vector) → IsDistinct (pointwise nat_eq) rows → ¬ Contains rows v → IsDistinct (pointwise nat_eq) (rows ++ v ∷ [])
 unfolding IsDistinct
 distinct_more [] v d new = (tt, d)
-distinct_more (r ∷ rs) v d new = (all_more rs d.0, distinct_more rs v d.1 (λ h. new (Contains-tail r v rs h)))
+distinct_more (r ∷ rs) v d new = (all_push (λ y. pointwise nat_eq r y ≡ false) rs v d.0 (differs (pointwise nat_eq r v) refl), distinct_more rs v d.1 (λ h. new (Contains-tail r v rs h)))
   where
     differs : (b : Bool) → pointwise nat_eq r v ≡ b → pointwise nat_eq r v ≡ false
     differs false e = e
     differs true e = absurd (new (subst (Contains (r ∷ rs)) ((bytes_decides r v).0 e) (Contains-head r rs)))
 
-    all_more : (xs : List Vector) → AllByRecursion (λ y. pointwise nat_eq r y ≡ false) xs → AllByRecursion (λ y. pointwise nat_eq r y ≡ false) (xs ++ v ∷ [])
-    all_more [] a = (differs (pointwise nat_eq r v) refl, tt)
-    all_more (x ∷ xs) a = (a.0, all_more xs a.1)
+-- each place names one row
+pub length-rows_at : (rows : List Vector) (places : List ℕ) → length (rows_at rows places) ≡ length places
+length-rows_at rows places = length-map places (λ i. slice_index_or rows i [])
 
 -- the rows that are named stay where they are
 pub rows_at-more : (rows more : List Vector) (n : ℕ) (places : List ℕ) → n ≤ length rows → AllByRecursion (λ k. k < n) places → rows_at (rows ++ more) places ≡ rows_at rows places
@@ -140,11 +126,6 @@ results_more p rows more seen s shape below h =
     subst (λ vs. Contains (take seen (rows ++ more)) (apply p f vs)) (sym same)
     (take_longer rows more seen (apply p f (rows_at rows tuple)) (all_at P (slice_tuples (arities p) s) tuple h c)))
 
--- what holds of the item at each place holds of all
-all_places : {X : Type 0} (P : X → Type 0) (xs : List X) → ((k : ℕ) (x : X) → slice_get xs k ≡ Some x → P x) → AllByRecursion P xs
-all_places P [] h = tt
-all_places P (x ∷ xs) h = (h 0 x refl, all_places P xs (λ k y e. h (suc k) y e))
-
 -- rows that have origins over earlier rows are vectors of the product
 module _ (p : Product) (gens rows : List Vector) (origins : List Origin) (product : IsProduct p) (admitted : AllByRecursion (IsVector p) gens) (made : AreMade p gens rows origins) where
   vectors_at : (b : ℕ) (places : List ℕ) → ((k : ℕ) (v : Vector) → k < b → slice_get rows k ≡ Some v → IsVector p v) → b ≤ length rows → AllByRecursion (λ k. k < b) places → AllByRecursion (IsVector p) (rows_at rows places)
@@ -153,24 +134,20 @@ module _ (p : Product) (gens rows : List Vector) (origins : List Origin) (produc
       let there = found rows k (let low = h.0 in omega (arith, low, le)) in
       (subst (IsVector p) (sym (get_or-slice_get rows k there.0 [] there.1)) (rec k there.0 h.0 there.1), vectors_at b ks rec le h.1)
 
-  length-rows_at : (places : List ℕ) → length (rows_at rows places) ≡ length places
-  length-rows_at [] = refl
-  length-rows_at (k ∷ ks) = ap suc (length-rows_at ks)
-
   vector_of : (b : ℕ) (o : Origin) → ((k : ℕ) (v : Vector) → k < b → slice_get rows k ≡ Some v → IsVector p v) → b ≤ length rows → IsOrigin (arities p) (length gens) b o → IsVector p (origin_value p gens rows o)
   vector_of b (Gen i) rec le h = let there = found gens i h in subst (IsVector p) (sym (get_or-slice_get gens i there.0 [] there.1)) (All-slice_get (IsVector p) gens i there.0 admitted there.1)
   vector_of b (Op f args) rec le h =
       let places = take (slice_index (arities p) f) args in
-      IsVector-apply p f (rows_at rows places) product h.operation (length-rows_at places ∙ h.count) (vectors_at b places rec le h.earlier)
+      IsVector-apply p f (rows_at rows places) product h.operation (length-rows_at rows places ∙ h.count) (vectors_at b places rec le h.earlier)
 
   vectors_below : (b k : ℕ) (v : Vector) → k < b → slice_get rows k ≡ Some v → IsVector p v
   vectors_below zero k v h e = absurd (omega (arith, h))
   vectors_below (suc b) k v h e =
-      let low = place_below rows k v e in
+      let low = slice_get_within rows k v e in
       let there = found origins k (let c = made.count in omega (arith, c, low)) in
       let value = made.value k there.0 there.1 in
       let same : origin_value p gens rows there.0 ≡ v = cc in
       subst (IsVector p) same (vector_of k there.0 (λ j w lt is. vectors_below b j w (omega (arith, lt, h)) is) (omega (arith, low)) (made.origin k there.0 there.1))
 
   pub made_vectors : AllByRecursion (IsVector p) rows
-  made_vectors = all_places (IsVector p) rows (λ k v e. vectors_below (suc k) k v (omega arith) e)
+  made_vectors = all_from_places (IsVector p) rows (λ k v e. vectors_below (suc k) k v (omega arith) e)

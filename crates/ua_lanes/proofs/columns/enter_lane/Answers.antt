@@ -2,8 +2,8 @@ use Rattle.std.proofs.Common.{◌≡◌, ◌+◌, ◌*◌, ◌-◌, ◌<◌, ◌
 use Rattle.std.specs.List.{AllByRecursion}
 use borrow.Rule.Slice.PartMut.{mid_len}
 use Rattle.ua_lanes.specs.Columns.{entry_of}
-use Rattle.ua_table.proofs.Lists.{all_append}
-use Rattle.ua_lanes.proofs.ListLaws.{all_take, all_drop}
+use Rattle.ua_table.proofs.Lists.{all_append, all_take}
+use Rattle.ua_lanes.proofs.ListLaws.{all_drop}
 use Rattle.ua_lanes.proofs.ColumnLaws.{block_put, block_put_other}
 use Rattle.ua_lanes.proofs.columns.enter_lane.Goals as goal
 
@@ -13,7 +13,7 @@ returns-clause-small c =
     let n = start + c.args.words - start in
     let tiles = c.args.tiles.now in
     let P = AllByRecursion (AllByRecursion (λ x. x < 16)) in
-    all_append P (take start tiles) (c.write_lane.new.block ++ drop n (drop start tiles)) (all_take P tiles start c.requires.small)
+    all_append P (take start tiles) (c.write_lane.new.block ++ drop n (drop start tiles)) (all_take P start tiles c.requires.small)
     (all_append P c.write_lane.new.block (drop n (drop start tiles)) c.write_lane.ensures.small (all_drop P (drop start tiles) n (all_drop P tiles start c.requires.small)))
 
 pub returns-clause-others : goal.returns-clause-others

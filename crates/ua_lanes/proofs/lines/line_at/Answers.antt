@@ -3,7 +3,7 @@ use Rattle.std.specs.Prelude.{slice_index, slice_set}
 use Rattle.std.proofs.Math.Nat.{mul-le-mul}
 use Rattle.std.proofs.lemmas.List.{length-set, get_or-set_same, get_or-set_other}
 use Rattle.ua_table.specs.Algebras.{numeral}
-use Rattle.ua_rows.proofs.PageLaws.{all_set}
+use Rattle.ua_table.proofs.Lists.{all_set}
 use Rattle.ua_lanes.proofs.TileLaws.{one_more}
 use Rattle.ua_lanes.proofs.lines.line_at.Goals as goal
 

@@ -5,8 +5,7 @@ use Rattle.std.proofs.Math.Nat.{pow-le-pow_right}
 use Rattle.std.proofs.Math.Seq.{take-set-lt}
 use Rattle.std.proofs.lemmas.List.{length-take-le}
 use Rattle.ua_table.specs.Algebras.{numeral}
-use Rattle.ua_rows.proofs.PageLaws.{all_set}
-use Rattle.ua_lanes.proofs.ListLaws.{all_below}
+use Rattle.ua_table.proofs.Lists.{all_set, all_get_or}
 use Rattle.ua_lanes.proofs.LineLaws.{numeral_set, numeral_within}
 use Rattle.ua_lanes.proofs.lines.line_in.Goals as goal
 
@@ -16,7 +15,7 @@ number_of-start-requires-clause-below c =
     let few = c.requires.few in
     let low = c.requires.free in
     let long : length xs ≡ c.args.arity = length-take-le c.args.arity c.args.args (omega (arith, few)) in
-    let there = all_below (λ x. x < c.args.table.now.size) xs c.args.free 0 (omega (arith, low, long)) c.requires.below in
+    let there = all_get_or (λ x. x < c.args.table.now.size) xs c.args.free 0 (omega (arith, low, long)) c.requires.below in
     subst (AllByRecursion (λ x. x < c.args.table.now.size)) (sym (take-set-lt c.args.arity c.args.args c.args.free 0 c.requires.free))
     (all_set (λ x. x < c.args.table.now.size) (take c.args.arity c.args.args) c.args.free 0 (omega (arith, there)) c.requires.below)
 

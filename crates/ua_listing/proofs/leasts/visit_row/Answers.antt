@@ -1,11 +1,11 @@
 use Rattle.std.proofs.Common.{◌≡◌, ◌+◌, ◌<◌, ◌≤◌, ℕ, suc, length, get_or, ap, ◌∙◌, subst, arith}
 use Rattle.std.specs.Prelude.{slice_index}
+use Rattle.std.proofs.lemmas.List.{get_or_default}
 use Rattle.ua_table.specs.declared.limits.TheConstants.{BUDGET}
 use Rattle.ua_table.specs.Algebras.{arities}
 use Rattle.ua_table.specs.Numbering.{Fits}
 use Rattle.ua_table.specs.Slices.{bound}
 use Rattle.ua_table.proofs.SliceLaws.{bound_laws}
-use Rattle.ua_table.proofs.Lists.{any_default}
 use Rattle.ua_listing.specs.declared.searches.Search.{Search}
 use Rattle.ua_listing.specs.declared.searches.Table.{Table}
 use Rattle.ua_listing.specs.Searches.{height_in, height_number, IsTable, IsSearchOf, GoesOnTo}
@@ -26,10 +26,10 @@ module _ (t : Table) (s : Search) (m : ℕ) (table : IsTable t) (is : IsSearchOf
 
   height_is : (a b : ℕ) → a ≡ get_or s.order.items m a → b ≡ get_or s.heights.items a b → b ≡ height_number s m
   height_is a b ea eb =
-      let at : a ≡ slice_index s.order.items m = ea ∙ any_default s.order.items m a 0 row in
+      let at : a ≡ slice_index s.order.items m = ea ∙ get_or_default s.order.items m a 0 row in
       let marked = (is.marks (slice_index s.order.items m)).1 (member_at s.order.items m row) in
       let low : a < length s.heights.items = (let l = marked_below s.reached.items (slice_index s.order.items m) marked in let x = is.marks_count in let y = is.heights_count in omega (arith, at, l, x, y)) in
-      eb ∙ any_default s.heights.items a b 0 low ∙ ap (height_in s) at
+      eb ∙ get_or_default s.heights.items a b 0 low ∙ ap (height_in s) at
 
   small : height_number s m + 1 ≤ BUDGET + 1
   small = let l = is.low m row in let b = budget in omega (arith, l, b)

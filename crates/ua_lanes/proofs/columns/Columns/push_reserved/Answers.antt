@@ -3,8 +3,7 @@ use Rattle.std.specs.Prelude.{is_ok}
 use Rattle.std.proofs.lemmas.List.{length-map}
 use Rattle.ua_table.specs.Algebras.{Vector}
 use Rattle.ua_lanes.specs.Columns.{VectorColumns, key_of, block_of, vectors_in, HasRoom, AreColumns}
-use Rattle.ua_table.proofs.Lists.{all_weaker}
-use Rattle.ua_lanes.proofs.ListLaws.{rewritten}
+use Rattle.ua_table.proofs.Lists.{all_weaker, written_back}
 use Rattle.ua_lanes.proofs.PushLaws.{some_one, block_whole, IsEntered, pushed_vectors, pushed_columns}
 use Rattle.ua_lanes.proofs.columns.Columns.push_reserved.Goals as goal
 
@@ -16,7 +15,7 @@ has_room c = c.self.invariant.room (some_one c.self.inside.ready (let e = ap (λ
 written : (c : goal.After-self-4-1) → take c.self.inside.tiles.len (c.enter_lane.new.tiles ++ drop (length c.enter_lane.new.tiles) c.self.inside.tiles.items) ≡ c.enter_lane.new.tiles
 written c =
     let here = c.self.inside in
-    rewritten here.tiles.len c.enter_lane.new.tiles here.tiles.items (c.enter_lane.ensures.length ∙ ap (length {A = List (List ℕ)}) c.as_mut_slice.ensures.value) (sym here.tiles.ok.0)
+    written_back here.tiles.items c.enter_lane.new.tiles here.tiles.len (c.enter_lane.ensures.length ∙ ap (length {A = List (List ℕ)}) c.as_mut_slice.ensures.value) here.tiles.ok.0
 
 entered : (c : goal.After-self-4-1) → IsEntered c.self.inside.words c.self.inside.count c.self.inside.tiles.items c.enter_lane.new.tiles c.args.v.now
 entered c =
@@ -38,7 +37,7 @@ invariant_of-self c =
     let block = c.block_in-columns.result.now in
     let key = c.write_key.new.key in
     let words : length key ≡ here.words = ap (length {A = ℕ}) c.write_key.ensures ∙ length-map block _ ∙ c.block_in-columns.ensures.length in
-    let keyed : take here.key.len (key ++ drop (length key) here.key.items) ≡ key = rewritten here.key.len key here.key.items (words ∙ sym c.self.invariant.key_long) (sym here.key.ok.0) in
+    let keyed : take here.key.len (key ++ drop (length key) here.key.items) ≡ key = written_back here.key.items key here.key.len (words ∙ sym c.self.invariant.key_long) here.key.ok.0 in
     let added : c.extend_from_slice.new.self.items ≡ here.keys.items ++ key = c.extend_from_slice.ensures.items ∙ ap (λ r. cond (is_ok r) (here.keys.items ++ c.as_slice-2.result.now) here.keys.items) c.unwrap.ensures ∙ ap (λ (k : List ℕ). here.keys.items ++ k) (c.as_slice-2.ensures.value ∙ keyed) in
     let named = c.enter.ensures.named here.count (omega arith) (all_weaker (λ r. r ≤ here.count - 1) (λ r. r ≤ here.count) (λ r low. omega (arith, low)) here.front.items c.self.invariant.named) in
     let some : 0 < length c.enter.new.front.items = (let l = c.enter.ensures.length in let s = c.self.invariant.some in omega (arith, l, s)) in

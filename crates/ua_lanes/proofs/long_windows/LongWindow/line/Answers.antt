@@ -1,11 +1,11 @@
 use Rattle.std.proofs.Common.{◌≡◌, ◌*◌, ◌++◌, ℕ, List, length, take, drop, sym, ap, ◌∙◌, subst, arith}
 use Rattle.std.specs.Prelude.{slice_index}
 use Rattle.ua_table.specs.Algebras.{arities}
+use Rattle.ua_table.proofs.Lists.{written_back}
 use Rattle.ua_rows.specs.RowLists.{rows_at}
 use Rattle.ua_rows.proofs.ApplyForms.{arity_is}
 use Rattle.ua_lanes.specs.Lines.{line_value}
 use Rattle.ua_lanes.specs.Quads.{AreLongLines}
-use Rattle.ua_lanes.proofs.ListLaws.{rewritten}
 use Rattle.ua_lanes.proofs.LongLaws.{lines_whole}
 use Rattle.ua_lanes.proofs.long_windows.LongWindow.line.Goals as goal
 
@@ -28,7 +28,7 @@ returns-clause-window c =
     let old = c.args.self.now.lines in
     let out = c.write_long_lines.new.out in
     let long : length out ≡ length old.items = c.write_long_lines.ensures.length ∙ ap (length {A = ℕ}) c.as_mut_slice.ensures.value in
-    let written : take old.len (out ++ drop (length out) old.items) ≡ out = rewritten old.len out old.items long (sym old.ok.0) in
+    let written : take old.len (out ++ drop (length out) old.items) ≡ out = written_back old.items out old.len long old.ok.0 in
     let arity : c.from-arity.result ≡ slice_index (arities p) c.args.op = c.from-arity.ensures ∙ c.arity.ensures.arity ∙ sym (arity_is p c.args.op 0 c.algebra_at.result.now c.algebra_at.ensures.product c.algebra_at.ensures.algebra c.op.result.now c.op.ensures.operation) in
     record {
       four = c.told-args;

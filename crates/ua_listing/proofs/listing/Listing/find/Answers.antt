@@ -1,9 +1,10 @@
 use Rattle.std.proofs.Common.{◌≡◌, ◌<◌, List, length, sym, ◌∙◌, subst, arith, Some}
 use Rattle.std.specs.Prelude.{slice_get, Contains}
 use Rattle.std.proofs.lemmas.Option.{slice_get_within}
+use Rattle.std.proofs.lemmas.List.{get_or_default}
 use Rattle.ua_table.specs.Listings.{Row, vectors_of}
 use Rattle.ua_table.specs.Algebras.{Vector}
-use Rattle.ua_table.proofs.Lists.{any_default, all_at}
+use Rattle.ua_table.proofs.Lists.{all_at}
 use Rattle.ua_listing.specs.Arrangements.{listed}
 use Rattle.ua_listing.proofs.ArrangementLaws.{row_at-index, place_of, member-index}
 use Rattle.ua_listing.proofs.listing.Listing.find.Goals as goal
@@ -31,7 +32,7 @@ returns-clause-found c =
     let low = slice_get_within c.self.inside.rows.items c.in_ok-rank.rank c.args.v.now c.in_ok-rank.ensures.found in
     let place = place_of c.self.inside.rows.items c.self.inside.index.ranks.items c.self.inside.index.positions.items c.self.inside.index.origins.items c.self.invariant c.in_ok-rank.rank low in
     let within : c.in_ok-rank.rank < length c.self.inside.index.positions.items = omega (arith, low, c.self.invariant.positions.count, c.self.invariant.ranking.count) in
-    let same = c.index.ensures ∙ any_default c.self.inside.index.positions.items c.in_ok-rank.rank c.index.result.now 0 within in
+    let same = c.index.ensures ∙ get_or_default c.self.inside.index.positions.items c.in_ok-rank.rank c.index.result.now 0 within in
     subst (λ (rows : List Row). slice_get (vectors_of rows) c.index.result.now ≡ Some c.args.v.now) c.self.view_is
     (subst (λ k. slice_get (vectors_of (listed c.self.inside.rows.items c.self.inside.index.ranks.items c.self.inside.index.origins.items)) k ≡ Some c.args.v.now) (sym same)
     (row_at-index c.self.inside.rows.items c.self.inside.index.ranks.items c.self.inside.index.positions.items c.self.inside.index.origins.items c.self.invariant _ c.args.v.now place.within

@@ -1,9 +1,9 @@
 use Rattle.std.proofs.Common.{◌≡◌, ◌<◌, ℕ, Bool, true, false, List, length, get_or, set, refl, sym, ◌∙◌, subst, arith, Result, Ok, Err}
 use Rattle.std.specs.Prelude.{OnOk, slice_get, Some}
 use Rattle.std.proofs.lemmas.Option.{slice_get_within}
+use Rattle.std.proofs.lemmas.List.{get_or_default}
 use Rattle.ua_table.specs.Algebras.{arities}
 use Rattle.ua_table.specs.Origins.{origin_value}
-use Rattle.ua_table.proofs.Lists.{any_default}
 use Rattle.ua_listing.specs.declared.searches.Search.{Search}
 use Rattle.ua_listing.specs.declared.searches.Table.{Table}
 use Rattle.ua_table.specs.declared.origins.Origin.{Origin}
@@ -42,10 +42,10 @@ index_mut-requires c = let low = slice_get_within _ c.args.q _ c.requires.row in
 
 -- what was read
 height_read : (s : Search) (q x : ℕ) → q < length s.heights.items → x ≡ get_or s.heights.items q x → height_in s q ≡ x
-height_read s q x h e = any_default s.heights.items q 0 x h ∙ sym e
+height_read s q x h e = get_or_default s.heights.items q 0 x h ∙ sym e
 
 origin_read : (s : Search) (q : ℕ) (o : Origin) → q < length s.origins.items → o ≡ get_or s.origins.items q o → origin_in s q ≡ o
-origin_read s q o h e = any_default s.origins.items q (Gen 0) o h ∙ sym e
+origin_read s q o h e = get_or_default s.origins.items q (Gen 0) o h ∙ sym e
 
 module _ (t : Table) (s : Search) (q h : ℕ) (o : Origin) (table : IsTable t) (is : IsSearchOf t s) (top : IsTop s h) (may : MayVisitIn t s h o) (row : slice_get t.rows.items q ≡ Some (origin_value t.operations t.gens.now.items t.rows.items o))
     (index : Bool) (index_is : index ≡ get_or s.reached.items q index) (marked : index ≡ true) where
