@@ -9,7 +9,7 @@ use Rattle.std.specs.List.Sorted.{IsStrictlySortedBy}
 use Rattle.std.proofs.lemmas.Bool.Decides.{nat_tests}
 use Rattle.std.proofs.lemmas.List.{length-map, take_all, take-append-drop}
 use Rattle.std.proofs.lemmas.Bool.{and_from, or_from, or_parts}
-use Rattle.std.proofs.lemmas.Option.{slice_get_within}
+use Rattle.std.proofs.lemmas.Option.{slice_get_within, get_or_from_slice_get}
 use Rattle.ua_table.specs.declared.limits.TheConstants.{WIDTH}
 use Rattle.ua_table.specs.declared.origins.Origin.{Origin}
 use Rattle.ua_table.specs.declared.origins.Origin.TheVariants.{Gen, Op}
@@ -22,7 +22,7 @@ use Rattle.ua_table.specs.Origins.{IsOrigin, IsApplication, arguments_of, origin
 use Rattle.ua_table.specs.Terms.{term_value}
 use Rattle.ua_table.specs.Listings.{Row, vectors_of, ranks_of, IsMadeFrom}
 use Rattle.ua_table.specs.Refusals.{first_refusal, is_outside}
-use Rattle.ua_table.proofs.Lists.{found, mapped_at, mapped_from, Contains-head, Contains-tail, Contains-slice_get, All-slice_get, get_or-slice_get}
+use Rattle.ua_table.proofs.Lists.{found, mapped_at, mapped_from, Contains-head, Contains-tail, Contains-slice_get, All-slice_get}
 use Rattle.ua_table.proofs.Counts.{one_if-same, times-Contains}
 use Rattle.ua_table.proofs.GeneratedLaws.{generator_in, result_in}
 use Rattle.ua_table.proofs.Choices.{range_low}
@@ -81,7 +81,7 @@ module _ (a : FiniteAlgebra) (table : IsAlgebraTable a) where
       let ops = length-map a.operations (λ (o : Operation). o.arity) in
       let o = found a.operations f (omega (arith, low, ops)) in
       let there : slice_get (names_of a.operations) f ≡ Some (o.0.name) = mapped_at (λ (o : Operation). o.name) a.operations f o.0 o.1 in
-      let is : name_at a f ≡ o.0.name = get_or-slice_get (names_of a.operations) f o.0.name [] there in
+      let is : name_at a f ≡ o.0.name = get_or_from_slice_get (names_of a.operations) f o.0.name [] there in
       record {
         there = there ∙ ap (λ n. Some n) (sym is);
         free = ap is_reserved is ∙ (All-slice_get IsTable a.operations f o.0 table.tables o.1).free;
@@ -145,7 +145,7 @@ module _ (a : FiniteAlgebra) (table : IsAlgebraTable a) where
       let ks : arities (power a width) ≡ arities_of a = arities_of_power a width some in
       let last : last_term a (written_steps a os) ≡ step_term (arities_of a) os (length os - 1) = ap (λ zs. step_term (arities_of a) zs (length zs - 1)) (steps_again (length gens) 0 os steps) in
       let t = mapped_from (term_value (power a width) gens) (unfolded (arities (power a width)) os) (length os - 1) target value in
-      let at : step_term (arities_of a) os (length os - 1) ≡ t.0 = ap (λ zs. step_term zs os (length os - 1)) (sym ks) ∙ get_or-slice_get (unfolded (arities (power a width)) os) (length os - 1) t.0 _ t.1 in
+      let at : step_term (arities_of a) os (length os - 1) ≡ t.0 = ap (λ zs. step_term zs os (length os - 1)) (sym ks) ∙ get_or_from_slice_get (unfolded (arities (power a width)) os) (length os - 1) t.0 _ t.1 in
       let gives : term_value (power a width) gens (last_term a (written_steps a os)) ≡ target = ap (term_value (power a width) gens) (last ∙ at) ∙ t.2 in
       no_line (member_lines a gens (written_steps a os) target width) (
         refusal_if-false (is_outside width WIDTH || (length (written_steps a os) == 0)) flaw.Width (or_from (is_outside width WIDTH) (length (written_steps a os) == 0) (right_width width some few) (some_steps os count value)),
@@ -176,7 +176,7 @@ row_follows : (rows : List Vector) → IsIncreasing rows → (i : ℕ) (v : Vect
 row_follows rows inc zero v at = refl
 row_follows rows inc (suc i) v at =
     let u = before rows i v at in
-    ap (λ w. is_lt (slice_cmp nat_cmp w v)) (get_or-slice_get rows i u.0 [] u.1) ∙ ap is_lt (below_next rows i u.0 v inc u.1 at)
+    ap (λ w. is_lt (slice_cmp nat_cmp w v)) (get_or_from_slice_get rows i u.0 [] u.1) ∙ ap is_lt (below_next rows i u.0 v inc u.1 at)
   where
     before : (xs : List Vector) (j : ℕ) (w : Vector) → slice_get xs (suc j) ≡ Some w → (u : Vector) × (slice_get xs j ≡ Some u)
     before [] j w e = cc
@@ -237,14 +237,14 @@ no_generator_flaw a width gens rows exact =
     (none_bad (λ (i : ℕ) (g : Vector). is_among rows g) 0 gens (λ i g at. is_there rows g (exact.all g (at_place i g at))))
   where
     at_place : (i : ℕ) (g : Vector) → slice_get gens i ≡ Some g → Sg (power a width) gens g
-    at_place i g at = subst (Sg (power a width) gens) (get_or-slice_get gens i g [] at) (generator_in (power a width) gens i (slice_get_within gens i g at))
+    at_place i g at = subst (Sg (power a width) gens) (get_or_from_slice_get gens i g [] at) (generator_in (power a width) gens i (slice_get_within gens i g at))
 
 -- the rows at positions are generated
 positions_generated : (a : FiniteAlgebra) (width : ℕ) (gens rows : List Vector) → AreExact a width gens rows → (tuple : List ℕ) → AllByRecursion (λ x. x < length rows) tuple → AllByRecursion (Sg (power a width) gens) (rows_at rows tuple)
 positions_generated a width gens rows exact [] low = tt
 positions_generated a width gens rows exact (x ∷ xs) low =
     let v = found rows x low.0 in
-    (subst (Sg (power a width) gens) (sym (get_or-slice_get rows x v.0 [] v.1)) (exact.generated v.0 (Contains-slice_get rows x v.0 v.1)), positions_generated a width gens rows exact xs low.1)
+    (subst (Sg (power a width) gens) (sym (get_or_from_slice_get rows x v.0 [] v.1)) (exact.generated v.0 (Contains-slice_get rows x v.0 v.1)), positions_generated a width gens rows exact xs low.1)
 
 result_there : (a : FiniteAlgebra) (width : ℕ) (gens rows : List Vector) → AreExact a width gens rows → (f : ℕ) (tuple : List ℕ) → f < length (arities (power a width)) → IsAssignment (length rows) (slice_index (arities (power a width)) f) tuple → is_missing (power a width) rows f tuple ≡ false
 result_there a width gens rows exact f tuple low h =
@@ -308,8 +308,8 @@ module _ (a : FiniteAlgebra) (table : IsAlgebraTable a) (width : ℕ) (gens : Li
       let long : length rows ≡ length (vectors_of rows) = sym (length-map rows (λ (w : Row). w.vector)) in
       let origin : IsOrigin (arities_of a) (length gens) (length (vectors_of rows)) r.0.origin = subst (λ n. IsOrigin (arities_of a) (length gens) n r.0.origin) long (subst (λ zs. IsOrigin zs (length gens) (length rows) r.0.origin) ks made.origin) in
       let w = written a table (length gens) (length (vectors_of rows)) r.0.origin origin in
-      let vector : slice_index_or (vectors_of rows) i [] ≡ r.0.vector = get_or-slice_get (vectors_of rows) i r.0.vector [] (mapped_at (λ (x : Row). x.vector) rows i r.0 r.1) in
-      let rank : slice_index (ranks_of rows) i ≡ r.0.rank = get_or-slice_get (ranks_of rows) i r.0.rank 0 (mapped_at (λ (x : Row). x.rank) rows i r.0 r.1) in
+      let vector : slice_index_or (vectors_of rows) i [] ≡ r.0.vector = get_or_from_slice_get (vectors_of rows) i r.0.vector [] (mapped_at (λ (x : Row). x.vector) rows i r.0 r.1) in
+      let rank : slice_index (ranks_of rows) i ≡ r.0.rank = get_or_from_slice_get (ranks_of rows) i r.0.rank 0 (mapped_at (λ (x : Row). x.rank) rows i r.0 r.1) in
       let earlier : AllByRecursion (λ x. slice_index (ranks_of rows) x < slice_index (ranks_of rows) i) (rows_named (written_step a r.0.origin))
       = subst (λ n. AllByRecursion (λ x. slice_index (ranks_of rows) x < n) (rows_named (written_step a r.0.origin))) (sym rank)
       (subst (AllByRecursion (λ x. slice_index (ranks_of rows) x < r.0.rank)) (sym (w.rows ∙ ap (λ zs. arguments_of zs r.0.origin) (sym ks))) made.earlier) in

@@ -29,8 +29,6 @@ is_same_vector v w e = (bytes_decides v w).1 e
 pub is_there : (vs : List Vector) (v : Vector) → Contains vs v → is_among vs v ≡ true
 is_there vs v c = list_any-from_Contains nat_list_eq_equiv v vs c
 
--- both parts of a test
-
 -- ---- lines and items
 
 -- no line applies
