@@ -1,14 +1,9 @@
 -- For each budget there is a closed listing or an exceeding one.
-use Rattle.std.proofs.Common.{◌≡◌, ℕ, zero, suc, ◌+◌, ◌-◌, ◌*◌, ◌<◌, ◌≤◌, Bool, true, false, List, [], ◌∷◌, ◌++◌, length, map, take, replicate, refl, sym, ap, ◌∙◌, subst, arith, inl, inr, ⊎_elim, length-append}
-use Rattle.std.specs.Prelude.{◌⊎◌, nat_eq, Contains, slice_index}
-use Rattle.std.specs.Bool.{Decides}
+use Rattle.std.proofs.Common.{◌≡◌, ℕ, zero, suc, ◌+◌, ◌-◌, ◌*◌, ◌<◌, ◌≤◌, List, [], ◌∷◌, ◌++◌, length, map, take, replicate, refl, sym, ap, ◌∙◌, subst, arith, inl, inr, ⊎_elim, length-append}
+use Rattle.std.specs.Prelude.{◌⊎◌, Contains, slice_index}
 use Rattle.std.specs.List.{AllByRecursion, range_with_len, flat_map}
-use Rattle.std.specs.Cmp.Lexicographic.{pointwise}
-use Rattle.std.specs.Set.{is_member}
-use Rattle.std.proofs.lemmas.Bool.{false≢true}
-use Rattle.std.proofs.lemmas.List.{length-map, length-replicate, take-append-drop}
+use Rattle.std.proofs.lemmas.List.{length-map, length-replicate, take-append-drop, take_at, drop_at, get_or_default}
 use Rattle.std.proofs.lemmas.List.FromFn.{get_or-range_with_len, length-range_with_len}
-use Rattle.std.proofs.lemmas.Map.Made.{is_member-Decides}
 use Rattle.ua_table.specs.declared.origins.Origin.{Origin}
 use Rattle.ua_table.specs.declared.origins.Origin.TheVariants.{Gen, Op}
 use Rattle.ua_table.specs.Algebras.{Vector, FiniteAlgebra, Product, IsProduct, IsVector, arities, apply}
@@ -19,24 +14,24 @@ use Rattle.ua_table.specs.Orders.{Record, rows_of, AreRecords}
 use Rattle.ua_table.specs.Origins.{IsOrigin, IsApplication, origin_value}
 use Rattle.ua_table.proofs.Choices.{IsChoice, chosen, choice_from, range_low}
 use Rattle.ua_table.proofs.GeneratedLaws.{Sg-least}
-use Rattle.std.proofs.lemmas.Slice.Eq.{bytes_eq-Decides}
+use Rattle.std.proofs.lemmas.List.Elements.{Contains-append_left, Contains-append_right, Contains-append_cases}
 use Rattle.ua_table.proofs.ListingLaws.{vector_in, length-le_from_members, exceeding_has_more}
 use Rattle.ua_table.proofs.ApplyLemmas.{IsVector-apply}
 use Rattle.ua_table.proofs.SpanLaws.{length_pieces}
 use Rattle.ua_rows.specs.RowLists.{rows_at}
-use Rattle.ua_table.proofs.Lists.{any_default, Contains-head, Contains-tail, Contains-cases, Contains-map, Contains-map_from, Contains-flat_map, Contains-flat_map_from, Contains-none, mapped_from, all_at, all_from_contains, all_weaker, AllZip-length}
-use Rattle.ua_table.proofs.Members.{take_seam, drop_seam}
+use Rattle.ua_table.proofs.Lists.{Contains-head, Contains-tail, Contains-map, Contains-map_from, Contains-flat_map, Contains-flat_map_from, mapped_from, all_at, all_from_contains, all_weaker, AllZip-length, all_from_places}
 use Rattle.ua_table.proofs.RecordLaws.{record_at, AreRecords-push}
 use Rattle.ua_core.proofs.StillStates.{placed}
 use Rattle.ua_term.proofs.StepLaws.{origin_vector}
 use Rattle.ua_work.specs.declared.goals.Goal.{Goal}
 use Rattle.ua_work.specs.Goals.{Meets}
+use Rattle.ua_work.proofs.RowValues.{either_way}
 use Rattle.ua_close.specs.declared.close.Closure.{Closure}
 use Rattle.ua_close.specs.declared.close.Closure.TheVariants.{Closed, Exceeds}
 use Rattle.ua_close.specs.Answers.{Answers}
 use Rattle.ua_close.specs.Kinds.{cardinality, HasAnswer, HasClosedListing}
 use Rattle.ua_close.proofs.MetLaws.{meets_more}
-use Rattle.ua_close.proofs.Closing.{all_from_slice_get, closed_from, exceeding_from}
+use Rattle.ua_close.proofs.Closing.{closed_from, exceeding_from}
 use Rattle.ua_close.proofs.SizeLaws.{listing_exists}
 
 -- ---- all origins over n rows
@@ -67,29 +62,17 @@ low_from n zero (x ∷ xs) h = absurd h
 low_from n (suc k) [] h = absurd h
 low_from n (suc k) (x ∷ xs) h = let r = range_low 0 n x h.0 in (omega (arith, r.1), low_from n k xs h.1)
 
-in_left : {X : Type 0} (x : X) (xs ys : List X) → Contains xs x → Contains (xs ++ ys) x
-in_left x [] ys c = absurd (Contains-none x c)
-in_left x (y ∷ xs) ys c = ⊎_elim (λ e. subst (Contains (y ∷ (xs ++ ys))) e (Contains-head y (xs ++ ys))) (λ r. Contains-tail y x (xs ++ ys) (in_left x xs ys r)) (Contains-cases y x xs c)
-
-in_right : {X : Type 0} (x : X) (xs ys : List X) → Contains ys x → Contains (xs ++ ys) x
-in_right x [] ys c = c
-in_right x (y ∷ xs) ys c = Contains-tail y x (xs ++ ys) (in_right x xs ys c)
-
-in_either : {X : Type 0} (x : X) (xs ys : List X) → Contains (xs ++ ys) x → Contains xs x ⊎ Contains ys x
-in_either x [] ys c = inr c
-in_either x (y ∷ xs) ys c = ⊎_elim (λ e. inl (subst (Contains (y ∷ xs)) e (Contains-head y xs))) (λ r. ⊎_elim (λ l. inl (Contains-tail y x xs l)) (λ l. inr l) (in_either x xs ys r)) (Contains-cases y x (xs ++ ys) c)
-
 module _ (ks : List ℕ) (gens n : ℕ) where
   -- each origin is one of them
   all_of_them : (o : Origin) → IsOrigin ks gens n o → Contains (all_origins ks gens n) o
-  all_of_them (Gen i) h = in_left (Gen i) (map (λ j. Gen j) (below gens)) (flat_map (applications ks n) (below (length ks))) (Contains-map (λ j. Gen j) i (below gens) (in_below gens i h))
+  all_of_them (Gen i) h = Contains-append_left (map (λ j. Gen j) (below gens)) (flat_map (applications ks n) (below (length ks))) (Gen i) (Contains-map (λ j. Gen j) i (below gens) (in_below gens i h))
   all_of_them (Op f args) h =
       let k = slice_index ks f in
       let front = take k args in
       let choice : IsChoice (replicate k (below n)) front = subst (λ m. IsChoice (replicate m (below n)) front) h.count (low_choice n front h.earlier) in
       let same_args : front ++ replicate (4 - k) 0 ≡ args = ap (λ rest. front ++ rest) (sym h.unused) ∙ take-append-drop k args in
       let here : Contains (applications ks n f) (Op f args) = subst (λ xs. Contains (applications ks n f) (Op f xs)) same_args (Contains-map (application ks f) front (choices (replicate k (below n))) (chosen (replicate k (below n)) front choice)) in
-      in_right (Op f args) (map (λ j. Gen j) (below gens)) (flat_map (applications ks n) (below (length ks))) (Contains-flat_map (applications ks n) f (Op f args) (below (length ks)) (in_below (length ks) f h.operation) here)
+      Contains-append_right (map (λ j. Gen j) (below gens)) (flat_map (applications ks n) (below (length ks))) (Op f args) (Contains-flat_map (applications ks n) f (Op f args) (below (length ks)) (in_below (length ks) f h.operation) here)
 
   -- and each of them is an origin
   an_application : (f : ℕ) (o : Origin) → f < length ks → Contains (applications ks n f) o → IsOrigin ks gens n o
@@ -99,12 +82,12 @@ module _ (ks : List ℕ) (gens n : ℕ) where
       let xs = m.0 in
       let choice = choice_from (replicate k (below n)) xs m.1 in
       let count : length xs ≡ k = sym (AllZip-length (λ (ys : List ℕ) x. Contains ys x) (replicate k (below n)) xs choice) ∙ length-replicate k (below n) in
-      let front : take k (xs ++ replicate (4 - k) 0) ≡ xs = take_seam k xs (replicate (4 - k) 0) count in
+      let front : take k (xs ++ replicate (4 - k) 0) ≡ xs = take_at xs (replicate (4 - k) 0) k count in
       let is : IsApplication ks n f (xs ++ replicate (4 - k) 0) = record {
         operation = h;
         count = ap length front ∙ count;
         earlier = subst (AllByRecursion (λ a. a < n)) (sym front) (low_from n k xs choice);
-        unused = drop_seam k xs (replicate (4 - k) 0) count;
+        unused = drop_at xs (replicate (4 - k) 0) k count;
       } in
       subst (IsOrigin ks gens n) m.2 is
 
@@ -112,17 +95,9 @@ module _ (ks : List ℕ) (gens n : ℕ) where
   only_origins o c = ⊎_elim
       (λ l. let m = Contains-map_from (λ j. Gen j) o (below gens) l in let low = range_low 0 gens m.0 m.1 in subst (IsOrigin ks gens n) m.2 (let h : m.0 < gens = omega (arith, low.1) in h))
       (λ r. let m = Contains-flat_map_from (applications ks n) o (below (length ks)) r in let low = range_low 0 (length ks) m.0 m.1 in an_application m.0 o (omega (arith, low.1)) m.2)
-      (in_either o (map (λ j. Gen j) (below gens)) (flat_map (applications ks n) (below (length ks))) c)
+      (Contains-append_cases (map (λ j. Gen j) (below gens)) (flat_map (applications ks n) (below (length ks))) o c)
 
 -- ---- records until no origin gives a new vector
-
--- a vector is among others, or not
-by_cases : {P : Type 0} (b : Bool) → Decides b P → P ⊎ (¬ P)
-by_cases true d = inl (d.0 refl)
-by_cases false d = inr (λ h. false≢true (d.1 h))
-
-member : (rows : List Vector) (v : Vector) → Contains rows v ⊎ (¬ Contains rows v)
-member rows v = by_cases (is_member (pointwise nat_eq) rows v) (is_member-Decides bytes_eq-Decides rows v)
 
 module _ (p : Product) (gens : List Vector) (product : IsProduct p) (admitted : AllByRecursion (IsVector p) gens) where
   -- each origin over the rows gives one of them
@@ -130,7 +105,7 @@ module _ (p : Product) (gens : List Vector) (product : IsProduct p) (admitted : 
   IsFull rows = (o : Origin) → IsOrigin (arities p) (length gens) (length rows) o → Contains rows (origin_value p gens rows o)
 
   record_vectors : (rs : List Record) → AreRecords p gens rs → AllByRecursion (IsVector p) (rows_of rs)
-  record_vectors rs made = all_from_slice_get (IsVector p) (rows_of rs) (λ k v e.
+  record_vectors rs made = all_from_places (IsVector p) (rows_of rs) (λ k v e.
       let at = mapped_from (λ (r : Record). r.0) rs k v e in
       subst (IsVector p) at.2 (record_at p gens rs k at.0 made at.1).vector)
 
@@ -144,7 +119,7 @@ module _ (p : Product) (gens : List Vector) (product : IsProduct p) (admitted : 
   search rows (o ∷ os) = ⊎_elim
       (λ old. ⊎_elim (λ (n : GivesNew rows os). inl (record { origin = n.origin; among = Contains-tail o n.origin os n.among; new = n.new })) (λ all. inr (old, all)) (search rows os))
       (λ new. inl (record { origin = o; among = Contains-head o os; new = new }))
-      (member rows (origin_value p gens rows o))
+      (either_way rows (origin_value p gens rows o))
 
   -- so many records, or fewer and no more
   record Grown (n : ℕ) : Type 0 where
@@ -178,7 +153,7 @@ module _ (p : Product) (gens : List Vector) (product : IsProduct p) (admitted : 
   -- then the rows are closed
   module _ (rows : List Vector) (full : IsFull rows) where
     generators_in : AllByRecursion (Contains rows) gens
-    generators_in = all_from_contains (Contains rows) gens (λ v c. subst (Contains rows) (any_default gens c.0 [] v c.1 ∙ c.2) (full (Gen c.0) c.1))
+    generators_in = all_from_contains (Contains rows) gens (λ v c. subst (Contains rows) (get_or_default gens c.0 [] v c.1 ∙ c.2) (full (Gen c.0) c.1))
 
     closed : IsClosed p rows
     closed f args h count held =
@@ -186,12 +161,12 @@ module _ (p : Product) (gens : List Vector) (product : IsProduct p) (admitted : 
         let q = placed rows args held in
         let all : length q.places ≡ k = q.count ∙ count in
         let zeros = replicate (4 - k) 0 in
-        let front : take k (q.places ++ zeros) ≡ q.places = take_seam k q.places zeros all in
+        let front : take k (q.places ++ zeros) ≡ q.places = take_at q.places zeros k all in
         let is : IsOrigin (arities p) (length gens) (length rows) (Op f (q.places ++ zeros)) = record {
           operation = h;
           count = ap length front ∙ all;
           earlier = subst (AllByRecursion (λ a. a < length rows)) (sym front) q.below;
-          unused = drop_seam k q.places zeros all;
+          unused = drop_at q.places zeros k all;
         } in
         subst (λ (vs : List Vector). Contains rows (apply p f vs)) (ap (rows_at rows) front ∙ q.rows_are) (full (Op f (q.places ++ zeros)) is)
 

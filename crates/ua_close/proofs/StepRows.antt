@@ -1,8 +1,6 @@
 -- Each step on a word is an event of its worker, or none.
-use Rattle.std.proofs.Common.{◌≡◌, ◌≢◌, ⊎_elim, ℕ, suc, ◌+◌, ◌*◌, ◌<◌, ◌≤◌, ◌^◌, Bool, true, false, List, [], ◌∷◌, ◌++◌, length, set, Some, None, refl, sym, ap, ◌∙◌, subst, arith, length-append, lit<}
+use Rattle.std.proofs.Common.{◌≡◌, ◌≢◌, ⊎_elim, ℕ, suc, ◌+◌, ◌<◌, ◌≤◌, ◌^◌, Bool, true, false, List, [], ◌∷◌, ◌++◌, length, set, Some, None, refl, sym, ap, ◌∙◌, subst, arith, length-append}
 use Rattle.std.proofs.lemmas.List.{set-get_or}
-use Rattle.std.proofs.lemmas.Nat.{or_block, or_shifted, or_comm}
-use Rattle.std.specs.Int.Bits.{or_zero_r, or_self}
 use Rattle.std.specs.Prelude.{bit_or, slice_get, slice_index, Contains}
 use mathlib.Core.Option.{some}
 use mathlib.Core.Logic.{dite}
@@ -14,42 +12,28 @@ use Rattle.ua_table.specs.Algebras.{Vector, Product, arities}
 use Rattle.ua_table.specs.Origins.{IsOrigin, origin_value}
 use Rattle.ua_table.specs.Slices.{bound}
 use Rattle.ua_table.proofs.SliceLaws.{bound_laws}
+use Rattle.ua_table.proofs.Lists.{slice_get-push_cases}
 use Rattle.ua_core.specs.declared.events.EventKind.{EventKind}
 use Rattle.ua_core.specs.declared.events.EventKind.TheVariants.{Look, Put, Claim, Know, Idle, Halt}
 use Rattle.ua_core.specs.Machines.{Machine, Asks, effect}
-use Rattle.ua_rows.proofs.RowLemmas.{at_end}
 use Rattle.ua_log.specs.declared.views.Plan.{Plan}
 use Rattle.ua_log.specs.declared.views.Worker.{Worker}
 use Rattle.ua_log.specs.declared.views.View.{View}
 use Rattle.ua_log.specs.Rule.{MayStand, code}
 use Rattle.ua_log.specs.Boards.{AreWords, workers, first_row, claim_word}
-use Rattle.ua_log.specs.Moves.{kept_of, sees, adds, knows, claims_slice, noted, FoundRecord, FoundClaims, SawClaims}
+use Rattle.ua_log.specs.Moves.{kept_of, sees, adds, knows, claims_slice, noted, FoundRecord, FoundClaims, SawClaims, Token}
 use Rattle.ua_log.proofs.Words.{code_some, row_none, row_empty, prefix_low}
 use Rattle.ua_log.proofs.ClosedLogs.{claims_back}
-use Rattle.ua_log.proofs.RowSteps.{bound_up}
-use Rattle.ua_log.proofs.ClaimSteps.{claim_words, no_halt, few_claims}
+use Rattle.ua_log.proofs.RowSteps.{bound_up, longer_words}
+use Rattle.ua_log.proofs.ClaimSteps.{claim_words, no_halt, few_claims, or_bit}
 use Rattle.ua_work.specs.Values.{values}
 use Rattle.ua_work.specs.Harvests.{IsPlanOf}
 use Rattle.ua_close.specs.Gatherings.{task_of}
-use Rattle.ua_close.specs.Steps.{read, numbered, in_order, machine_from, machine_in, Table, Token, plain, erased, IsSame, IsAt, own, next_row, moved, loaded, exchanged, Becomes, May, LoadFound, LoadEmpty, LoadBelow, PutWon, PutLost, LoadIdle, LoadKnow, ClaimWon, ClaimLost, HaltSet}
+use Rattle.ua_close.specs.Steps.{read, numbered, in_order, machine_from, machine_in, Table, plain, erased, IsSame, IsAt, own, next_row, moved, loaded, exchanged, Becomes, May, LoadFound, LoadEmpty, LoadBelow, PutWon, PutLost, LoadIdle, LoadKnow, ClaimWon, ClaimLost, HaltSet}
 use Rattle.ua_work.proofs.RowValues.{values_push, length-values}
 use Rattle.ua_close.proofs.LogLaws.{plan_origin}
-use Rattle.ua_close.proofs.StepWords.{swapped_hit, swapped_miss, AreRead, are_read, longer_words}
+use Rattle.ua_close.proofs.StepWords.{swapped_hit, swapped_miss, AreRead, are_read}
 use Rattle.ua_close.proofs.StepEvents.{same_parts, becomes, may_be, machine_is, plain_set, own_agrees, plan_same, words_read, own_stands, own_moves}
-
--- the highest bit is set
-or_bit : (cl : ℕ) (h : Bool) → cl < 2 ^ 63 → bit_or (claim_word cl h) (2 ^ 63) ≡ claim_word cl true
-or_bit cl true small =
-    let a : cl + 2 ^ 63 ≡ 1 * 2 ^ 63 + cl = omega arith in
-    let b : 2 ^ 63 ≡ 1 * 2 ^ 63 + 0 = refl in
-    let e = or_block 63 1 1 cl 0 small (lit< tt) in
-    let z : bit_or cl 0 ≡ cl = or_zero_r cl in
-    let one : bit_or 1 1 ≡ 1 = or_self 1 in
-    let e' : bit_or 1 1 * 2 ^ 63 + bit_or cl 0 ≡ cl + 2 ^ 63 = ap (λ (m : ℕ). m * 2 ^ 63 + bit_or cl 0) one ∙ ap (λ (m : ℕ). 1 * 2 ^ 63 + m) z ∙ sym a in
-    ap (λ (m : ℕ). bit_or m (2 ^ 63)) a ∙ e ∙ e'
-or_bit cl false small =
-    let e = or_shifted 1 63 cl small in
-    or_comm cl (2 ^ 63) ∙ e ∙ omega arith
 
 -- the worker that is read of each new one
 looked : (w : Worker) (o : Origin) → plain (read false (sees w o)).worker ≡ plain (record (read false w).worker { seen = length w.seen + 1; idle = false })
@@ -151,7 +135,7 @@ module _ (p : Product) (gens : List Vector) (plan : Plan) (of : IsPlanOf p gens 
       (λ j x e. ⊎_elim
       (λ (old : slice_get log j ≡ Some x). a.rule.rule.stands j x old)
       (λ (last : (j ≡ length log) × (o ≡ x)). subst (λ (q : ℕ × Origin). MayStand plan q.0 q.1) (λ z. ((all ∙ sym last.0) z, last.1 z)) stands)
-      (at_end log o x j e))
+      (slice_get-push_cases log o x j e))
       (few_claims plan log c h (workers s.views) a.plan_is a.rule.rule) in
       let written : set s.words (first_row plan + length log) (code plan o) ≡ set s.words i new =
       (λ z. set s.words (first_row plan + sym all z) (sym new_is z)) in

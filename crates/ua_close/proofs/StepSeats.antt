@@ -2,6 +2,8 @@
 use Rattle.std.proofs.Common.{◌≡◌, ◌≢◌, ⊎_elim, ℕ, zero, suc, ◌+◌, ◌<◌, ◌≤◌, max, Bool, true, false, List, [], ◌∷◌, ◌++◌, length, map, set, Option, Some, None, refl, sym, ap, ◌∙◌, subst, arith, length-append}
 use Rattle.std.proofs.lemmas.Bool.{lt-ltb, le-ltb, cases_lt}
 use Rattle.std.specs.Prelude.{if◌then◌else◌, MatchOption, slice_get, Contains}
+use Rattle.std.proofs.lemmas.List.Elements.{Contains-append_left, Contains-append_right}
+use Rattle.std.proofs.lemmas.List.{length-map}
 use mathlib.Core.Option.{some, some-ne-none, some-injective}
 use mathlib.Core.Logic.{dite}
 use native.Mathlib.Decide.{ℕ_discrete}
@@ -19,13 +21,12 @@ use Rattle.ua_log.specs.declared.views.Plan.{Plan}
 use Rattle.ua_log.specs.declared.views.Worker.{Worker}
 use Rattle.ua_log.specs.declared.views.View.{View}
 use Rattle.ua_log.specs.Boards.{workers, fresh, IsHeaded}
-use Rattle.ua_log.specs.Moves.{kept_of, longer, joined, split_first, split_new, join_first, spent_view}
+use Rattle.ua_log.specs.Moves.{kept_of, longer, joined, split_first, split_new, join_first, spent_view, Token}
 use Rattle.ua_log.proofs.ViewTotals.{total_moved, part_two}
 use Rattle.ua_work.specs.Harvests.{IsPlanOf}
 use Rattle.ua_close.specs.Gatherings.{task_of}
-use Rattle.ua_close.specs.Steps.{Numbered, read, read_all, numbered, worker_at, in_order, machine_from, machine_in, Table, Token, plain, erased, IsSame, IsAt, own, after_split, after_join, SeatSplit, SeatJoin}
-use Rattle.ua_table.proofs.Members.{in_left, in_right}
-use Rattle.ua_close.proofs.StepViews.{by_number, by_number_same, map_more, long_map, has, number_is, entry_of, worker_is, worker_here, worker_else, worker_more, total_read, length_read, entries_in, entries_moved, numbered_more}
+use Rattle.ua_close.specs.Steps.{Numbered, read, read_all, numbered, worker_at, in_order, machine_from, machine_in, Table, plain, erased, IsSame, IsAt, own, after_split, after_join, SeatSplit, SeatJoin}
+use Rattle.ua_close.proofs.StepViews.{by_number, by_number_same, map_more, has, number_is, entry_of, worker_is, worker_here, worker_else, worker_more, total_read, length_read, entries_in, entries_moved, numbered_more}
 use Rattle.ua_close.proofs.StepEvents.{same_parts, becomes, may_be, machine_is, plain_set, words_read, once, at_most, own_stands}
 
 -- a view with the same workers
@@ -36,7 +37,7 @@ numbered_same (u ∷ vs) (suc i) v w at e = ap (λ l. read_all u.all ++ l) (numb
 
 -- the workers in order are as many as they are
 pub count_in_order : (es : List Numbered) → length (in_order es) ≡ length es
-count_in_order es = long_map (worker_at es) (numbers_below (length es)) ∙ length-numbers_below (length es)
+count_in_order es = length-map (numbers_below (length es)) (worker_at es) ∙ length-numbers_below (length es)
 
 -- one worker more, whose number is how many there were
 in_order_more : (es : List Numbered) (e : Numbered) → e.number ≡ length es → total (has e.number) es ≡ 0 → in_order (es ++ e ∷ []) ≡ in_order es ++ e.worker ∷ []
@@ -44,7 +45,7 @@ in_order_more es e is none =
     let es' = es ++ e ∷ [] in
     let count : length es' ≡ suc (length es) = omega (arith, length-append es (e ∷ [])) in
     let once : total (has e.number) es' ≤ 1 = let t = total_push (has e.number) es e in let o = one_if-same e.number e.number refl in omega (arith, t, none, o) in
-    let last : worker_at es' (length es) ≡ e.worker = ap (worker_at es') (sym is) ∙ worker_is es' e (in_right es (e ∷ []) e (Contains-head e [])) once in
+    let last : worker_at es' (length es) ≡ e.worker = ap (worker_at es') (sym is) ∙ worker_is es' e (Contains-append_right es (e ∷ []) e (Contains-head e [])) once in
     ap (λ (n : ℕ). map (worker_at es') (numbers_below n)) count ∙ map_more (worker_at es') (length es) ∙
     ap (λ (l : List machines.Worker). l ++ worker_at es' (length es) ∷ []) (by_number_same (worker_at es) (worker_at es') (length es) (λ j lt. worker_more es e j (λ same. absurd (omega (arith, same, is, lt))))) ∙
     ap (λ (x : machines.Worker). in_order es ++ x ∷ []) last
@@ -129,11 +130,11 @@ module _ (plan : Plan) (s : Table) (id other : ℕ) (me it : Token) (a : IsAt pl
 
   in_kept : (e : Numbered) → Contains (map (read true) kept) e → Contains es' e
   in_kept e c = in_both e (Contains-tail (read false new) e (map (read true) (kept ++ it.0.all))
-      (subst (λ (l : List Numbered). Contains l e) (sym (map_append (read true) kept it.0.all)) (in_left (map (read true) kept) (map (read true) it.0.all) e c)))
+      (subst (λ (l : List Numbered). Contains l e) (sym (map_append (read true) kept it.0.all)) (Contains-append_left (map (read true) kept) (map (read true) it.0.all) e c)))
 
   in_taken : (e : Numbered) → Contains (map (read true) it.0.all) e → Contains es' e
   in_taken e c = in_both e (Contains-tail (read false new) e (map (read true) (kept ++ it.0.all))
-      (subst (λ (l : List Numbered). Contains l e) (sym (map_append (read true) kept it.0.all)) (in_right (map (read true) kept) (map (read true) it.0.all) e c)))
+      (subst (λ (l : List Numbered). Contains l e) (sym (map_append (read true) kept it.0.all)) (Contains-append_right (map (read true) kept) (map (read true) it.0.all) e c)))
 
   in_rest : (e : Numbered) → Contains (map (read true) (kept_of it.0.all)) e → Contains es' e
   in_rest e c = in_taken e (subst (λ (l : List Worker). Contains (map (read true) l) e) (sym b.live) (Contains-tail (read true (own it)) e (map (read true) (kept_of it.0.all)) c))

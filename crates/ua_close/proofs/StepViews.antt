@@ -1,19 +1,20 @@
 -- The workers of all views in the order of their numbers, where some views change.
-use Rattle.std.proofs.Common.{◌≡◌, ◌≢◌, ◌⊎◌, inl, inr, ⊎_elim, ℕ, zero, suc, ◌<◌, ◌≤◌, true, false, List, [], ◌∷◌, ◌++◌, length, map, set, Some, refl, sym, ap, ◌∙◌, subst, arith, length-append}
+use Rattle.std.proofs.Common.{◌≡◌, ◌≢◌, ◌⊎◌, inl, inr, ⊎_elim, ℕ, zero, suc, ◌<◌, ◌≤◌, true, List, [], ◌∷◌, ◌++◌, length, map, set, Some, refl, sym, ap, ◌∙◌, subst, arith, length-append}
 use Rattle.std.proofs.lemmas.Bool.Decides.{nat_tests}
-use Rattle.std.specs.Prelude.{◌==◌, nat_lt, slice_get, Contains}
+use Rattle.std.specs.Prelude.{◌==◌, slice_get, Contains}
+use Rattle.std.proofs.lemmas.List.Elements.{Contains-append_left, Contains-append_right, Contains-append_cases}
+use Rattle.std.proofs.lemmas.List.{length-map, append-nil, append_assoc}
 use mathlib.Core.Option.{some, some-ne-none, some-injective}
 use mathlib.Core.Logic.{dite}
 use native.Mathlib.Decide.{ℕ_discrete}
 use lib.ListN.{get_elem?}
-use Rattle.ua_table.specs.Counting.{one_if, total, once_below, numbers_below}
+use Rattle.ua_table.specs.Counting.{one_if, total, numbers_below}
 use Rattle.ua_table.proofs.Counts.{total-append, total-map, length-numbers_below, one_if-same, one_if-other}
-use Rattle.ua_table.proofs.Lists.{Contains-head, Contains-tail, Contains-cases, Contains-none}
-use Rattle.ua_rows.proofs.RowLemmas.{at_longer, at_last}
+use Rattle.ua_table.proofs.Lists.{Contains-head, Contains-tail, Contains-cases, Contains-none, slice_get-push}
+use Rattle.ua_rows.proofs.RowLemmas.{at_longer}
 use Rattle.ua_log.specs.declared.views.Worker.{Worker}
 use Rattle.ua_log.specs.declared.views.View.{View}
 use Rattle.ua_log.specs.Boards.{workers}
-use Rattle.ua_table.proofs.Members.{in_left, in_right, in_either}
 use Rattle.ua_close.specs.Steps.{Numbered, read, read_all, numbered, worker_at}
 
 -- ---- a list by the numbers below n
@@ -35,14 +36,10 @@ module _ {X : Type 0} where
   map_snoc f [] a = refl
   map_snoc f (x ∷ xs) a = ap (λ l. f x ∷ l) (map_snoc f xs a)
 
-  pub long_map : {Y : Type 0} (f : Y → X) (ys : List Y) → length (map f ys) ≡ length ys
-  long_map f [] = refl
-  long_map f (y ∷ ys) = ap suc (long_map f ys)
-
   pub by_number : (f g : ℕ → X) (n k : ℕ) (y : X) → ((j : ℕ) → j < n → j ≢ k → g j ≡ f j) → g k ≡ y → map g (numbers_below n) ≡ set (map f (numbers_below n)) k y
   by_number f g zero k y same here = refl
   by_number f g (suc n) k y same here =
-      let long : length (map f (numbers_below n)) ≡ n = long_map f (numbers_below n) ∙ length-numbers_below n in
+      let long : length (map f (numbers_below n)) ≡ n = length-map (numbers_below n) f ∙ length-numbers_below n in
       let rest : map g (numbers_below n) ≡ set (map f (numbers_below n)) k y = by_number f g n k y (λ j lt. same j (omega (arith, lt))) here in
       dite (ℕ_discrete k n)
       (λ e.
@@ -63,21 +60,17 @@ module _ {X : Type 0} where
   pub number_at : (f : ℕ → X) (n k : ℕ) → k < n → slice_get (map f (numbers_below n)) k ≡ Some (f k)
   number_at f zero k lt = absurd (omega (arith, lt))
   number_at f (suc n) k lt =
-      let long : length (map f (numbers_below n)) ≡ n = long_map f (numbers_below n) ∙ length-numbers_below n in
+      let long : length (map f (numbers_below n)) ≡ n = length-map (numbers_below n) f ∙ length-numbers_below n in
       ap (λ l. slice_get l k) (map_snoc f (numbers_below n) n) ∙
       dite (ℕ_discrete k n)
       (λ e. let q : k ≡ length (map f (numbers_below n)) = e ∙ sym long in
-      ap (slice_get (map f (numbers_below n) ++ f n ∷ [])) q ∙ at_last (map f (numbers_below n)) (f n) ∙ ap (λ j. Some (f j)) (sym e))
+      ap (slice_get (map f (numbers_below n) ++ f n ∷ [])) q ∙ slice_get-push (map f (numbers_below n)) (f n) ∙ ap (λ j. Some (f j)) (sym e))
       (λ n'. at_longer (map f (numbers_below n)) (f n ∷ []) k (f k) (number_at f n k (omega (arith, lt, n'))))
 
   pub map_more : (f : ℕ → X) (n : ℕ) → map f (numbers_below (suc n)) ≡ map f (numbers_below n) ++ f n ∷ []
   map_more f n = map_snoc f (numbers_below n) n
 
 -- ---- the worker of a number
-
--- once is at most once
-pub once_low : (n k : ℕ) → once_below n k ≤ 1
-once_low n k = elim (nat_lt k n) as (λ b. one_if b ≤ 1) [ true ↦ omega arith | false ↦ omega arith ]
 
 -- an entry has the number
 abbrev pub has : ℕ → Numbered → ℕ
@@ -141,7 +134,7 @@ total_read n (v ∷ vs) = omega (arith, total-append (has n) (read_all v.all) (n
 
 pub length_all : (ws : List Worker) → length (read_all ws) ≡ length ws
 length_all [] = refl
-length_all (w ∷ ws) = ap suc (long_map (read true) ws)
+length_all (w ∷ ws) = ap suc (length-map ws (read true))
 
 pub length_read : (vs : List View) → length (numbered vs) ≡ length (workers vs)
 length_read [] = refl
@@ -151,34 +144,26 @@ length_read (v ∷ vs) = omega (arith, length-append (read_all v.all) (numbered 
 
 pub entries_in : (vs : List View) (i : ℕ) (v : View) (e : Numbered) → get_elem? vs i ≡ some v → Contains (read_all v.all) e → Contains (numbered vs) e
 entries_in [] i v e at c = absurd (some-ne-none v (sym at))
-entries_in (u ∷ vs) zero v e at c = in_left (read_all u.all) (numbered vs) e (subst (λ (x : View). Contains (read_all x.all) e) (sym (some-injective u v at)) c)
-entries_in (u ∷ vs) (suc i) v e at c = in_right (read_all u.all) (numbered vs) e (entries_in vs i v e at c)
+entries_in (u ∷ vs) zero v e at c = Contains-append_left (read_all u.all) (numbered vs) e (subst (λ (x : View). Contains (read_all x.all) e) (sym (some-injective u v at)) c)
+entries_in (u ∷ vs) (suc i) v e at c = Contains-append_right (read_all u.all) (numbered vs) e (entries_in vs i v e at c)
 
 pub entries_new : (vs : List View) (i : ℕ) (v w : View) (e : Numbered) → get_elem? vs i ≡ some v → Contains (read_all w.all) e → Contains (numbered (set vs i w)) e
 entries_new [] i v w e at c = absurd (some-ne-none v (sym at))
-entries_new (u ∷ vs) zero v w e at c = in_left (read_all w.all) (numbered vs) e c
-entries_new (u ∷ vs) (suc i) v w e at c = in_right (read_all u.all) (numbered (set vs i w)) e (entries_new vs i v w e at c)
+entries_new (u ∷ vs) zero v w e at c = Contains-append_left (read_all w.all) (numbered vs) e c
+entries_new (u ∷ vs) (suc i) v w e at c = Contains-append_right (read_all u.all) (numbered (set vs i w)) e (entries_new vs i v w e at c)
 
 -- an entry is one of the view that was changed, or stays
 pub entries_moved : (vs : List View) (i : ℕ) (v w : View) (e : Numbered) → get_elem? vs i ≡ some v → Contains (numbered vs) e → Contains (read_all v.all) e ⊎ Contains (numbered (set vs i w)) e
 entries_moved [] i v w e at c = absurd (some-ne-none v (sym at))
 entries_moved (u ∷ vs) zero v w e at c = ⊎_elim
     (λ here. inl (subst (λ (x : View). Contains (read_all x.all) e) (some-injective u v at) here))
-    (λ rest. inr (in_right (read_all w.all) (numbered vs) e rest))
-    (in_either (read_all u.all) (numbered vs) e c)
+    (λ rest. inr (Contains-append_right (read_all w.all) (numbered vs) e rest))
+    (Contains-append_cases (read_all u.all) (numbered vs) e c)
 entries_moved (u ∷ vs) (suc i) v w e at c = ⊎_elim
-    (λ here. inr (in_left (read_all u.all) (numbered (set vs i w)) e here))
-    (λ rest. ⊎_elim (λ a. inl a) (λ b. inr (in_right (read_all u.all) (numbered (set vs i w)) e b)) (entries_moved vs i v w e at rest))
-    (in_either (read_all u.all) (numbered vs) e c)
+    (λ here. inr (Contains-append_left (read_all u.all) (numbered (set vs i w)) e here))
+    (λ rest. ⊎_elim (λ a. inl a) (λ b. inr (Contains-append_right (read_all u.all) (numbered (set vs i w)) e b)) (entries_moved vs i v w e at rest))
+    (Contains-append_cases (read_all u.all) (numbered vs) e c)
 
 pub numbered_more : (vs : List View) (w : View) → numbered (vs ++ w ∷ []) ≡ numbered vs ++ read_all w.all
-numbered_more [] w = nil_right (read_all w.all)
-  where
-    nil_right : (es : List Numbered) → es ++ [] ≡ es
-    nil_right [] = refl
-    nil_right (x ∷ xs) = ap (λ l. x ∷ l) (nil_right xs)
-numbered_more (u ∷ vs) w = ap (λ l. read_all u.all ++ l) (numbered_more vs w) ∙ assoc (read_all u.all) (numbered vs) (read_all w.all)
-  where
-    assoc : (a b c : List Numbered) → a ++ (b ++ c) ≡ (a ++ b) ++ c
-    assoc [] b c = refl
-    assoc (x ∷ xs) b c = ap (λ l. x ∷ l) (assoc xs b c)
+numbered_more [] w = append-nil (read_all w.all)
+numbered_more (u ∷ vs) w = ap (λ l. read_all u.all ++ l) (numbered_more vs w) ∙ sym (append_assoc (read_all u.all) (numbered vs) (read_all w.all))

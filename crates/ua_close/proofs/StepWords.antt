@@ -1,18 +1,16 @@
 -- The words of a board are read as its records, claim number and halt flag.
-use Rattle.std.proofs.Common.{◌≡◌, ◌≢◌, ℕ, suc, ◌+◌, ◌<◌, ◌≤◌, ◌^◌, Bool, List, [], ◌∷◌, ◌++◌, length, map, take, drop, set, get_or, Some, refl, sym, ap, ◌∙◌, arith, length-set, get_or-set_same, get_or-set_other}
+use Rattle.std.proofs.Common.{◌≡◌, ◌≢◌, ℕ, suc, ◌<◌, ◌≤◌, ◌^◌, Bool, List, [], ◌∷◌, length, map, take, drop, get_or, Some, refl, sym, ap, ◌∙◌, arith}
 use Rattle.std.specs.Prelude.{slice_get, slice_index}
 use Rattle.std.proofs.lemmas.Bool.Decides.{nat_tests}
 use Rattle.std.proofs.lemmas.List.{get_or-drop, length-drop}
-use mathlib.Core.Logic.{dite}
-use native.Mathlib.Decide.{ℕ_discrete}
+use Rattle.std.proofs.lemmas.Option.{slice_get_within}
 use Rattle.ua_table.specs.declared.origins.Origin.{Origin}
 use Rattle.ua_log.specs.declared.views.Plan.{Plan}
 use Rattle.ua_log.specs.Rule.{IsPlan, MayStand, code}
 use Rattle.ua_log.specs.Boards.{AreWords, first_row, row_word}
 use Rattle.ua_log.specs.Logs.{origin_of}
-use Rattle.ua_log.proofs.Words.{stands_later, row_here, row_else, code_some}
+use Rattle.ua_log.proofs.Words.{stands_later, code_some}
 use Rattle.ua_log.proofs.ClosedLogs.{read_back, claims_back}
-use Rattle.ua_rows.proofs.RowLemmas.{place_below}
 use Rattle.ua_close.specs.Steps.{filled, records_in, claims_in, halt_in, swapped}
 
 -- what a compare-exchange leaves
@@ -53,20 +51,6 @@ are_read plan words log c h p w room stands small =
     let are : (k : ℕ) → k < length rest → get_or rest k 0 ≡ row_word plan log k = λ k lt. get_or-drop (first_row plan) words k 0 ∙ w.rows k (omega (arith, lt, d)) in
     let f = filled_are plan p log rest (omega (arith, room, d)) are in
     let back = read_back plan log rest p (omega (arith, room, d)) (λ k lt. are k (omega (arith, lt, room, d)))
-    (λ k o e. let lt = place_below log k o e in stands_later plan k plan.budget o (omega (arith, lt, room)) (stands k o e)) in
+    (λ k o e. let lt = slice_get_within log k o e in stands_later plan k plan.budget o (omega (arith, lt, room)) (stands k o e)) in
     let n = claims_back c h (slice_index words 0) w.claim small in
     record { records = ap (map (origin_of plan)) f ∙ back; claims_are = n.0; halt = n.1 }
-
--- there is one record more, and its word is written
-pub longer_words : (p : Plan) (ws : List ℕ) (log : List Origin) (cl : ℕ) (h : Bool) (o : Origin) → length log < p.budget → AreWords p ws log cl h → AreWords p (set ws (first_row p + length log) (code p o)) (log ++ o ∷ []) cl h
-longer_words p ws log cl h o room w =
-    let i : ℕ = first_row p + length log in record {
-      count = length-set ws i (code p o) ∙ w.count;
-      claim = get_or-set_other ws i 0 (code p o) 0 (λ e. absurd (omega (arith, e))) ∙ w.claim;
-      fixed = λ k below. get_or-set_other ws i (1 + k) (code p o) 0 (λ e. absurd (omega (arith, e, below))) ∙ w.fixed k below;
-      rows = λ k below. dite (ℕ_discrete k (length log))
-          (λ same.
-          let within : i < length ws = let n = w.count in omega (arith, n, room) in
-          ap (λ (j : ℕ). get_or (set ws i (code p o)) (first_row p + j) 0) same ∙ get_or-set_same ws i (code p o) 0 within ∙ sym (row_here p log o) ∙ ap (row_word p (log ++ o ∷ [])) (sym same))
-          (λ other. get_or-set_other ws i (first_row p + k) (code p o) 0 (λ e. other (omega (arith, e))) ∙ w.rows k below ∙ sym (row_else p log o k other));
-    }

@@ -4,7 +4,7 @@ use Rattle.std.specs.List.{flat_map}
 use mathlib.Core.Option.{some}
 use lib.ListN.{get_elem?}
 use Rattle.atomic_table.specs.Seated.{TableId}
-use Rattle.atomic_table.specs.Table.{State, Me, keeps, stepped, opening}
+use Rattle.atomic_table.specs.Table.{State, keeps, stepped, opening}
 use Rattle.ua_table.specs.declared.limits.TheConstants.{WORKERS}
 use Rattle.ua_table.specs.declared.origins.Origin.{Origin}
 use Rattle.ua_table.specs.Algebras.{Vector, Product}
@@ -21,7 +21,7 @@ use Rattle.ua_log.specs.declared.views.Worker.{Worker}
 use Rattle.ua_log.specs.declared.views.View.{View}
 use Rattle.ua_log.specs.Rule.{IsPlan, Rule}
 use Rattle.ua_log.specs.Boards.{IsRuled, first_row, first_words, first_view}
-use Rattle.ua_log.specs.Moves.{own_of, kept_of, with_own, joined, split_first, split_new, join_first, spent_view, FoundRecord, Recalled, WonPlace, SawClaims, TriedClaim, Halted}
+use Rattle.ua_log.specs.Moves.{own_of, kept_of, with_own, joined, split_first, split_new, join_first, spent_view, FoundRecord, Recalled, WonPlace, SawClaims, TriedClaim, Halted, Token}
 use Rattle.ua_log.specs.Seats.{Home, seat_of, new_seat, with_worker}
 use Rattle.ua_log.specs.Logs.{LogView, origin_of}
 use Rattle.ua_work.specs.declared.harvests.Harvest.{Harvest}
@@ -85,10 +85,6 @@ machine_from p gens records claims halted es = record { rows = values p gens rec
 -- a board between two steps
 abbrev pub Table : Type 0
 Table = State (Unit {0}) View
-
--- a seat, with its view
-abbrev pub Token : Type 0
-Token = Me (Unit {0}) View
 
 -- the machine of the words and views of a board
 abbrev pub machine_in : Product → List Vector → Plan → Table → Machine

@@ -3,19 +3,20 @@ use Rattle.std.proofs.Common.{◌≡◌, ◌↔◌, ℕ, zero, suc, ◌<◌, Boo
 use Rattle.std.specs.Prelude.{Contains, slice_index, IsTrue, IfSome, IfNone, slice_get, Some, is_some, if◌then◌else◌, is_ok}
 use Rattle.std.specs.List.{AllByRecursion}
 use Rattle.std.specs.declared.alloc.Global.{Global}
+use Rattle.std.proofs.lemmas.Option.{slice_get_within, get_or_from_slice_get}
 use Rattle.ua_table.specs.Algebras.{Vector, IsVector, arities, apply}
 use Rattle.ua_table.specs.declared.origins.Origin.{Origin}
 use Rattle.ua_table.specs.declared.origins.Origin.TheVariants.{Gen, Op}
-use Rattle.ua_table.proofs.Lists.{found, get_or-slice_get, All-slice_get, all_append, Contains-slice_get}
+use Rattle.ua_table.proofs.Lists.{found, All-slice_get, all_append, Contains-slice_get}
 use Rattle.ua_rows.specs.RowLists.{RowList, rows_at}
 use Rattle.ua_rows.proofs.OperationLaws.{applied_vector}
-use Rattle.ua_rows.proofs.RowLemmas.{place_below}
 use Rattle.ua_rows.proofs.AppliedLaws.{contains_by}
+use Rattle.ua_rows.proofs.RowLemmas.{length-rows_at}
 use Rattle.ua_work.specs.Values.{with_new, different}
 use Rattle.ua_lanes.specs.LaneLists.{LaneList}
 use Rattle.ua_work.specs.Replicas.{AreLanesOf, values_in, value_in, IsOriginIn, IsReplica}
 use Rattle.ua_work.specs.declared.replicas.Replica.{Replica}
-use Rattle.ua_work.proofs.RowValues.{with_old, with_absent, either_way, in_different, in_all, different_push, rows_at_push, rows_at_new, named_push, rows_twice, length-rows_at}
+use Rattle.ua_work.proofs.RowValues.{with_old, with_absent, either_way, in_different, in_all, different_push, rows_at_push, rows_at_new, named_push, rows_twice}
 
 -- the rows of records are rows
 below_at : (n : ℕ) (places : List ℕ) (a : ℕ) → AllByRecursion (λ k. k < n) places → a < length places → slice_index places a < n
@@ -85,14 +86,14 @@ all_named : (P : Vector → Type 0) (rows : List Vector) (places : List ℕ) →
 all_named P rows [] all h = tt
 all_named P rows (k ∷ ks) all h =
     let there = found rows k h.0 in
-    (subst P (sym (get_or-slice_get rows k there.0 [] there.1)) (All-slice_get P rows k there.0 all there.1), all_named P rows ks all h.1)
+    (subst P (sym (get_or_from_slice_get rows k there.0 [] there.1)) (All-slice_get P rows k there.0 all there.1), all_named P rows ks all h.1)
 
 pub value_vectors : (r : Replica) → IsReplica r → AllByRecursion (IsVector r.operations) (values_in r)
 value_vectors r replica = all_named (IsVector r.operations) r.rows.items r.places.items replica.vectors replica.named
 
 -- the value of an origin is a vector of the product
 pub value_vector : (r : Replica) (o : Origin) → IsReplica r → IsOriginIn r o → IsVector r.operations (value_in r o)
-value_vector r (Gen i) replica h = let there = found r.gens.now.items i h in subst (IsVector r.operations) (sym (get_or-slice_get r.gens.now.items i there.0 [] there.1)) (All-slice_get (IsVector r.operations) r.gens.now.items i there.0 replica.admitted there.1)
+value_vector r (Gen i) replica h = let there = found r.gens.now.items i h in subst (IsVector r.operations) (sym (get_or_from_slice_get r.gens.now.items i there.0 [] there.1)) (All-slice_get (IsVector r.operations) r.gens.now.items i there.0 replica.admitted there.1)
 value_vector r (Op f args) replica h =
     let places = take (slice_index (arities r.operations) f) args in
     applied_vector r.operations f (values_in r) places (value_in r (Op f args)) replica.product h.operation h.count (value_vectors r replica)
@@ -136,7 +137,7 @@ module _ (r : Replica) (places : Vec ℕ Global) (lanes : Option LaneList) (i : 
     entered_old = entered r r.rows places lanes r.scratch replica (All-slice_get (IsVector r.operations) r.rows.items i r.scratch replica.vectors at) refl
         (sym (with_old r.rows.items r.scratch (Contains-slice_get r.rows.items i r.scratch at))) old_values
         (subst (AllByRecursion (λ k. k < length r.rows.items)) (sym more)
-        (named_push (length r.rows.items) (length r.rows.items) i r.places.items replica.named (omega arith) (place_below r.rows.items i r.scratch at))) held
+        (named_push (length r.rows.items) (length r.rows.items) i r.places.items replica.named (omega arith) (slice_get_within r.rows.items i r.scratch at))) held
 
   -- where it is none
   module _ (rows : RowList) (new : ¬ Contains (values_in r) r.scratch) (vector : IsVector r.operations r.scratch) (width : rows.width ≡ r.rows.width) (pushed : rows.items ≡ r.rows.items ++ r.scratch ∷ []) (last : i ≡ length r.rows.items) where

@@ -2,7 +2,6 @@
 
 ghost use Rattle.std.specs.Prelude.{◌≡◌, ◌<◌, ◌≤◌, ◌↔◌, length, take, slice_index_or, IsTrue, []};
 ghost use Rattle.std.specs.List.{list_any};
-ghost use Rattle.ua_table.specs.Algebras.{Vector};
 ghost use Rattle.ua_work.specs.Goals.{clashes, has_clash, Meets, IsFitting};
 
 use ua_rows::Rows;

@@ -1,6 +1,6 @@
 use Rattle.std.proofs.Common.{[], ◌∷◌, ◌++◌, take, sym, ap, ◌∙◌, arith}
 use Rattle.std.proofs.lemmas.List.{take_more}
-use Rattle.ua_table.proofs.Lists.{get_or-slice_get}
+use Rattle.std.proofs.lemmas.Option.{get_or_from_slice_get}
 use Rattle.ua_close.proofs.reaches.first_origins.Goals as goal
 
 pub loop-i-preserved : goal.loop-i-preserved
@@ -10,7 +10,7 @@ loop-i-preserved c =
     record {
       within = omega (arith, low);
       origins = c.in_ok-push.ensures.items
-          ∙ (λ l. c.loop-i.invariant.origins l ++ sym (get_or-slice_get records c.loop-i.i c.origin.result c.origin.result c.origin.ensures) l ∷ [])
+          ∙ (λ l. c.loop-i.invariant.origins l ++ sym (get_or_from_slice_get records c.loop-i.i c.origin.result c.origin.result c.origin.ensures) l ∷ [])
           ∙ sym (take_more records c.loop-i.i c.origin.result (let n = c.requires in omega (arith, low, n)));
     }
 

@@ -1,6 +1,6 @@
-use Rattle.std.proofs.Common.{◌≡◌, ◌*◌, ◌<◌, ℕ, zero, suc, length, replicate, refl, ap, ◌∙◌, arith, ⊎_elim}
+use Rattle.std.proofs.Common.{◌*◌, length, ap, ◌∙◌, arith, ⊎_elim}
 use Rattle.std.proofs.lemmas.List.{length-replicate}
-use Rattle.ua_table.specs.Algebras.{FiniteAlgebra, arities_of, arities}
+use Rattle.ua_table.specs.Algebras.{arities_of}
 use Rattle.ua_table.specs.Numbering.{records}
 use Rattle.ua_table.proofs.FrameLemmas.{arities_of_power}
 use Rattle.ua_close.proofs.widths.check_power.Goals as goal

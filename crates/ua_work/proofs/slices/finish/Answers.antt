@@ -3,12 +3,13 @@ use Rattle.ua_table.specs.declared.origins.Origin.TheVariants.{Op}
 use Rattle.ua_table.specs.Numbering.{Fits}
 use Rattle.ua_table.proofs.SliceLaws.{bound_laws}
 use Rattle.ua_log.specs.Seats.{Home}
+use Rattle.ua_log.proofs.Words.{prefix_self, prefix_low}
 use Rattle.ua_work.specs.Serials.{turn_from}
 use Rattle.ua_work.specs.Harvests.{IsDone}
 use Rattle.ua_work.specs.Replicas.{values_in}
 use Rattle.ua_work.specs.Workings.{GoesOn, IsSettled, Stops, Comes, StopsSerial, turn_of}
 use Rattle.ua_work.specs.KnownBlocks.{AreKnownBlocks}
-use Rattle.ua_work.proofs.WorkLaws.{same_self, places_seen, begins_low, begins_self}
+use Rattle.ua_work.proofs.WorkLaws.{same_self, places_seen}
 use Rattle.ua_work.proofs.BeginLaws.{both, only, weaker}
 use Rattle.ua_work.proofs.FinishLaws.{grown}
 use Rattle.ua_work.proofs.BlockLaws.{blocks_grown}
@@ -55,7 +56,7 @@ returns-then-is_known-clause-done c =
     let count = sym (places_seen r t.own k) in
     let within : rows ≤ t.home.plan.budget = subst (λ n. n ≤ t.home.plan.budget) c.seen.ensures.seen c.seen.ensures.within in
     let one = unary_slice r c.args.job.now t c.args.s c.slice_from.new.mark c.requires.home c.requires.job k within c.requires.below e.mark e.earlier e.own (sym c.arity.ensures.arity ∙ c.if-arity-eq1.true) in
-    (c.requires.working, done_one r rows c.args.s unit one r t.own count (same_self r) (begins_self (values_in r)) k (omega arith) (c.is_known.ensures.known c.if-is_known.true))
+    (c.requires.working, done_one r rows c.args.s unit one r t.own count (same_self r) (prefix_self (values_in r)) k (omega arith) (c.is_known.ensures.known c.if-is_known.true))
 
 pub returns-then-is_known-clause-lone : goal.returns-then-is_known-clause-lone
 returns-then-is_known-clause-lone c = λ alone come.
@@ -121,7 +122,7 @@ returns-then-arity-eq1-clause-done c =
     let o = Op unit.op (unit.row ∷ 0 ∷ 0 ∷ 0 ∷ []) in
     let stops = Stops goal c.args.job.now.board.now.plan new v in
     only c.settle_unary.result (GoesOn goal new v × IsSettled new o) (GoesOn goal new v × IsDone new.operations new.gens.now.items v.seen c.args.s) stops
-    (λ h. (h.0, done_one r rows c.args.s unit one new v count d.closure (grown r new t.own v k h.0.working d.closure d.seat.seen) h.0.working (begins_low t.own.seen v.seen d.seat.seen) h.1)) d.done
+    (λ h. (h.0, done_one r rows c.args.s unit one new v count d.closure (grown r new t.own v k h.0.working d.closure d.seat.seen) h.0.working (prefix_low t.own.seen v.seen d.seat.seen) h.1)) d.done
 
 pub returns-then-arity-eq1-clause-lone : goal.returns-then-arity-eq1-clause-lone
 returns-then-arity-eq1-clause-lone c = λ alone come.
