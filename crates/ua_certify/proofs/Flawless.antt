@@ -1,6 +1,6 @@
 -- The certificates of answers have no flaw.
 use Rattle.std.proofs.Common.{◌≡◌, ℕ, zero, suc, ◌-◌, ◌*◌, ◌<◌, ◌≤◌, ◌&&◌, Bool, true, false, Some, None, Ok, Vec, List, [], ◌∷◌, map, length, replicate, inr, ⊎_elim, refl, sym, ap, ◌∙◌, subst, arith}
-use Rattle.std.specs.Prelude.{Contains, slice_get, nat_le, ◌==◌}
+use Rattle.std.specs.Prelude.{Contains, slice_get, nat_le}
 use Rattle.std.specs.declared.alloc.Global.{Global}
 use Rattle.std.specs.List.{AllByRecursion}
 use Rattle.std.proofs.lemmas.Bool.{cases_lt}
@@ -8,6 +8,7 @@ use Rattle.std.proofs.lemmas.Bool.Decides.{nat_tests}
 use Rattle.std.proofs.Math.Nat.{mul-le-mul_right}
 use Rattle.std.proofs.lemmas.List.{length-map, length-replicate}
 use Rattle.std.proofs.lemmas.List.FromFn.{length-map-range_with_len}
+use Rattle.std.proofs.lemmas.Option.{get_or_from_slice_get}
 use Rattle.ua_table.specs.declared.limits.TheConstants.{WIDTH, CELLS}
 use Rattle.ua_table.specs.declared.origins.Origin.{Origin}
 use Rattle.ua_table.specs.Algebras.{Vector, FiniteAlgebra, IsAlgebra, Product, IsProduct, IsVector, IsIncreasing, signature, arities_of}
@@ -15,8 +16,9 @@ use Rattle.ua_table.specs.Tables.{IsAlgebraTable}
 use Rattle.ua_table.specs.Frames.{IsWidth}
 use Rattle.ua_table.specs.Terms.{Tree}
 use Rattle.ua_table.specs.Generated.{Sg}
-use Rattle.ua_table.specs.Listings.{Row, vectors_of, ranks_of, IsClosedListing}
-use Rattle.ua_table.proofs.Lists.{all_from_contains, get_or-slice_get}
+use Rattle.ua_table.specs.Listings.{Row, vectors_of, IsClosedListing}
+use Rattle.ua_table.proofs.Lists.{all_from_contains, all_replicate}
+use Rattle.ua_table.proofs.FrameLemmas.{arities_of_power}
 use Rattle.ua_term.specs.Steps.{StepList, AreSteps, step_values, unfolded}
 use Rattle.ua_identity.specs.declared.limits.TheConstants.{PLACES}
 use Rattle.ua_identity.specs.Identities.{VariablePattern, TermIdentity, over_two}
@@ -24,10 +26,8 @@ use Rattle.ua_identity.specs.Conditions.{TermCondition, IsPattern, IsCondition, 
 use Rattle.ua_identity.specs.Chains.{ChainKind, IsChain}
 use Rattle.ua_identity.specs.Patterns.{all_fillings, place_vector, generators, patterns_of, condition_power, argument_vectors, value_vector}
 use Rattle.ua_identity.specs.Patterns as patterns
-use Rattle.ua_close.specs.declared.close.Closure.{Closure}
-use Rattle.ua_close.specs.declared.close.Closure.TheVariants as closures
 use Rattle.ua_close.specs.declared.memberships.Answer.TheVariants as answers
-use Rattle.ua_close.specs.Answers.{IsWide, Answers}
+use Rattle.ua_close.specs.Answers.{IsWide}
 use Rattle.ua_close.specs.Memberships.{AreStepsTo}
 use Rattle.ua_cond.specs.Permitted.{MayDecide}
 use Rattle.ua_chain.specs.declared.chains.Chain.TheVariants as chains
@@ -39,14 +39,13 @@ use Rattle.ua_cert.specs.declared.certs.ChainName.{ChainName}
 use Rattle.ua_cert.specs.declared.certs.ChainName.TheVariants.{Jonsson, Hm}
 use Rattle.ua_flaws.specs.Shapes.{power}
 use Rattle.ua_flaws.specs.Answers.{AreExact, IsPowerListing}
-use Rattle.ua_flaws.specs.Steps.{written_steps, row_steps, written_term}
-use Rattle.ua_flaws.specs.Flaws.{member_flaw, not_member_flaw, listing_flaw}
+use Rattle.ua_flaws.specs.Steps.{written_steps, written_term}
+use Rattle.ua_flaws.specs.Flaws.{member_flaw, not_member_flaw}
 use Rattle.ua_check.specs.Answers.{AreThose}
 use Rattle.ua_check.specs.Conditions.{condition_of, has_places, width_of, condition_flaw, no_condition_flaw}
 use Rattle.ua_check.specs.Chains.{kind_of, chain_width, chain_flaw, HasNoChain}
 use Rattle.ua_check.specs.Reached.{places_of, no_chain_flaw}
-use Rattle.ua_flaws.proofs.Powers.{arities_power}
-use Rattle.ua_certify.specs.Certified.{closure_certificate, HasNoFlaw}
+use Rattle.ua_check.proofs.ConditionLaws.{arity_is}
 
 -- ---- laws of the crates below, as their functions state them
 
@@ -62,10 +61,6 @@ abbrev pub AbsentLaw : Type 0
 AbsentLaw = (a : FiniteAlgebra) (gens : List Vector) (rows : List Row) (target : Vector) (width : ℕ) → IsPowerListing a width gens rows → IsVector (power a width) target → ¬ Contains (vectors_of rows) target → not_member_flaw a gens (vectors_of rows) target width ≡ None
 
 -- ---- powers
-
-all_replicate : {X : Type 0} (P : X → Type 0) (n : ℕ) (x : X) → P x → AllByRecursion P (replicate n x)
-all_replicate P zero x h = tt
-all_replicate P (suc n) x h = (h, all_replicate P n x h)
 
 power_product : (a : FiniteAlgebra) (width : ℕ) → IsAlgebra a → 0 < width → IsProduct (power a width)
 power_product a zero h some = absurd (omega (arith, some))
@@ -89,7 +84,7 @@ closed_power a width b gens rows law table wide admitted closed = record {
 pub steps_flawless : (a : FiniteAlgebra) (width : ℕ) (gens : List Vector) (target : Vector) (steps : StepList) → StepsLaw → IsAlgebraTable a → IsWidth width → AllByRecursion (IsVector (power a width)) gens → IsVector (power a width) target → AreStepsTo (power a width) gens target steps
     → member_flaw a gens (written_steps a steps.items) target width ≡ None
 steps_flawless a width gens target steps law table wide admitted one h =
-    let ks : steps.arities ≡ arities_of a = h.arities_are ∙ arities_power a width wide.0 in
+    let ks : steps.arities ≡ arities_of a = h.arities_are ∙ arities_of_power a width wide.0 in
     let given : AreSteps (arities_of a) (length gens) steps.items = subst (λ n. AreSteps (arities_of a) n steps.items) h.generators (subst (λ zs. AreSteps zs steps.gens steps.items) ks h.steps) in
     law a gens steps.items target width table wide admitted one given h.value
 
@@ -123,16 +118,6 @@ condition_is n Nu k h = n.near_unanimity_is k (low k h) (high k h)
 
     high : (j : ℕ) → (nat_le 3 j && nat_le j PLACES) ≡ true → j ≤ PLACES
     high j e = grind (arith, nat_tests)
-
-three : (k : ℕ) → (k == 3) ≡ true → 3 ≡ k
-three k e = grind (arith, nat_tests)
-
-arity_is : (name : CondName) (k : ℕ) → has_places name k ≡ true → (condition_of name k).arity ≡ k
-arity_is Maltsev k h = three k h
-arity_is Majority k h = three k h
-arity_is Minority k h = three k h
-arity_is Pixley k h = three k h
-arity_is Nu k h = refl
 
 abbrev pub WideLaw : Type 0
 WideLaw = (a : FiniteAlgebra) (ps : List VariablePattern) → 0 < a.size → 0 < length ps → 0 < length (patterns.power a ps)
@@ -183,10 +168,10 @@ module _ (a : FiniteAlgebra) (name : CondName) (k b w : ℕ) (table : IsAlgebraT
       let not_wide = may.0.0 in
       let tells = may.0.1 in
       let writes = may.1 in
-      let ks : steps.arities ≡ arities_of a = tells.arities_are ∙ arities_power a (length (all_fillings a.size (patterns_of (condition_of name k)))) some_width in
+      let ks : steps.arities ≡ arities_of a = tells.arities_are ∙ arities_of_power a (length (all_fillings a.size (patterns_of (condition_of name k)))) some_width in
       let gens : steps.gens ≡ k = tells.generators ∙ length-map-range_with_len (place_vector (all_fillings a.size (patterns_of (condition_of name k)))) 0 (condition_of name k).arity ∙ arity_is name k places in
       let given : AreSteps (arities_of a) k steps.items = subst (λ n. AreSteps (arities_of a) n steps.items) gens (subst (λ zs. AreSteps zs steps.gens steps.items) ks tells.steps) in
-      let term : written_term (arities_of a) steps.items ≡ writes.term = ap (λ zs. written_term zs steps.items) (sym ks) ∙ get_or-slice_get (unfolded steps.arities steps.items) (length steps.items - 1) writes.term _ writes.last in
+      let term : written_term (arities_of a) steps.items ≡ writes.term = ap (λ zs. written_term zs steps.items) (sym ks) ∙ get_or_from_slice_get (unfolded steps.arities steps.items) (length steps.items - 1) writes.term _ writes.last in
       law a name k steps.items table places (narrow (condition_power a (condition_of name k)) (argument_vectors a (condition_of name k)) b some not_wide) (nonempty steps.arities steps.items writes.term writes.last) given (subst (λ t. Meets a t (condition_of name k)) (sym term) writes.meets)
     where
       nonempty : (zs : List ℕ) (items : List Origin) (t : Tree) → slice_get (unfolded zs items) (length items - 1) ≡ Some t → 0 < length items

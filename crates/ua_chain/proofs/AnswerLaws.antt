@@ -1,15 +1,16 @@
 -- Chains from rows and their steps.
-use Rattle.std.proofs.Common.{◌≡◌, ℕ, zero, suc, ◌+◌, ◌-◌, ◌<◌, ◌≤◌, Bool, true, false, List, [], ◌∷◌, ◌++◌, length, take, refl, sym, ap, ◌∙◌, subst, arith, Some, ⊎_elim, inl, inr}
-use Rattle.std.specs.Prelude.{◌⊎◌, Contains, slice_index, slice_index_or, slice_get}
+use Rattle.std.proofs.Common.{◌≡◌, ℕ, ◌+◌, ◌-◌, ◌<◌, ◌≤◌, Bool, true, false, List, [], ◌∷◌, ◌++◌, length, take, refl, sym, ap, ◌∙◌, subst, arith, Some, ⊎_elim}
+use Rattle.std.specs.Prelude.{Contains, slice_index, slice_index_or, slice_get}
 use Rattle.std.proofs.lemmas.List.{length_push, get_or_append_left, get_or_at, get_or-take, length-take-le, get_or_past}
 use Rattle.std.proofs.lemmas.List.Elements.{Contains-push, Contains-push_cases, Contains-append_left, Contains-get_or}
-use Rattle.std.proofs.lemmas.Option.{get_or_from_slice_get, same_Some}
+use Rattle.std.proofs.lemmas.Option.{get_or_from_slice_get}
 use Rattle.std.proofs.lemmas.Bool.{cases_lt, false≢true}
 use Rattle.ua_table.specs.declared.origins.Origin.{Origin}
 use Rattle.ua_table.specs.Algebras.{Vector, FiniteAlgebra, Product, arities, arities_of}
 use Rattle.ua_table.specs.Terms.{Generator, IsTerm, term_value}
 use Rattle.ua_table.proofs.Lists.{mapped_from}
-use Rattle.ua_term.specs.Steps.{StepList, AreSteps, unfolded, step_term, step_values}
+use Rattle.ua_table.proofs.FrameLemmas.{arities_of_power}
+use Rattle.ua_term.specs.Steps.{StepList, unfolded, step_term, step_values}
 use Rattle.ua_term.proofs.StepLaws.{step_is_term}
 use Rattle.ua_close.specs.Memberships.{AreStepsTo}
 use Rattle.ua_identity.specs.Chains.{ChainKind}
@@ -17,7 +18,7 @@ use Rattle.ua_identity.specs.Patterns.{all_fillings, vector_of, generators}
 use Rattle.ua_chain.specs.Answers.{term_of, AreTermSteps}
 use Rattle.ua_chain.specs.Charts.{IsRowOf}
 use Rattle.ua_identity.proofs.PatternLaws.{value_is_vector}
-use Rattle.ua_chain.proofs.ChainLaws.{generator_count, arities_power, all_filled}
+use Rattle.ua_chain.proofs.ChainLaws.{generator_count, all_filled}
 use Rattle.ua_chain.specs.Closures.{IsClosureOf, AreMarkedNumbers}
 
 -- ---- steps of a row
@@ -36,7 +37,7 @@ step_row a kind p gens vs s row v c at to =
     let fs = all_fillings a.size kind.patterns in
     let some = some_items p gens s.items v to.value in
     let last : length s.items - 1 < length s.items = omega (arith, some) in
-    let arity : arities p ≡ arities_of a = ap arities c.product_is ∙ arities_power (length fs) a c.wide in
+    let arity : arities p ≡ arities_of a = ap arities c.product_is ∙ arities_of_power a (length fs) c.wide in
     let count : length gens ≡ kind.places = ap length c.gens_are ∙ generator_count a kind.patterns kind.places in
     let term = step_is_term s.arities s.gens s.items (length s.items - 1) to.steps last in
     let is_term : IsTerm (arities_of a) kind.places (term_of s) = subst (λ (ks : List ℕ). IsTerm ks kind.places (term_of s)) (to.arities_are ∙ arity) (subst (λ n. IsTerm s.arities n (term_of s)) (to.generators ∙ count) term) in
@@ -53,17 +54,10 @@ step_row a kind p gens vs s row v c at to =
       row = record { is_term = is_term; stands = at ∙ ap Some (sym vector) };
     }
 
--- what stands in a list with one more at its end
-pub pushed_cases : {X : Type 0} (xs : List X) (x s : X) (j : ℕ) → slice_get (xs ++ x ∷ []) j ≡ Some s → (slice_get xs j ≡ Some s) ⊎ (j ≡ length xs) × (x ≡ s)
-pushed_cases [] x s zero e = inr (refl, same_Some x s e)
-pushed_cases [] x s (suc j) e = cc
-pushed_cases (y ∷ xs) x s zero e = inl e
-pushed_cases (y ∷ xs) x s (suc j) e = ⊎_elim (λ old. inl old) (λ new. inr (ap suc new.0, new.1)) (pushed_cases xs x s j e)
-
 -- ---- marked numbers
 
-marked_more : (marks : List Bool) (i j : ℕ) → i < length marks → j < i → slice_index_or (take (i + 1) marks) j false ≡ slice_index_or (take i marks) j false
-marked_more marks i j l low = get_or-take (i + 1) marks j false (omega (arith, low)) ∙ sym (get_or-take i marks j false low)
+marked_more : (marks : List Bool) (i j : ℕ) → j < i → slice_index_or (take (i + 1) marks) j false ≡ slice_index_or (take i marks) j false
+marked_more marks i j low = get_or-take (i + 1) marks j false (omega (arith, low)) ∙ sym (get_or-take i marks j false low)
 
 marked_last : (marks : List Bool) (i : ℕ) → slice_index_or (take (i + 1) marks) i false ≡ slice_index_or marks i false
 marked_last marks i = get_or-take (i + 1) marks i false (omega arith)
@@ -75,10 +69,10 @@ pub numbers_skip : (marks : List Bool) (i : ℕ) (numbers : List ℕ) → i < le
 numbers_skip marks i numbers l out h = record {
   ascending = h.ascending;
   exact = λ j. (
-    λ c. let m = (h.exact j).0 c in marked_more marks i j l (marked_within marks i j (omega (arith, l)) m) ∙ m,
+    λ c. let m = (h.exact j).0 c in marked_more marks i j (marked_within marks i j (omega (arith, l)) m) ∙ m,
     λ m. let low = marked_within marks (i + 1) j (omega (arith, l)) m in
         ⊎_elim
-        (λ (below : j < i). (h.exact j).1 (sym (marked_more marks i j l below) ∙ m))
+        (λ (below : j < i). (h.exact j).1 (sym (marked_more marks i j below) ∙ m))
         (λ above. let same : j ≡ i = omega (arith, low, above) in absurd (false≢true (sym out ∙ sym (marked_last marks i) ∙ ap (λ k. slice_index_or (take (i + 1) marks) k false) (sym same) ∙ m)))
         (cases_lt j i),
   );
@@ -101,13 +95,13 @@ numbers_more marks i numbers numbers' l fit e h =
           (cases_lt k (length numbers));
       exact = λ j. (
         λ c. ⊎_elim
-            (λ old. let m = (h.exact j).0 old in marked_more marks i j l (marked_within marks i j (omega (arith, l)) m) ∙ m)
+            (λ old. let m = (h.exact j).0 old in marked_more marks i j (marked_within marks i j (omega (arith, l)) m) ∙ m)
             (λ same. ap (λ k. slice_index_or (take (i + 1) marks) k false) (sym same) ∙ marked_last marks i ∙ fit)
             (Contains-push_cases numbers i j (subst (λ (xs : List ℕ). Contains xs j) e c)),
         λ m. let low = marked_within marks (i + 1) j (omega (arith, l)) m in
             subst (λ (xs : List ℕ). Contains xs j) (sym e)
             (⊎_elim
-            (λ (below : j < i). Contains-append_left numbers (i ∷ []) j ((h.exact j).1 (sym (marked_more marks i j l below) ∙ m)))
+            (λ (below : j < i). Contains-append_left numbers (i ∷ []) j ((h.exact j).1 (sym (marked_more marks i j below) ∙ m)))
             (λ above. let same : i ≡ j = omega (arith, low, above) in subst (Contains (numbers ++ i ∷ [])) same (Contains-push numbers i))
             (cases_lt j i)),
       );

@@ -1,16 +1,16 @@
 -- Terms and members, places, and chains of length 0.
-use Rattle.std.proofs.Common.{◌≡◌, ◌≢◌, ℕ, zero, suc, ◌<◌, ◌≤◌, List, [], ◌∷◌, ◌++◌, length, map, get_or, set, replicate, refl, sym, ap, ◌∙◌, subst, arith, ⊎_elim}
+use Rattle.std.proofs.Common.{◌≡◌, ◌≢◌, ℕ, zero, suc, ◌<◌, ◌≤◌, List, [], ◌∷◌, ◌++◌, length, map, set, replicate, refl, sym, ap, ◌∙◌, subst, arith, ⊎_elim}
 use Rattle.std.specs.Prelude.{Contains, ◌↔◌, slice_index}
 use Rattle.std.specs.List.{AllByRecursion}
-use Rattle.std.proofs.lemmas.List.{length-map, length-replicate, get_or-set_same, get_or-set_other, length-set, get_or-replicate}
+use Rattle.std.proofs.lemmas.List.{length-map, length-replicate, get_or-set_same, get_or-set_other, length-set, get_or-replicate, get_or-map}
 use Rattle.std.proofs.lemmas.Bool.{cases_lt}
-use Rattle.ua_rows.proofs.PageLaws.{all_set}
 use Rattle.ua_table.specs.Algebras.{Vector, FiniteAlgebra, arities, arities_of}
 use Rattle.ua_table.specs.Terms.{Tree, Generator, IsTerm, eval}
 use Rattle.ua_table.specs.Generated.{Sg}
 use Rattle.std.proofs.lemmas.List.FromFn.{length-map-range_with_len}
 use Rattle.ua_table.specs.Counting.{numbers_below}
-use Rattle.ua_table.proofs.Lists.{Contains-map, Contains-map_from, Contains-flat_map, Contains-flat_map_from, all_at}
+use Rattle.ua_table.proofs.Lists.{Contains-map, Contains-map_from, Contains-flat_map, Contains-flat_map_from, all_at, all_set, all_replicate}
+use Rattle.ua_table.proofs.FrameLemmas.{arities_of_power}
 use Rattle.std.proofs.lemmas.List.Elements.{All-from_recursion, Contains-push, Contains-append_left}
 use Rattle.ua_term.specs.Assignments.{IsAssignment, assignments}
 use Rattle.ua_term.proofs.AssignmentLaws.{assignment_from, assignment_in}
@@ -20,18 +20,7 @@ use Rattle.ua_identity.specs.Kinds.{IsKind, IsOwnIdentity, IsPatternOf, AreApart
 use Rattle.ua_identity.specs.Patterns.{fillings, all_fillings, vector_of, place_vector, power, generators}
 use Rattle.ua_identity.proofs.PatternLaws.{AreFilled, value_is_vector, maps_agree, agree_maps}
 
--- ---- lists
-
-mapped_or : {X Y : Type 0} (f : X → Y) (xs : List X) (i : ℕ) (d : X) (e : Y) → i < length xs → get_or (map f xs) i e ≡ f (get_or xs i d)
-mapped_or f [] i d e l = absurd (omega (arith, l))
-mapped_or f (x ∷ xs) zero d e l = refl
-mapped_or f (x ∷ xs) (suc i) d e l = mapped_or f xs i d e (omega (arith, l))
-
 -- ---- terms and members
-
-pub arities_power : (n : ℕ) (a : FiniteAlgebra) → 0 < n → arities (replicate n a) ≡ arities_of a
-arities_power zero a l = absurd (omega (arith, l))
-arities_power (suc n) a l = refl
 
 -- each filling has as many places
 fillings_filled : (places : ℕ) (p : VariablePattern) (xss : List (List ℕ)) → length p.places ≡ places → AreFilled places (map (filled p) xss)
@@ -55,14 +44,14 @@ member_of_term a kind t k wide h =
     let fs = all_fillings a.size kind.patterns in
     record {
       term = t;
-      is_term = subst (λ n. IsTerm (arities (power a kind.patterns)) n t) (sym (generator_count a kind.patterns kind.places)) (subst (λ (ks : List ℕ). IsTerm ks kind.places t) (sym (arities_power (length fs) a wide)) h);
+      is_term = subst (λ n. IsTerm (arities (power a kind.patterns)) n t) (sym (generator_count a kind.patterns kind.places)) (subst (λ (ks : List ℕ). IsTerm ks kind.places t) (sym (arities_of_power a (length fs) wide)) h);
       value = value_is_vector a fs kind.places t (all_filled kind.places a.size kind.patterns k.patterns) h;
     }
 
 pub term_of_member : (a : FiniteAlgebra) (kind : ChainKind) (v : Vector) → IsKind kind → 0 < length (all_fillings a.size kind.patterns) → Sg (power a kind.patterns) (generators a kind.patterns kind.places) v → (t : Tree) × IsTerm (arities_of a) kind.places t × (vector_of a kind.patterns t ≡ v)
 term_of_member a kind v k wide s =
     let fs = all_fillings a.size kind.patterns in
-    let is : IsTerm (arities_of a) kind.places s.term = subst (λ (ks : List ℕ). IsTerm ks kind.places s.term) (arities_power (length fs) a wide) (subst (λ n. IsTerm (arities (power a kind.patterns)) n s.term) (generator_count a kind.patterns kind.places) s.is_term) in
+    let is : IsTerm (arities_of a) kind.places s.term = subst (λ (ks : List ℕ). IsTerm ks kind.places s.term) (arities_of_power a (length fs) wide) (subst (λ n. IsTerm (arities (power a kind.patterns)) n s.term) (generator_count a kind.patterns kind.places) s.is_term) in
     (s.term, is, sym (value_is_vector a fs kind.places s.term (all_filled kind.places a.size kind.patterns k.patterns) is) ∙ s.value)
 
 -- ---- places
@@ -87,7 +76,7 @@ place_has_vector a kind j t k h =
 
 -- place 0 and the end satisfy what each term does
 place_satisfies : (a : FiniteAlgebra) (i : TermIdentity) (j : ℕ) → j < length i.pattern.places → slice_index i.pattern.places j ≡ i.value → Satisfies a (Generator j) i
-place_satisfies a i j l e xs h = mapped_or (slice_index xs) i.pattern.places j 0 0 l ∙ ap (slice_index xs) e
+place_satisfies a i j l e xs h = get_or-map (slice_index xs) i.pattern.places j 0 0 l ∙ ap (slice_index xs) e
 
 first_owns : (a : FiniteAlgebra) (kind : ChainKind) (is : List TermIdentity) → 0 < kind.places → AllByRecursion (IsOwnIdentity kind) is → AllByRecursion (Satisfies a (Generator 0)) is
 first_owns a kind [] l h = tt
@@ -115,10 +104,6 @@ two_elements a n v w x y lv lw apart lx ly =
     all_same zero = tt
     all_same (suc n) = (lx, all_same n)
 
-all_zero : (n k : ℕ) → 0 < n → AllByRecursion (λ x. x < n) (replicate {A = ℕ} k 0)
-all_zero n zero some = tt
-all_zero n (suc k) some = (some, all_zero n k some)
-
 -- an earlier place is apart from the end at some pattern
 apart_at : (kind : ChainKind) (j : ℕ) → IsKind kind → j < kind.end → AreApart kind.patterns j kind.end
 apart_at kind j k l = all_at (λ i. AreApart kind.patterns i kind.end) (numbers_below kind.end) j k.apart (number_in kind.end j l)
@@ -129,7 +114,7 @@ some_fillings n kind k some =
     let apart = apart_at kind 0 k k.some in
     let p = apart.pattern in
     let zeros = replicate {A = ℕ} p.variables 0 in
-    let assigns = assignment_in n p.variables (replicate {A = ℕ} p.variables 0) (record { count = length-replicate p.variables 0; elements = all_zero n p.variables some }) in
+    let assigns = assignment_in n p.variables (replicate {A = ℕ} p.variables 0) (record { count = length-replicate p.variables 0; elements = all_replicate (λ x. x < n) p.variables 0 some }) in
     let here = Contains-flat_map (fillings n) p (filled p (replicate {A = ℕ} p.variables 0)) kind.patterns apart.there (Contains-map (filled p) (replicate {A = ℕ} p.variables 0) (assignments n p.variables) assigns) in
     let within = here.1 in
     omega (arith, within)
@@ -149,7 +134,7 @@ one_element a kind j k l same x y lx ly =
     let two = two_elements a p.variables v w x y lv lw apart.apart lx ly in
     let here = Contains-flat_map (fillings a.size) p (filled p two.0) kind.patterns apart.there (Contains-map (filled p) two.0 (assignments a.size p.variables) (assignment_in a.size p.variables two.0 two.1)) in
     let agree = agree_maps (λ ys. slice_index ys j) (λ ys. slice_index ys kind.end) (all_fillings a.size kind.patterns) same (filled p two.0) here in
-    sym two.2 ∙ sym (mapped_or (slice_index two.0) p.places j 0 0 (omega arith)) ∙ agree ∙ mapped_or (slice_index two.0) p.places kind.end 0 0 (omega arith) ∙ two.3
+    sym two.2 ∙ sym (get_or-map (slice_index two.0) p.places j 0 0 (omega arith)) ∙ agree ∙ get_or-map (slice_index two.0) p.places kind.end 0 0 (omega arith) ∙ two.3
 
 -- where place 0 and the end have the same vector, place 0 is the end
 pub ends_at_first : (a : FiniteAlgebra) (kind : ChainKind) → IsKind kind → vector_of a kind.patterns (Generator 0) ≡ vector_of a kind.patterns (Generator kind.end) → IsPlace a kind.places kind.end (Generator 0)

@@ -7,8 +7,8 @@ use Rattle.std.proofs.lemmas.Option.{slice_get-get_or, slice_get_within, same_So
 use Rattle.std.proofs.lemmas.Bool.{cases_lt, false≢true}
 use Rattle.ua_table.specs.Algebras.{Vector, FiniteAlgebra, arities_of}
 use Rattle.ua_table.specs.Terms.{Tree, Generator, IsTerm, eval}
-use Rattle.ua_table.proofs.Lists.{Contains-slice_get, found}
-use Rattle.ua_chain.proofs.ZipLaws.{alternates_zip, alternates_unzip, all_zip, all_unzip, ends_unzip, ends_weaker, length_zip, even_zip}
+use Rattle.ua_table.proofs.Lists.{Contains-slice_get, found, AllZip-length}
+use Rattle.ua_chain.proofs.ZipLaws.{alternates_zip, alternates_unzip, all_zip, all_unzip, ends_unzip, ends_weaker, even_zip}
 use Rattle.ua_walk.specs.Sequences.{BeginsWith, EndsWith, ends_even}
 use Rattle.ua_walk.specs.Ladders.{LinkLists, Joins, IsAllowed, IsClimb, IsLeastClimb, IsClimbed}
 use Rattle.ua_identity.specs.Chains.{ChainKind, AreLinked, IsPlace, IsOwn, IsBeginning, IsChain, IsLeastChain, IsReached}
@@ -108,8 +108,8 @@ module _ (a : FiniteAlgebra) (kind : ChainKind) (vectors : List Vector) (allowed
     least = λ others d.
         let o = climb_of_beginning start others end s d.beginning (chain_ends others end e d) (row_low (Generator kind.end) end e) in
         let few = h.least o.rows o.climb o.ends in
-        let left = length_zip (IsRowOf a kind vectors) terms rows z in
-        let right = length_zip (IsRowOf a kind vectors) others o.rows o.are in
+        let left = AllZip-length (IsRowOf a kind vectors) terms rows z in
+        let right = AllZip-length (IsRowOf a kind vectors) others o.rows o.are in
         omega arith;
   }
     where

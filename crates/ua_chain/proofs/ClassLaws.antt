@@ -6,12 +6,12 @@ use Rattle.std.proofs.lemmas.List.{get_or_append_left, get_or_at, get_or_default
 use Rattle.std.proofs.lemmas.List.Elements.{recursion_from_All}
 use Rattle.std.proofs.lemmas.Option.{slice_get_within, same_Some}
 use Rattle.std.proofs.lemmas.Bool.{cases_lt}
+use Rattle.ua_listing.proofs.SearchLaws.{one_row}
 use Rattle.ua_table.specs.Algebras.{Vector}
 use Rattle.ua_table.proofs.Lists.{found}
 use Rattle.ua_rows.specs.RowLists.{IsRowList}
 use Rattle.ua_walk.specs.Ladders.{LinkLists, AreLinks}
 use Rattle.ua_chain.specs.declared.classes.Part.{Part}
-use Rattle.ua_chain.proofs.OnceLaws.{one_place}
 use Rattle.ua_chain.specs.Classes.{entries_at, AreClasses, AreLinksBy}
 
 -- the class of one row more
@@ -50,6 +50,6 @@ are_links_by vs p q width keys leads enters links a b rows few l e n = record {
       let left : slice_get keys (slice_index links.leads i) ≡ Some (entries_at p v) = ap (λ (cs : List ℕ). slice_get keys (slice_index cs i)) l ∙ a.places i v x in
       let right : slice_get keys (slice_index links.enters j) ≡ Some (entries_at q w) = ap (λ (cs : List ℕ). slice_get keys (slice_index cs j)) e ∙ b.places j w y in (
         λ same. same_Some (entries_at p v) (entries_at q w) (sym left ∙ ap (slice_get keys) same ∙ right),
-        λ same. one_place keys rows.different (slice_index links.leads i) (slice_index links.enters j) (entries_at q w) (left ∙ ap Some same) right,
+        λ same. one_row keys rows.different (slice_index links.leads i) (slice_index links.enters j) (entries_at q w) (left ∙ ap Some same) right,
       );
 }

@@ -14,7 +14,7 @@ use Rattle.ua_table.specs.Terms.{Generator}
 use Rattle.ua_table.specs.Generated.{Sg}
 use Rattle.ua_table.specs.Listings.{Row, vectors_of, IsClosedListing}
 use Rattle.ua_table.specs.Orders.{IsSerialListing}
-use Rattle.ua_table.proofs.Lists.{mapped_at, found}
+use Rattle.ua_table.proofs.Lists.{mapped_at, found, all_from_contains, all_from_places}
 use Rattle.ua_term.specs.Steps.{StepList}
 use Rattle.ua_walk.specs.declared.ladders.Climb.{Climb}
 use Rattle.ua_walk.specs.Sequences.{BeginsWith, EndsWith}
@@ -22,11 +22,12 @@ use Rattle.ua_walk.specs.Ladders.{LinkLists, IsAllowed, IsLeastClimb, HasNoClimb
 use Rattle.ua_walk.specs.Climbs.{TellsClimb}
 use Rattle.ua_identity.specs.Identities.{VariablePattern, TermIdentity, Satisfies}
 use Rattle.ua_table.proofs.GeneratedLaws.{generator_in}
+use Rattle.ua_table.proofs.FrameLemmas.{arities_of_power}
 use Rattle.ua_identity.specs.Chains.{Link, ChainKind}
 use Rattle.ua_identity.specs.Kinds.{IsKind}
 use Rattle.ua_identity.specs.Patterns.{all_fillings, vector_of, place_vector}
 use Rattle.ua_chain.specs.Charts.{IsRowOf, IsChart}
-use Rattle.ua_chain.proofs.ChainLaws.{generator_count, arities_power, first_is_own}
+use Rattle.ua_chain.proofs.ChainLaws.{generator_count, first_is_own}
 use Rattle.ua_chain.proofs.ChartLaws.{least_chain, no_chain, evens_reached, odds_reached, end_is_first}
 use Rattle.ua_chain.specs.declared.kinds.PatternPair.{PatternPair}
 use Rattle.ua_chain.specs.KindTables.{link_of, pattern_at}
@@ -85,10 +86,6 @@ zip_by_index R [] [] e h = tt
 zip_by_index R [] (y ∷ ys) e h = absurd (omega (arith, e))
 zip_by_index R (x ∷ xs) [] e h = absurd (omega (arith, e))
 zip_by_index R (x ∷ xs) (y ∷ ys) e h = (h 0 x refl, zip_by_index R xs ys (omega (arith, e)) (λ j w g. h (suc j) w g))
-
-all_by_index : {X : Type 0} (P : X → Type 0) (xs : List X) → ((j : ℕ) (x : X) → slice_get xs j ≡ Some x → P x) → AllByRecursion P xs
-all_by_index P [] h = tt
-all_by_index P (x ∷ xs) h = (h 0 x refl, all_by_index P xs (λ j w g. h (suc j) w g))
 
 map_zip : {X Y : Type 0} (R : Y → ℕ → Type 0) (f : X → Y) (xs : List X) (ys : List ℕ) → AllZip (λ x y. R (f x) y) xs ys → AllZip R (map f xs) ys
 map_zip R f [] [] h = tt
@@ -153,7 +150,7 @@ generator_row a kind vs j i v l at here = record { is_term = l; stands = here �
 -- ---- the kind's closure
 
 pub arities_made : (a : FiniteAlgebra) (kind : ChainKind) (p : Product) (gens : List Vector) → IsClosureOf a kind p gens → arities p ≡ arities_of a
-arities_made a kind p gens c = ap arities c.product_is ∙ arities_power (length (all_fillings a.size kind.patterns)) a c.wide
+arities_made a kind p gens c = ap arities c.product_is ∙ arities_of_power a (length (all_fillings a.size kind.patterns)) c.wide
 
 pub closed_for : (a : FiniteAlgebra) (kind : ChainKind) (p : Product) (gens : List Vector) (b : ℕ) (list : List Row) → IsClosureOf a kind p gens → IsClosedListing p gens b list → IsClosedListing (power_of a kind) (generators_of a kind) b list
 closed_for a kind p gens b list c h = subst (λ (q : Product). IsClosedListing q (generators_of a kind) b list) c.product_is (subst (λ (gs : List Vector). IsClosedListing p gs b list) c.gens_are h)
@@ -231,7 +228,7 @@ module _ (a : FiniteAlgebra) (kind : ChainKind) (p : Product) (gens : List Vecto
 
   pub yes_answer : AreChainSteps a kind steps
   yes_answer = record {
-    each = all_by_index (AreTermSteps a kind) steps (λ j s e. (each_steps j s e).steps);
+    each = all_from_places (AreTermSteps a kind) steps (λ j s e. (each_steps j s e).steps);
     least = least_chain a kind (vectors_of list) allowed even odd c.is_kind c.wide chart start end rows (map term_of steps) rs re h zipped
         (begins_map (λ t. t ≡ Generator 0) term_of steps (begins_by_index (λ s. term_of s ≡ Generator 0) steps some (λ s e. ap term_of (first_step s e))))
         (λ l. ends_map (λ t. t ≡ Generator kind.end) term_of steps (ends_by_index (λ s. term_of s ≡ Generator kind.end) steps some (λ s e. ap term_of (last_step s (let n = length-map steps term_of in omega (arith, n, l)) e))));
@@ -278,12 +275,8 @@ module _ (a : FiniteAlgebra) (kind : ChainKind) (p : Product) (gens : List Vecto
     rows = list;
     closed = closed_for a kind p gens b list c closed;
     serial = serial_for a kind p gens list c serial;
-    terms = all_by_index (AreStepsOfRow (arities_of a) list) steps (each_serial serial);
+    terms = all_from_places (AreStepsOfRow (arities_of a) list) steps (each_serial serial);
   }
-
-low_numbers : (marks numbers : List ℕ) (n : ℕ) → ((i : ℕ) → Contains numbers i → i < n) → AllByRecursion (λ i. i < n) numbers
-low_numbers marks [] n h = tt
-low_numbers marks (x ∷ xs) n h = (h x (0, omega arith, refl), low_numbers marks xs n (λ i c. h i (suc c.0, omega (arith, c.1), c.2)))
 
 pub no_answer : (a : FiniteAlgebra) (kind : ChainKind) (b : ℕ) (list : List Row) (allowed : List Bool) (even odd : LinkLists) (start end : ℕ) (at_even at_odd : List Bool) (evens odds : List ℕ) → IsKind kind → 0 < length (all_fillings a.size kind.patterns) → IsClosedListing (power_of a kind) (generators_of a kind) b list → IsChart a kind (vectors_of list) allowed even odd → IsRowOf a kind (vectors_of list) (Generator 0) start → IsRowOf a kind (vectors_of list) (Generator kind.end) end → HasNoClimb allowed even odd start end at_even at_odd → AreEvenNumbers kind.by_parity at_even at_odd evens → AreOddNumbers kind.by_parity at_odd odds → HasNoChain a kind b list evens odds
 no_answer a kind b list allowed even odd start end at_even at_odd evens odds k wide closed chart rs re h he ho =
@@ -300,7 +293,7 @@ no_answer a kind b list allowed even odd start end at_even at_odd evens odds k w
               λ c. r.1 (⊎_elim (λ m. inl ((h.evens i).0 m)) (λ m. inr (m.0, (h.odds i).0 m.1)) ((he.exact i).0 c)),
               λ w. (he.exact i).1 (⊎_elim (λ m. inl ((h.evens i).1 m)) (λ m. inr (m.0, (h.odds i).1 m.1)) (r.0 w)),
             );
-        within = low_numbers evens evens (length vs) (λ i c. ⊎_elim (λ m. let l = marked_low at_even i m in omega (arith, l, even_long)) (λ m. let l = marked_low at_odd i m.1 in omega (arith, l, odd_long)) ((he.exact i).0 c));
+        within = all_from_contains (λ i. i < length vs) evens (λ i c. ⊎_elim (λ m. let l = marked_low at_even i m in omega (arith, l, even_long)) (λ m. let l = marked_low at_odd i m.1 in omega (arith, l, odd_long)) ((he.exact i).0 c));
       };
       odds = record {
         ascending = ho.ascending;
@@ -309,7 +302,7 @@ no_answer a kind b list allowed even odd start end at_even at_odd evens odds k w
               λ c. let m = (ho.exact i).0 c in r.1 (m.0, (h.odds i).0 m.1),
               λ w. let m = r.0 w in (ho.exact i).1 (m.0, (h.odds i).1 m.1),
             );
-        within = low_numbers odds odds (length vs) (λ i c. let m = (ho.exact i).0 c in let l = marked_low at_odd i m.1 in omega (arith, l, odd_long));
+        within = all_from_contains (λ i. i < length vs) odds (λ i c. let m = (ho.exact i).0 c in let l = marked_low at_odd i m.1 in omega (arith, l, odd_long));
       };
     }
 

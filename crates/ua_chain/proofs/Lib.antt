@@ -1,5 +1,4 @@
 pub mod KindLaws
-pub mod OnceLaws
 pub mod ZipLaws
 pub mod PartLaws
 pub mod ChainLaws

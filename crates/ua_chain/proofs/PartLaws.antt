@@ -1,30 +1,22 @@
 -- How many coordinates the patterns of a kind have.
-use Rattle.std.proofs.Common.{◌≡◌, ℕ, ◌+◌, ◌^◌, ◌<◌, ◌≤◌, List, [], ◌∷◌, ◌++◌, length, take, drop, get_or, refl, sym, ap, ◌∙◌, arith}
-use Rattle.std.specs.List.{flat_map}
-use Rattle.std.proofs.lemmas.List.{length-map, length-append, append_assoc, take_more, take-append-drop}
+use Rattle.std.proofs.Common.{◌≡◌, ℕ, ◌+◌, ◌^◌, ◌<◌, ◌≤◌, List, [], ◌∷◌, ◌++◌, length, take, drop, get_or, sym, ap, ◌∙◌, arith}
+use Rattle.std.proofs.lemmas.List.{length-map, length-append, take_more, take-append-drop, append-nil}
+use Rattle.std.proofs.lemmas.List.Concat.{flat_map-append}
 use Rattle.ua_term.specs.Assignments.{assignments}
 use Rattle.ua_term.proofs.AssignmentLaws.{length_assignments}
 use Rattle.ua_identity.specs.Identities.{VariablePattern, filled}
 use Rattle.ua_identity.specs.Patterns.{fillings, all_fillings, start_of}
 
-joined : {X Y : Type 0} (g : X → List Y) (xs ys : List X) → flat_map g (xs ++ ys) ≡ flat_map g xs ++ flat_map g ys
-joined g [] ys = refl
-joined g (x ∷ xs) ys = ap (λ zs. g x ++ zs) (joined g xs ys) ∙ sym (append_assoc (g x) (flat_map g xs) (flat_map g ys))
-
-nothing_behind : {X : Type 0} (xs : List X) → xs ++ [] ≡ xs
-nothing_behind [] = refl
-nothing_behind (x ∷ xs) = ap (λ ys. x ∷ ys) (nothing_behind xs)
-
 -- the coordinates of one pattern more
 pub start_more : (n : ℕ) (ps : List VariablePattern) (i : ℕ) (d : VariablePattern) → i < length ps → start_of n ps i + length (fillings n (get_or ps i d)) ≡ start_of n ps (i + 1)
 start_more n ps i d l =
-    sym (ap length (ap (all_fillings n) (take_more ps i d l) ∙ joined (fillings n) (take i ps) (get_or ps i d ∷ []) ∙ ap (λ (fs : List (List ℕ)). all_fillings n (take i ps) ++ fs) (nothing_behind (fillings n (get_or ps i d))))
+    sym (ap length (ap (all_fillings n) (take_more ps i d l) ∙ flat_map-append (fillings n) (take i ps) (get_or ps i d ∷ []) ∙ ap (λ (fs : List (List ℕ)). all_fillings n (take i ps) ++ fs) (append-nil (fillings n (get_or ps i d))))
     ∙ length-append (all_fillings n (take i ps)) (fillings n (get_or ps i d)))
 
 -- those of the first patterns are no more than all
 pub start_below : (n : ℕ) (ps : List VariablePattern) (k : ℕ) → start_of n ps k ≤ length (all_fillings n ps)
 start_below n ps k =
-    let whole = ap length (sym (joined (fillings n) (take k ps) (drop k ps)) ∙ ap (all_fillings n) (take-append-drop k ps)) in
+    let whole = ap length (sym (flat_map-append (fillings n) (take k ps) (drop k ps)) ∙ ap (all_fillings n) (take-append-drop k ps)) in
     let parts = length-append (all_fillings n (take k ps)) (all_fillings n (drop k ps)) in
     omega (arith, whole, parts)
 

@@ -7,6 +7,8 @@ use Rattle.std.specs.Option.{IfSome}
 use Rattle.std.specs.List.{AllByRecursion}
 use Rattle.std.proofs.lemmas.List.{length-map}
 use Rattle.std.proofs.lemmas.Option.{slice_get-get_or}
+use Rattle.ua_listing.proofs.SearchLaws.{one_row}
+use Rattle.ua_listing.proofs.RearrangeLaws.{increasing_different}
 use Rattle.ua_table.specs.Algebras.{Vector, FiniteAlgebra, IsIncreasing}
 use Rattle.ua_table.specs.Listings.{Row, vectors_of}
 use Rattle.ua_table.proofs.Lists.{all_weaker}
@@ -21,7 +23,6 @@ use Rattle.ua_identity.specs.Patterns.{fillings, all_fillings, vector_of}
 use Rattle.ua_chain.specs.Charts.{IsRowOf, IsChart}
 use Rattle.ua_identity.proofs.PatternLaws.{part_is, linked_from_parts, parts_from_linked, satisfied_from_part, part_from_satisfied}
 use Rattle.ua_chain.proofs.PartLaws.{start_more, start_below}
-use Rattle.ua_chain.proofs.OnceLaws.{one_place, increasing_different}
 use Rattle.ua_chain.proofs.ChainLaws.{term_of_member}
 use Rattle.ua_chain.specs.Answers.{power_of, generators_of}
 use Rattle.ua_chain.specs.declared.classes.Part.{Part}
@@ -127,7 +128,7 @@ links_both a kind vs l pair links p h d e i j x y =
 pub chart_from : (a : FiniteAlgebra) (kind : ChainKind) (vs : List Vector) (allowed : List Bool) (even odd : LinkLists) (ep op : PatternPair) → ((v : Vector) → Contains vs v ↔ Sg (power_of a kind) (generators_of a kind) v) → IsIncreasing vs → AreOwnRows a.size kind vs allowed → IsPairOf kind.patterns kind.even ep → IsPairOf kind.patterns kind.odd op → AreLinksAt a.size kind.patterns ep vs even → AreLinksAt a.size kind.patterns op vs odd → IsChart a kind vs allowed even odd
 chart_from a kind vs allowed even odd ep op exact inc own pe po le lo = record {
   exact = exact;
-  once = λ i j v x y. one_place vs (increasing_different vs inc) i j v x y;
+  once = λ i j v x y. one_row vs (increasing_different vs inc) i j v x y;
   count = own.count;
   own = λ t i r.
       let here = own.rows i (vector_of a kind.patterns t) r.stands in

@@ -15,12 +15,9 @@ use Rattle.ua_table.specs.Algebras.{Vector, Product, arities}
 use Rattle.ua_table.specs.Origins.{arguments_of}
 use Rattle.ua_table.specs.Listings.{Row, vectors_of, ranks_of}
 use Rattle.ua_table.specs.Orders.{Record, turn_with, IsNext, IsSerialFrom, IsSerialListing, by_rank}
-use Rattle.ua_table.proofs.Lists.{mapped_from, mapped_at}
+use Rattle.ua_table.proofs.Lists.{mapped_from, mapped_at, less_first}
 use Rattle.ua_listing.specs.Arrangements.{origins_of}
 use Rattle.ua_close.specs.Needed.{origin_at, arguments_at, AreStepsFor}
-
-less_first : (x y : ℕ) (xs ys : List ℕ) → x < y → slice_cmp nat_cmp (x ∷ xs) (y ∷ ys) ≡ Less
-less_first x y xs ys h = ap (λ o. ordering_then o (slice_cmp nat_cmp xs ys)) (sym (nat_cmp_is x y Less h))
 
 -- the turn of an earlier generator comes first
 earlier_turn : (i j : ℕ) → i < j → slice_cmp nat_cmp (0 ∷ i ∷ []) (0 ∷ j ∷ []) ≡ Less

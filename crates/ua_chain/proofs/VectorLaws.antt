@@ -12,18 +12,12 @@ use Rattle.ua_table.proofs.Choices.{range_low}
 use Rattle.ua_table.proofs.Lists.{Contains-head, Contains-tail, all_from_contains, all_map}
 use Rattle.ua_term.specs.Assignments.{IsAssignment}
 use Rattle.ua_close.specs.Answers.{IsWide}
-use Rattle.ua_identity.specs.Identities.{VariablePattern}
 use Rattle.ua_identity.specs.Chains.{ChainKind}
-use Rattle.ua_identity.specs.Kinds.{IsKind, IsPatternOf}
+use Rattle.ua_identity.specs.Kinds.{IsKind}
 use Rattle.ua_identity.specs.Patterns.{all_fillings, place_vector}
 use Rattle.ua_chain.specs.Answers.{power_of, generators_of}
 use Rattle.ua_chain.specs.Closures.{IsClosureOf}
 use Rattle.ua_chain.proofs.ChainLaws.{fillings_assign, generator_count, some_fillings}
-
--- each pattern has the places
-pub has_places : (ps : List VariablePattern) (places : ℕ) → AllByRecursion (IsPatternOf places) ps → AllByRecursion (λ (p : VariablePattern). places ≤ length p.places) ps
-has_places [] places h = tt
-has_places (p ∷ ps) places h = (let n = h.0.count in omega (arith, n), has_places ps places h.1)
 
 -- what stands at a place is an element
 place_fits : (a : FiniteAlgebra) (places j : ℕ) (fs : List (List ℕ)) → j < places → ((xs : List ℕ) → Contains fs xs → IsAssignment a.size places xs) → AllZip (λ (b : FiniteAlgebra) x. x < b.size) (replicate (length fs) a) (place_vector fs j)

@@ -1,6 +1,6 @@
 //! The search over the rows of a closed listing.
 
-ghost use Rattle.std.specs.Prelude.{◌≡◌, ◌↔◌, ◌⊎◌, ◌+◌, ◌<◌, ◌≤◌, ◌^◌, ℕ, Bool, List, true, length, slice_index_or, IfOk, false};
+ghost use Rattle.std.specs.Prelude.{◌≡◌, ◌↔◌, ◌⊎◌, ◌<◌, ◌≤◌, ℕ, Bool, List, true, length, slice_index_or, IfOk, false};
 ghost use Rattle.ua_table.specs.declared.limits.TheConstants.{SIZE, WIDTH, BUDGET};
 ghost use Rattle.ua_table.specs.Listings.{vectors_of};
 ghost use Rattle.ua_walk.specs.Ladders.{IsAllowed};

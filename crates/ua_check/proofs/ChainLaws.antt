@@ -1,15 +1,19 @@
 -- A certificate of a chain without a flaw says what it says.
-use Rattle.std.proofs.Common.{◌≡◌, ℕ, zero, suc, ◌+◌, ◌<◌, ◌≤◌, Bool, true, false, ◌&&◌, ◌||◌, not, cond, Some, None, List, [], ◌∷◌, length, map, refl, sym, ap, ◌∙◌, subst, arith}
+use Rattle.std.proofs.Common.{◌≡◌, ℕ, suc, ◌+◌, ◌<◌, ◌≤◌, Bool, true, false, ◌&&◌, ◌||◌, not, cond, Some, None, List, [], ◌∷◌, length, map, refl, sym, ap, ◌∙◌, subst, arith}
 use Rattle.std.specs.Prelude.{slice_get, slice_index_or, nat_lt, ◌==◌, ◌%◌}
 use Rattle.std.specs.List.{AllByRecursion, list_any, enumerate_from}
 use Rattle.std.proofs.lemmas.Bool.Decides.{nat_tests}
 use Rattle.std.proofs.lemmas.List.{length-map, length-replicate}
+use Rattle.std.proofs.lemmas.Bool.{or_parts}
+use Rattle.std.proofs.lemmas.Option.{slice_get_within, get_or_from_slice_get}
+use Rattle.std.proofs.lemmas.Simd.{map-map}
 use Rattle.ua_table.specs.declared.limits.TheConstants.{WIDTH}
 use Rattle.ua_table.specs.Algebras.{FiniteAlgebra, arities_of}
 use Rattle.ua_table.specs.declared.origins.Origin.{Origin}
 use Rattle.ua_table.specs.Terms.{Tree, IsTerm}
 use Rattle.ua_table.specs.Refusals.{refusal_if, first_refusal}
-use Rattle.ua_table.proofs.Lists.{get_or-slice_get}
+use Rattle.ua_table.proofs.Lists.{all_from_places}
+use Rattle.ua_table.proofs.RefusalLemmas.{passed}
 use Rattle.ua_walk.specs.Sequences.{Alternates, BeginsWith, EndsWith}
 use Rattle.ua_identity.specs.Chains.{ChainKind, AreLinked, IsOwn, IsPlace, IsChain}
 use Rattle.ua_identity.specs.Patterns.{all_fillings}
@@ -22,9 +26,8 @@ use Rattle.ua_flaws.specs.Steps.{origin_of, origins_of, written_term, last_term}
 use Rattle.ua_flaws.specs.Flaws.{steps_flaw}
 use Rattle.ua_flaws.specs.Laws.{StepsAreSteps, LastIsTerm}
 use Rattle.ua_check.specs.Chains.{kind_of, chain_width, WritesChain, place_identity, satisfies, satisfies_all, is_fit, link_at, are_linked, is_in_chain, links_flaw, term_flaw, terms_flaw, is_without_term, AreTermSteps, chain_lines, chain_flaw}
-use Rattle.ua_flaws.proofs.FirstLaws.{both, neither, some_length, refusal_none, option_none, first_none, none_of, alone, skipped, each_good, all_from_places}
+use Rattle.ua_flaws.proofs.FirstLaws.{both, some_length, refusal_none, option_none, first_none, none_of, alone, each_good}
 use Rattle.ua_check.proofs.SatisfyLaws.{satisfied_all, linked, place}
-use Rattle.ua_identity.proofs.PatternLaws.{map_twice}
 
 -- ---- lists by their places
 
@@ -33,12 +36,12 @@ ends_at P [] some h = absurd (omega (arith, some))
 ends_at P (x ∷ []) some h = h 0 x refl refl
 ends_at P (x ∷ y ∷ rest) some h = ends_at P (y ∷ rest) (omega arith) (λ i z at e. h (suc i) z at (omega (arith, e)))
 
--- what holds from an even index and from an odd one on
-record Follows {X : Type 0} (E O : X → X → Type 0) (i : ℕ) (x y : X) : Type 0 where
-  even : i % 2 ≡ 0 → E x y
-  odd : i % 2 ≡ 1 → O x y
+-- how an element is linked to the next, by the parity of its index
+pub record IsLinked {X : Type 0} (E O : X → X → Type 0) (i : ℕ) (x y : X) : Type 0 where
+  pub even : i % 2 ≡ 0 → E x y
+  pub odd : i % 2 ≡ 1 → O x y
 
-alternate : {X : Type 0} (E O : X → X → Type 0) (xs : List X) → ((i : ℕ) (x y : X) → slice_get xs i ≡ Some x → slice_get xs (suc i) ≡ Some y → Follows E O i x y) → Alternates E O xs
+alternate : {X : Type 0} (E O : X → X → Type 0) (xs : List X) → ((i : ℕ) (x y : X) → slice_get xs i ≡ Some x → slice_get xs (suc i) ≡ Some y → IsLinked E O i x y) → Alternates E O xs
 alternate E O [] h = tt
 alternate E O (x ∷ []) h = tt
 alternate E O (x ∷ y ∷ rest) h = (
@@ -82,11 +85,6 @@ module _ (a : FiniteAlgebra) (kind : ChainKind) (terms : List Tree) (good : (i :
         link = λ l. other (i + 1 == length terms) (are_linked a (link_at kind i) t (slice_index_or terms (i + 1) t)) h.1 (apart (i + 1) (length terms) l);
       }
 
-  there : (xs : List Tree) (i : ℕ) (y : Tree) → slice_get xs i ≡ Some y → i < length xs
-  there [] i y e = cc
-  there (x ∷ xs) zero y e = omega arith
-  there (x ∷ xs) (suc i) y e = let l = there xs i y e in omega (arith, l)
-
   even_link : (i : ℕ) → i % 2 ≡ 0 → link_at kind i ≡ kind.even
   even_link i e = ap (λ b. cond b kind.even kind.odd) (same (i % 2) 0 e)
 
@@ -99,8 +97,8 @@ module _ (a : FiniteAlgebra) (kind : ChainKind) (terms : List Tree) (good : (i :
   link_from : (i : ℕ) (x y : Tree) → slice_get terms i ≡ Some x → slice_get terms (suc i) ≡ Some y → AreLinked a (link_at kind i) x y
   link_from i x y at next =
       let one : suc i ≡ i + 1 = omega arith in
-      let within : i + 1 < length terms = (let l = there terms (suc i) y next in omega (arith, l)) in
-      let is : slice_index_or terms (i + 1) x ≡ y = ap (λ k. slice_index_or terms k x) (sym one) ∙ get_or-slice_get terms (suc i) y x next in
+      let within : i + 1 < length terms = (let l = slice_get_within terms (suc i) y next in omega (arith, l)) in
+      let is : slice_index_or terms (i + 1) x ≡ y = ap (λ k. slice_index_or terms k x) (sym one) ∙ get_or_from_slice_get terms (suc i) y x next in
       linked a (link_at kind i) x y (subst (λ z. are_linked a (link_at kind i) x z ≡ true) is ((fit i x at).link within))
 
   begins : (xs : List Tree) → terms ≡ xs → 0 < length xs → BeginsWith (IsPlace a kind.places 0) xs
@@ -127,7 +125,7 @@ written_all : LastIsTerm → (a : FiniteAlgebra) (places n : ℕ) (terms : List 
     → AllByRecursion (IsTerm (arities_of a) places) (map (last_term a) terms)
 written_all term a places n [] some none = tt
 written_all term a places n (steps ∷ terms) some none =
-    let s = neither (length steps == 0) (list_any (λ (steps : List CertStep). length steps == 0) terms) some in
+    let s = or_parts (length steps == 0) (list_any (λ (steps : List CertStep). length steps == 0) terms) some in
     let h = first_none (steps_flaw a places (Some n) steps) (map (term_flaw a places) (enumerate_from (n + 1) terms)) none in
     (term a places (Some n) steps (some_length (length steps) s.0) h.0, written_all term a places (n + 1) terms s.1 h.1)
 
@@ -136,7 +134,7 @@ terms_written : StepsAreSteps → (a : FiniteAlgebra) (most n : ℕ) (terms : Li
     → AllByRecursion (AreTermSteps a most) (map (origins_of a) terms)
 terms_written are a most n [] some few none = tt
 terms_written are a most n (steps ∷ terms) some few none =
-    let s = neither (length steps == 0) (list_any (λ (steps : List CertStep). length steps == 0) terms) some in
+    let s = or_parts (length steps == 0) (list_any (λ (steps : List CertStep). length steps == 0) terms) some in
     let h = first_none (steps_flaw a 3 (Some n) steps) (map (term_flaw a 3) (enumerate_from (n + 1) terms)) none in
     let long = some_length (length steps) s.0 in
     let count = length-map steps (origin_of a) in
@@ -144,9 +142,9 @@ terms_written are a most n (steps ∷ terms) some few none =
     (record { some = omega (arith, long, count); few = omega (arith, low, count); steps = are a 3 (Some n) steps h.0 }, terms_written are a most (n + 1) terms s.1 few.1 h.1)
 
 pub are_term_steps : StepsAreSteps → (a : FiniteAlgebra) (most : ℕ) (terms : List (List CertStep)) → is_without_term terms ≡ false → AllByRecursion (λ (steps : List CertStep). length steps ≤ most) terms → terms_flaw a 3 terms ≡ None → AllByRecursion (AreTermSteps a most) (map (origins_of a) terms)
-are_term_steps are a most terms some few none = terms_written are a most 0 terms (neither (length terms == 0) (list_any (λ (steps : List CertStep). length steps == 0) terms) some).1 few none
+are_term_steps are a most terms some few none = terms_written are a most 0 terms (or_parts (length terms == 0) (list_any (λ (steps : List CertStep). length steps == 0) terms) some).1 few none
 
-three_places : (name : ChainName) → (kind_of name).places ≡ 3
+pub three_places : (name : ChainName) → (kind_of name).places ≡ 3
 three_places Jonsson = refl
 three_places Hm = refl
 
@@ -161,21 +159,21 @@ chain_narrow a name w low e = below (chain_width a name) (length-replicate (leng
 pub chain_told : (a : FiniteAlgebra) (name : ChainName) (terms : List (List CertStep)) (list : List (List Origin)) → (nat_lt WIDTH (chain_width a name) || is_without_term terms) ≡ false → terms_flaw a 3 terms ≡ None → list ≡ map (origins_of a) terms
     → links_flaw a (kind_of name) (map (written_term (arities_of a)) list) ≡ chain_flaw a name terms
 chain_told a name terms list fits fine read =
-    let trees : map (written_term (arities_of a)) list ≡ map (last_term a) terms = ap (map (written_term (arities_of a))) read ∙ map_twice (written_term (arities_of a)) (origins_of a) terms in
+    let trees : map (written_term (arities_of a)) list ≡ map (last_term a) terms = ap (map (written_term (arities_of a))) read ∙ map-map (written_term (arities_of a)) (origins_of a) terms in
     let steps : terms_flaw a (kind_of name).places terms ≡ None = ap (λ n. terms_flaw a n terms) (three_places name) ∙ fine in
     let links = links_flaw a (kind_of name) (map (last_term a) terms) in
     ap (links_flaw a (kind_of name)) trees
     ∙ alone links
-    ∙ sym (skipped _ (links ∷ []) steps)
-    ∙ sym (skipped _ (terms_flaw a (kind_of name).places terms ∷ links ∷ []) (ap (λ b. refusal_if b flaw.Width) fits))
+    ∙ sym (passed _ (links ∷ []) steps)
+    ∙ sym (passed _ (terms_flaw a (kind_of name).places terms ∷ links ∷ []) (ap (λ b. refusal_if b flaw.Width) fits))
 
 pub chain_holds : LastIsTerm → (a : FiniteAlgebra) (name : ChainName) (terms : List (List CertStep)) → chain_flaw a name terms ≡ None → WritesChain a name terms
 chain_holds term a name terms none =
     let kind = kind_of name in
     let trees = map (last_term a) terms in
     let l = none_of (chain_lines a name terms) none in
-    let shape = neither (nat_lt WIDTH (chain_width a name)) (is_without_term terms) (refusal_none (nat_lt WIDTH (chain_width a name) || is_without_term terms) flaw.Width l.0) in
-    let some = neither (length terms == 0) (list_any (λ (steps : List CertStep). length steps == 0) terms) shape.1 in
+    let shape = or_parts (nat_lt WIDTH (chain_width a name)) (is_without_term terms) (refusal_none (nat_lt WIDTH (chain_width a name) || is_without_term terms) flaw.Width l.0) in
+    let some = or_parts (length terms == 0) (list_any (λ (steps : List CertStep). length steps == 0) terms) shape.1 in
     let long = some_length (length terms) some.0 in
     let count = length-map terms (last_term a) in
     let good = λ (i : ℕ) (t : Tree) (at : slice_get trees i ≡ Some t). (let z : 0 + i ≡ i = omega arith in ap (λ k. is_in_chain a kind trees k t) (sym z) ∙ each_good (is_in_chain a kind trees) 0 trees (option_none flaw.Link (first_bad (is_in_chain a kind trees) 0 trees) l.1.1.0) i t at) in

@@ -5,6 +5,7 @@ use Rattle.std.specs.List.{AllByRecursion, range_with_len}
 use Rattle.std.proofs.lemmas.Bool.Decides.{nat_tests}
 use Rattle.std.proofs.lemmas.List.{length-replicate}
 use Rattle.std.proofs.lemmas.List.FromFn.{length-map-range_with_len}
+use Rattle.std.proofs.lemmas.Bool.{or_parts}
 use Rattle.ua_table.specs.declared.limits.TheConstants.{WIDTH}
 use Rattle.ua_table.specs.Algebras.{Vector, FiniteAlgebra, arities_of}
 use Rattle.ua_table.specs.declared.origins.Origin.{Origin}
@@ -12,6 +13,7 @@ use Rattle.ua_table.specs.Terms.{IsTerm}
 use Rattle.ua_table.specs.Generated.{Sg}
 use Rattle.ua_table.specs.Refusals.{refusal_if, first_refusal}
 use Rattle.ua_table.proofs.Lists.{all_map, all_from_contains}
+use Rattle.ua_table.proofs.RefusalLemmas.{passed}
 use Rattle.ua_identity.specs.declared.limits.TheConstants.{PLACES}
 use Rattle.ua_identity.specs.Identities.{TermIdentity}
 use Rattle.ua_identity.specs.Conditions.{TermCondition, IsMet, near_unanimous}
@@ -26,7 +28,7 @@ use Rattle.ua_flaws.specs.Shapes.{power}
 use Rattle.ua_flaws.specs.Flaws.{vectors_flaw, steps_flaw, outside_lines}
 use Rattle.ua_flaws.specs.Laws.{StepsAreSteps, LastIsTerm, LackedIsOutside}
 use Rattle.ua_check.specs.Conditions.{condition_of, has_places, is_no_condition, WritesTerm, HasNoTerm, identities_flaw, condition_lines, condition_flaw, width_of, no_condition_flaw}
-use Rattle.ua_flaws.proofs.FirstLaws.{both, neither, not_false, some_length, refusal_none, none_of, behind_none, alone, skipped}
+use Rattle.ua_flaws.proofs.FirstLaws.{both, not_false, some_length, refusal_none, none_of, behind_none, alone}
 use Rattle.ua_check.proofs.SatisfyLaws.{satisfied_from}
 
 three : (k : ℕ) → (k == 3) ≡ true → 3 ≡ k
@@ -61,7 +63,7 @@ few_identities Nu k e = let count = length-map-range_with_len (near_unanimous k)
 -- the number of places fits, where there is no flaw of it
 pub places_fit : (a : FiniteAlgebra) (name : CondName) (k : ℕ) → refusal_if (is_no_condition a name k) flaw.Width ≡ None → has_places name k ≡ true
 places_fit a name k none =
-    not_false (has_places name k) (neither (not (has_places name k)) (nat_lt WIDTH (length (condition_power a (condition_of name k)))) (refusal_none (is_no_condition a name k) flaw.Width none)).0
+    not_false (has_places name k) (or_parts (not (has_places name k)) (nat_lt WIDTH (length (condition_power a (condition_of name k)))) (refusal_none (is_no_condition a name k) flaw.Width none)).0
 
 -- what is left where the condition has its terms, and the steps are steps
 pub condition_told : (a : FiniteAlgebra) (name : CondName) (k : ℕ) (c : TermCondition) (steps : List CertStep) (os : List Origin) → c ≡ condition_of name k → os ≡ origins_of a steps → refusal_if (is_no_condition a name k) flaw.Width ≡ None → (length steps == 0) ≡ false → steps_flaw a k None steps ≡ None
@@ -72,13 +74,13 @@ condition_told a name k c steps os same read fits some fine =
     ap (λ (t : TermCondition). identities_flaw a t.identities (written_term (arities_of a) os)) same
     ∙ ap (λ (zs : List Origin). identities_flaw a (condition_of name k).identities (written_term (arities_of a) zs)) read
     ∙ left
-    ∙ sym (skipped _ (identities_flaw a (condition_of name k).identities (last_term a steps) ∷ []) fine)
-    ∙ sym (skipped _ (steps_flaw a k None steps ∷ identities_flaw a (condition_of name k).identities (last_term a steps) ∷ []) width)
+    ∙ sym (passed _ (identities_flaw a (condition_of name k).identities (last_term a steps) ∷ []) fine)
+    ∙ sym (passed _ (steps_flaw a k None steps ∷ identities_flaw a (condition_of name k).identities (last_term a steps) ∷ []) width)
 
 pub condition_holds : StepsAreSteps → LastIsTerm → (a : FiniteAlgebra) (name : CondName) (k : ℕ) (steps : List CertStep) → condition_flaw a name k steps ≡ None → WritesTerm a name k steps
 condition_holds are term a name k steps none =
     let l = none_of (condition_lines a name k steps) none in
-    let shape = neither (is_no_condition a name k) (length steps == 0) (refusal_none (is_no_condition a name k || (length steps == 0)) flaw.Width l.0) in
+    let shape = or_parts (is_no_condition a name k) (length steps == 0) (refusal_none (is_no_condition a name k || (length steps == 0)) flaw.Width l.0) in
     let places = places_fit a name k (ap (λ b. refusal_if b flaw.Width) shape.0) in
     record {
       steps_are = are a k None steps l.1.0;

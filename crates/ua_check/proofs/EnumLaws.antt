@@ -2,8 +2,8 @@
 use Rattle.std.proofs.Common.{◌≡◌, ℕ, suc, ◌+◌, ◌<◌, ◌≤◌, Option, Some, None, List, ◌∷◌, length, map, drop, get_or, sym, ap, ◌∙◌, arith}
 use Rattle.std.specs.List.{enumerate_from}
 use Rattle.std.proofs.Math.Seq.{drop-cons}
+use Rattle.std.proofs.lemmas.List.{drop_all}
 use Rattle.ua_table.specs.Refusals.{first_refusal}
-use Rattle.ua_flaws.proofs.FirstLaws.{past}
 
 module _ {X E : Type 0} (f : ℕ × X → Option E) where
   -- what is left from item i on
@@ -22,4 +22,4 @@ module _ {X E : Type 0} (f : ℕ × X → Option E) where
   refused_at xs i x d e h at some = read xs i x d h at ∙ ap (λ o. first_refusal (o ∷ map f (enumerate_from (i + 1) (drop (i + 1) xs)))) some
 
   pub none_left : (xs : List X) (i : ℕ) → length xs ≤ i → left xs i ≡ None
-  none_left xs i h = ap (λ (ys : List X). first_refusal (map f (enumerate_from i ys))) (past i xs h)
+  none_left xs i h = ap (λ (ys : List X). first_refusal (map f (enumerate_from i ys))) (drop_all i xs h)

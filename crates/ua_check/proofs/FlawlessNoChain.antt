@@ -6,12 +6,16 @@ use Rattle.std.proofs.lemmas.Bool.Decides.{nat_tests}
 use Rattle.std.proofs.lemmas.List.{length-replicate}
 use Rattle.std.proofs.lemmas.List.FromFn.{length-map-range_with_len}
 use Rattle.std.proofs.lemmas.List.Elements.{All-from_recursion}
+use Rattle.std.proofs.lemmas.Bool.{and_from}
+use Rattle.std.proofs.lemmas.Option.{get_or_from_slice_get}
 use Rattle.ua_table.specs.declared.limits.TheConstants.{WIDTH}
 use Rattle.ua_table.specs.Algebras.{Vector, FiniteAlgebra, IsVector, arities_of, IsIncreasing}
 use Rattle.ua_table.specs.Terms.{Tree, Generator, IsTerm, eval}
 use Rattle.ua_table.specs.Generated.{Sg}
 use Rattle.ua_table.specs.Refusals.{refusal_if}
-use Rattle.ua_table.proofs.Lists.{found, get_or-slice_get, Contains-slice_get, all_at}
+use Rattle.ua_table.proofs.Lists.{found, Contains-slice_get, all_at}
+use Rattle.ua_table.proofs.RefusalLemmas.{refusal_if-false}
+use Rattle.ua_table.proofs.FrameLemmas.{arities_of_power}
 use Rattle.ua_term.specs.Assignments.{IsAssignment}
 use Rattle.ua_walk.specs.Sequences.{Alternates, EndsWith, ends_even}
 use Rattle.ua_identity.specs.Identities.{VariablePattern, xxy}
@@ -32,11 +36,11 @@ use Rattle.ua_flaws.specs.Laws.{VectorsAreFlawless, ExactIsFlawless}
 use Rattle.ua_check.specs.Chains.{kind_of, chain_width, HasNoChain}
 use Rattle.ua_check.specs.Reached.{even_parts, odd_parts, leads, is_own_row, holds_position, odd_positions, positions_flaw, parity_flaw, is_led_to, is_started, is_followed, is_not_end, places_of, place_of, row_flaw, reached_lines, no_chain_lines, no_chain_flaw}
 use Rattle.ua_flaws.proofs.FirstLaws.{same_is}
-use Rattle.ua_flaws.proofs.PassLaws.{all_true, no_line, no_refusal, no_option, none_bad}
-use Rattle.ua_flaws.proofs.Powers.{arities_power}
-use Rattle.ua_check.proofs.NoChainLaws.{VectorLaw, three_long, three, vec}
+use Rattle.ua_flaws.proofs.PassLaws.{no_line, no_option, none_bad}
+use Rattle.ua_check.proofs.NoChainLaws.{VectorLaw, three_long, vec}
 use Rattle.ua_check.proofs.ReachedLaws.{some_wide}
-use Rattle.ua_check.proofs.ReachedRows.{is_held, held_is, no_position_flaw, no_odd, no_parity_flaw, ends_other, linked_even, linked_odd, leads_even, leads_odd, first_vector, own_term, led_from, where_so, or_not, not_held, start_reached, goes_on}
+use Rattle.ua_check.proofs.ReachedRows.{is_held, held_is, no_position_flaw, no_parity_flaw, ends_other, linked_even, linked_odd, leads_even, leads_odd, first_vector, own_term, led_from, where_so, or_not, not_held, start_reached, goes_on}
+use Rattle.ua_check.proofs.ChainLaws.{three_places}
 
 -- ---- the end
 
@@ -166,11 +170,11 @@ module _ (a : FiniteAlgebra) (name : ChainName) (rows : List Vector) (even odd :
       let gens = places_of a name in
       let count : length gens ≡ (kind_of name).places = length-map-range_with_len (place_vector (all_fillings a.size (kind_of name).patterns)) 0 (kind_of name).places in
       let s : Sg (replicate wide a) gens v = subst (λ n. Sg (replicate n a) gens v) (length-replicate wide a) (exact.generated v (Contains-slice_get rows i v at)) in
-      let is : IsTerm (arities_of a) (kind_of name).places s.term = subst (λ n. IsTerm (arities_of a) n s.term) count (subst (λ ks. IsTerm ks (length gens) s.term) (arities_power a wide some) s.is_term) in
+      let is : IsTerm (arities_of a) (kind_of name).places s.term = subst (λ n. IsTerm (arities_of a) n s.term) count (subst (λ ks. IsTerm ks (length gens) s.term) (arities_of_power a wide some) s.is_term) in
       record {
         term = s.term;
         is_term = is;
-        vector = sym (law a (kind_of name).patterns (kind_of name).places s.term (subst (λ n. AllByRecursion (λ (p : VariablePattern). length p.places ≡ n) (kind_of name).patterns) (sym (three name)) (three_long name)) is) ∙ s.value;
+        vector = sym (law a (kind_of name).patterns (kind_of name).places s.term (subst (λ n. AllByRecursion (λ (p : VariablePattern). length p.places ≡ n) (kind_of name).patterns) (sym (three_places name)) (three_long name)) is) ∙ s.value;
       }
 
   -- a row that is reached leads to another, by the link of its side
@@ -196,7 +200,7 @@ module _ (a : FiniteAlgebra) (name : ChainName) (rows : List Vector) (even odd :
       let is = same_is v (place_of a name (kind_of name).end) same in
       let no_even : holds_position even i ≡ true → ⊥ = λ h. end_not_reached a name true (subst (IsReached a (kind_of name) true) is ((evens.exact i v at).0 (held_is even i h))) none in
       let no_odd : holds_position odd i ≡ true → ⊥ = λ h. end_not_reached a name false (subst (IsReached a (kind_of name) false) is ((odds.exact i v at).0 (held_is odd i h))) none in
-      all_true (not (holds_position even i)) (not (holds_position (odd_positions name even odd) i)) (not_held (holds_position even i) no_even) (not_held (holds_position (odd_positions name even odd) i) (other name no_even no_odd)))
+      and_from (not (holds_position even i)) (not (holds_position (odd_positions name even odd) i)) (not_held (holds_position even i) no_even) (not_held (holds_position (odd_positions name even odd) i) (other name no_even no_odd)))
     where
       other : (n : ChainName) → (holds_position even i ≡ true → ⊥) → (holds_position odd i ≡ true → ⊥) → holds_position (odd_positions n even odd) i ≡ true → ⊥
       other Jonsson e o = o
@@ -211,7 +215,7 @@ module _ (a : FiniteAlgebra) (rows : List Vector) (even odd : List ℕ) (law : V
   from_even i v at own h =
       let q = led_from (λ p. leads a.size Jonsson (even_parts Jonsson) (slice_index_or rows p []) v) even h in
       let u = found rows q.0 (all_at (λ p. p < length rows) even q.0 evens.within q.1) in
-      let from : leads a.size Jonsson (even_parts Jonsson) u.0 v ≡ true = ap (λ z. leads a.size Jonsson (even_parts Jonsson) z v) (sym (get_or-slice_get rows q.0 u.0 [] u.1)) ∙ q.2 in
+      let from : leads a.size Jonsson (even_parts Jonsson) u.0 v ≡ true = ap (λ z. leads a.size Jonsson (even_parts Jonsson) z v) (sym (get_or_from_slice_get rows q.0 u.0 [] u.1)) ∙ q.2 in
       let r = (evens.exact q.0 u.0 u.1).0 q.1 in
       let side : ends_even r.terms ≡ true = left_true (ends_even r.terms) r.parity in
       let next = led a Jonsson rows even odd law some exact evens odds none true i v u.0 at own r (λ e. from) (λ e. absurd (apart side e)) in
@@ -230,7 +234,7 @@ module _ (a : FiniteAlgebra) (rows : List Vector) (even odd : List ℕ) (law : V
   from_odd i v at own h =
       let q = led_from (λ p. leads a.size Jonsson (odd_parts Jonsson) (slice_index_or rows p []) v) odd h in
       let u = found rows q.0 (all_at (λ p. p < length rows) odd q.0 odds.within q.1) in
-      let from : leads a.size Jonsson (odd_parts Jonsson) u.0 v ≡ true = ap (λ z. leads a.size Jonsson (odd_parts Jonsson) z v) (sym (get_or-slice_get rows q.0 u.0 [] u.1)) ∙ q.2 in
+      let from : leads a.size Jonsson (odd_parts Jonsson) u.0 v ≡ true = ap (λ z. leads a.size Jonsson (odd_parts Jonsson) z v) (sym (get_or_from_slice_get rows q.0 u.0 [] u.1)) ∙ q.2 in
       let r = (odds.exact q.0 u.0 u.1).0 q.1 in
       let side : ends_even r.terms ≡ false = left_false (ends_even r.terms) r.parity in
       let next = led a Jonsson rows even odd law some exact evens odds none false i v u.0 at own r (λ e. absurd (apart e side)) (λ e. from) in
@@ -247,7 +251,7 @@ module _ (a : FiniteAlgebra) (rows : List Vector) (even odd : List ℕ) (law : V
 
   followed_jonsson : (i : ℕ) (v : Vector) → slice_get rows i ≡ Some v → is_followed a.size Jonsson rows even odd i v ≡ true
   followed_jonsson i v at = where_so (is_own_row a.size Jonsson v) ((holds_position odd i || not (is_led_to a.size Jonsson (even_parts Jonsson) rows even v)) && (holds_position even i || not (is_led_to a.size Jonsson (odd_parts Jonsson) rows odd v))) (λ own.
-      all_true (holds_position odd i || not (is_led_to a.size Jonsson (even_parts Jonsson) rows even v)) (holds_position even i || not (is_led_to a.size Jonsson (odd_parts Jonsson) rows odd v))
+      and_from (holds_position odd i || not (is_led_to a.size Jonsson (even_parts Jonsson) rows even v)) (holds_position even i || not (is_led_to a.size Jonsson (odd_parts Jonsson) rows odd v))
       (or_not (holds_position odd i) (is_led_to a.size Jonsson (even_parts Jonsson) rows even v) (from_even i v at own))
       (or_not (holds_position even i) (is_led_to a.size Jonsson (odd_parts Jonsson) rows odd v) (from_odd i v at own)))
 
@@ -258,7 +262,7 @@ module _ (a : FiniteAlgebra) (rows : List Vector) (even odd : List ℕ) (law : V
   from_any i v at h =
       let q = led_from (λ p. leads a.size Hm (even_parts Hm) (slice_index_or rows p []) v) even h in
       let u = found rows q.0 (all_at (λ p. p < length rows) even q.0 evens.within q.1) in
-      let from : leads a.size Hm (even_parts Hm) u.0 v ≡ true = ap (λ z. leads a.size Hm (even_parts Hm) z v) (sym (get_or-slice_get rows q.0 u.0 [] u.1)) ∙ q.2 in
+      let from : leads a.size Hm (even_parts Hm) u.0 v ≡ true = ap (λ z. leads a.size Hm (even_parts Hm) z v) (sym (get_or_from_slice_get rows q.0 u.0 [] u.1)) ∙ q.2 in
       let r = (evens.exact q.0 u.0 u.1).0 q.1 in
       let next = led a Hm rows even odd law some exact evens odds none true i v u.0 at refl r (λ e. from) (λ e. from) in
       let t = (term_of a Hm rows even odd law some exact evens odds none i v at).term in
@@ -270,7 +274,7 @@ module _ (a : FiniteAlgebra) (rows : List Vector) (even odd : List ℕ) (law : V
 
   followed_hm : (i : ℕ) (v : Vector) → slice_get rows i ≡ Some v → is_followed a.size Hm rows even even i v ≡ true
   followed_hm i v at =
-      all_true (holds_position even i || not (is_led_to a.size Hm (even_parts Hm) rows even v)) (holds_position even i || not (is_led_to a.size Hm (odd_parts Hm) rows even v))
+      and_from (holds_position even i || not (is_led_to a.size Hm (even_parts Hm) rows even v)) (holds_position even i || not (is_led_to a.size Hm (odd_parts Hm) rows even v))
       (or_not (holds_position even i) (is_led_to a.size Hm (even_parts Hm) rows even v) (from_any i v at))
       (or_not (holds_position even i) (is_led_to a.size Hm (odd_parts Hm) rows even v) (from_any i v at))
 
@@ -290,7 +294,7 @@ flawless_no_chain a name rows even odd law fine closed size narrow inc vectors e
     let some = some_wide a.size name size in
     no_line (no_chain_lines a name rows even odd) (
       no_line (refusal_if (nat_lt WIDTH (chain_width a name)) flaw.Width ∷ vectors_flaw a.size (chain_width a name) Rows rows ∷ closed_flaw a (chain_width a name) (places_of a name) rows ∷ []) (
-        no_refusal (nat_lt WIDTH (chain_width a name)) flaw.Width (within (chain_width a name) narrow),
+        refusal_if-false (nat_lt WIDTH (chain_width a name)) flaw.Width (within (chain_width a name) narrow),
         (fine a (chain_width a name) Rows rows vectors, (closed a (chain_width a name) (places_of a name) rows inc exact, tt)),
       ),
       (

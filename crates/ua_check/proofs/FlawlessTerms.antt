@@ -5,13 +5,16 @@ use Rattle.std.specs.List.{AllByRecursion, list_any, enumerate_from}
 use Rattle.std.specs.Option.{is_none}
 use Rattle.std.proofs.lemmas.Bool.Decides.{nat_tests}
 use Rattle.std.proofs.lemmas.List.{length-map}
+use Rattle.std.proofs.lemmas.Bool.{and_from, or_from}
+use Rattle.std.proofs.lemmas.Option.{slice_get_within, get_or_from_slice_get}
 use Rattle.ua_table.specs.declared.limits.TheConstants.{WIDTH}
 use Rattle.ua_table.specs.declared.origins.Origin.{Origin}
 use Rattle.ua_table.specs.Algebras.{Vector, FiniteAlgebra, IsVector, arities_of, IsIncreasing}
 use Rattle.ua_table.specs.Tables.{IsAlgebraTable}
 use Rattle.ua_table.specs.Terms.{Tree, eval}
 use Rattle.ua_table.specs.Refusals.{first_refusal}
-use Rattle.ua_table.proofs.Lists.{found, get_or-slice_get, All-slice_get}
+use Rattle.ua_table.proofs.Lists.{found, All-slice_get}
+use Rattle.ua_table.proofs.RefusalLemmas.{passed, refusal_if-false}
 use Rattle.ua_term.specs.Steps.{AreSteps}
 use Rattle.ua_term.specs.Assignments.{assignments}
 use Rattle.ua_term.proofs.AssignmentLaws.{assignment_from}
@@ -33,9 +36,11 @@ use Rattle.ua_flaws.specs.Flaws.{steps_flaw, outside_lines}
 use Rattle.ua_flaws.specs.Laws.{WrittenIsFlawless, WrittenIsRead, VectorsAreFlawless, LackingIsFlawless}
 use Rattle.ua_check.specs.Conditions.{condition_of, has_places, is_no_condition, fails, identity_failure, failure_flaw, condition_lines, condition_flaw, width_of, no_condition_lines, no_condition_flaw}
 use Rattle.ua_check.specs.Chains.{kind_of, chain_width, place_identity, satisfies, satisfies_all, is_fit, link_at, is_unlinked, are_linked, is_in_chain, links_flaw, term_flaw, is_without_term, chain_lines, chain_flaw}
-use Rattle.ua_flaws.proofs.FirstLaws.{none_of, skipped}
-use Rattle.ua_flaws.proofs.PassLaws.{is_equal, all_true, not_either, no_line, no_refusal, no_option, none_bad, none_found}
+use Rattle.ua_flaws.proofs.FirstLaws.{none_of}
+use Rattle.ua_flaws.proofs.PassLaws.{is_equal, no_line, no_option, none_bad, none_found}
 use Rattle.ua_check.proofs.SatisfyLaws.{read_all}
+use Rattle.ua_check.proofs.ChainLaws.{IsLinked}
+use Rattle.ua_check.proofs.ReachedRows.{where_so}
 
 -- ---- identities
 
@@ -45,7 +50,7 @@ satisfied_none a t i h = none_found (fails a t i) (assignments a.size i.pattern.
 no_identity_flaw : (a : FiniteAlgebra) (t : Tree) (n : ℕ) (is : List TermIdentity) → AllByRecursion (Satisfies a t) is → first_refusal (map (failure_flaw a t) (enumerate_from n is)) ≡ None
 no_identity_flaw a t n [] h = refl
 no_identity_flaw a t n (i ∷ is) h =
-    skipped (failure_flaw a t (n, i)) (map (failure_flaw a t) (enumerate_from (n + 1) is)) (no_option (λ (xs : List ℕ). flaw.Identity n (slice_index xs 0) (slice_index xs 1)) (identity_failure a t i) (satisfied_none a t i h.0))
+    passed (failure_flaw a t (n, i)) (map (failure_flaw a t) (enumerate_from (n + 1) is)) (no_option (λ (xs : List ℕ). flaw.Identity n (slice_index xs 0) (slice_index xs 1)) (identity_failure a t i) (satisfied_none a t i h.0))
     ∙ no_identity_flaw a t (n + 1) is h.1
 
 -- the steps write this term
@@ -61,7 +66,7 @@ some_steps a os some = let count = length-map os (written_step a) in positive (l
 -- ---- conditions
 
 fits : (a : FiniteAlgebra) (name : CondName) (k : ℕ) → has_places name k ≡ true → length (condition_power a (condition_of name k)) ≤ WIDTH → is_no_condition a name k ≡ false
-fits a name k places few = not_either (not (has_places name k)) (nat_lt WIDTH (length (condition_power a (condition_of name k)))) (ap not places) (within (length (condition_power a (condition_of name k))) few)
+fits a name k places few = or_from (not (has_places name k)) (nat_lt WIDTH (length (condition_power a (condition_of name k)))) (ap not places) (within (length (condition_power a (condition_of name k))) few)
   where
     within : (n : ℕ) → n ≤ WIDTH → nat_lt WIDTH n ≡ false
     within n l = grind (arith, nat_tests)
@@ -70,7 +75,7 @@ pub flawless_condition : WrittenIsFlawless → WrittenIsRead → (a : FiniteAlge
     → Meets a (written_term (arities_of a) os) (condition_of name k) → condition_flaw a name k (written_steps a os) ≡ None
 flawless_condition fine read a table name k os places few some steps meets =
     no_line (condition_lines a name k (written_steps a os)) (
-      no_refusal (is_no_condition a name k || (length (written_steps a os) == 0)) flaw.Width (not_either (is_no_condition a name k) (length (written_steps a os) == 0) (fits a name k places few) (some_steps a os some)),
+      refusal_if-false (is_no_condition a name k || (length (written_steps a os) == 0)) flaw.Width (or_from (is_no_condition a name k) (length (written_steps a os) == 0) (fits a name k places few) (some_steps a os some)),
       (
         fine a k None os table steps,
         (no_identity_flaw a (last_term a (written_steps a os)) 0 (condition_of name k).identities (subst (λ t. Meets a t (condition_of name k)) (sym (last_written read a table k os steps)) meets), tt),
@@ -81,7 +86,7 @@ pub flawless_no_condition : VectorsAreFlawless → LackingIsFlawless → (a : Fi
     → AreExact a (width_of a name k) (argument_vectors a (condition_of name k)) rows → (Contains rows (value_vector a (condition_of name k)) → ⊥) → no_condition_flaw a name k rows ≡ None
 flawless_no_condition fine lacking a name k rows places few inc vectors exact absent =
     no_line (no_condition_lines a name k rows) (
-      no_refusal (is_no_condition a name k) flaw.Width (fits a name k places few),
+      refusal_if-false (is_no_condition a name k) flaw.Width (fits a name k places few),
       (
         fine a (width_of a name k) Rows rows vectors,
         none_of (outside_lines a (width_of a name k) (argument_vectors a (condition_of name k)) rows (value_vector a (condition_of name k))) (lacking a (width_of a name k) (argument_vectors a (condition_of name k)) rows (value_vector a (condition_of name k)) inc exact absent),
@@ -93,13 +98,13 @@ flawless_no_condition fine lacking a name k rows places few inc vectors exact ab
 no_term_flaw : WrittenIsFlawless → (a : FiniteAlgebra) → IsAlgebraTable a → (places n : ℕ) (lists : List (List Origin)) → AllByRecursion (AreSteps (arities_of a) places) lists → first_refusal (map (term_flaw a places) (enumerate_from n (map (written_steps a) lists))) ≡ None
 no_term_flaw fine a table places n [] h = refl
 no_term_flaw fine a table places n (os ∷ lists) h =
-    skipped (steps_flaw a places (Some n) (written_steps a os)) (map (term_flaw a places) (enumerate_from (n + 1) (map (written_steps a) lists))) (fine a places (Some n) os table h.0)
+    passed (steps_flaw a places (Some n) (written_steps a os)) (map (term_flaw a places) (enumerate_from (n + 1) (map (written_steps a) lists))) (fine a places (Some n) os table h.0)
     ∙ no_term_flaw fine a table places (n + 1) lists h.1
 
 -- each term has steps
 none_empty : (a : FiniteAlgebra) (lists : List (List Origin)) → AllByRecursion (λ (os : List Origin). 0 < length os) lists → list_any (λ (steps : List CertStep). length steps == 0) (map (written_steps a) lists) ≡ false
 none_empty a [] h = refl
-none_empty a (os ∷ lists) h = not_either (length (written_steps a os) == 0) (list_any (λ (steps : List CertStep). length steps == 0) (map (written_steps a) lists)) (some_steps a os h.0) (none_empty a lists h.1)
+none_empty a (os ∷ lists) h = or_from (length (written_steps a os) == 0) (list_any (λ (steps : List CertStep). length steps == 0) (map (written_steps a) lists)) (some_steps a os h.0) (none_empty a lists h.1)
 
 terms_written : WrittenIsRead → (a : FiniteAlgebra) → IsAlgebraTable a → (places : ℕ) (lists : List (List Origin)) → AllByRecursion (AreSteps (arities_of a) places) lists → map (last_term a) (map (written_steps a) lists) ≡ map (written_term (arities_of a)) lists
 terms_written read a table places [] h = refl
@@ -124,11 +129,6 @@ last_of P (y ∷ []) (suc i) x l at e = absurd (omega (arith, e))
 last_of P (y ∷ z ∷ zs) zero x l at e = absurd (omega (arith, e))
 last_of P (y ∷ z ∷ zs) (suc i) x l at e = last_of P (z ∷ zs) i x l at (omega (arith, e))
 
--- how an element is linked to the next, by the parity of its index
-record IsLinked {X : Type 0} (E O : X → X → Type 0) (i : ℕ) (x y : X) : Type 0 where
-  even : i % 2 ≡ 0 → E x y
-  odd : i % 2 ≡ 1 → O x y
-
 linked_at : {X : Type 0} (E O : X → X → Type 0) (xs : List X) (i : ℕ) (x y : X) → Alternates E O xs → slice_get xs i ≡ Some x → slice_get xs (suc i) ≡ Some y → IsLinked E O i x y
 linked_at E O [] i x y l at next = cc
 linked_at E O (u ∷ []) i x y l at next = cc
@@ -142,18 +142,13 @@ linked_at E O (u ∷ v ∷ rest) (suc i) x y l at next =
 module _ (a : FiniteAlgebra) (kind : ChainKind) (terms : List Tree) (chain : IsChain a kind terms) where
   passes_all : (is : List TermIdentity) (t : Tree) → AllByRecursion (Satisfies a t) is → satisfies_all a is t ≡ true
   passes_all [] t h = refl
-  passes_all (i ∷ is) t h = all_true (satisfies a i t) (satisfies_all a is t) (ap is_none (satisfied_none a t i h.0)) (passes_all is t h.1)
+  passes_all (i ∷ is) t h = and_from (satisfies a i t) (satisfies_all a is t) (ap is_none (satisfied_none a t i h.0)) (passes_all is t h.1)
 
   passes_place : (j : ℕ) (t : Tree) → IsPlace a kind.places j t → satisfies a (place_identity kind.places j) t ≡ true
   passes_place j t h = ap is_none (satisfied_none a t (place_identity kind.places j) (λ xs k. ap (λ ys. eval a ys t) (read_all xs kind.places k.count) ∙ h xs k))
 
   passes_link : (l : Link) (d e : Tree) → AreLinked a l d e → are_linked a l d e ≡ true
   passes_link l d e h = ap is_none (none_found (is_unlinked a l d e) (assignments a.size l.pattern.variables) (λ xs c. ap not (is_equal (at_pattern a l.pattern d xs) (at_pattern a l.next e xs) (h xs (assignment_from a.size l.pattern.variables xs c)))))
-
-  -- a test that is asked only where another passes
-  where_so : (b c : Bool) → (b ≡ true → c ≡ true) → (not b || c) ≡ true
-  where_so true c h = h refl
-  where_so false c h = refl
 
   unless_so : (b c : Bool) → (b ≡ false → c ≡ true) → (b || c) ≡ true
   unless_so true c h = refl
@@ -164,11 +159,6 @@ module _ (a : FiniteAlgebra) (kind : ChainKind) (terms : List Tree) (chain : IsC
 
   goes_on : (i : ℕ) → i < length terms → (i + 1 == length terms) ≡ false → suc i < length terms
   goes_on i l e = grind (arith, nat_tests, l)
-
-  there : (xs : List Tree) (i : ℕ) (y : Tree) → slice_get xs i ≡ Some y → i < length xs
-  there [] i y e = cc
-  there (x ∷ xs) zero y e = omega arith
-  there (x ∷ xs) (suc i) y e = let l = there xs i y e in omega (arith, l)
 
   link_here : (i : ℕ) (x y : Tree) → slice_get terms i ≡ Some x → slice_get terms (suc i) ≡ Some y → AreLinked a (link_at kind i) x y
   link_here i x y at next =
@@ -195,13 +185,13 @@ module _ (a : FiniteAlgebra) (kind : ChainKind) (terms : List Tree) (chain : IsC
       let first = where_so (i == 0) (satisfies a (place_identity kind.places 0) t) (λ e. passes_place 0 t (first_of (IsPlace a kind.places 0) terms i t chain.beginning.first at e)) in
       let last = where_so (i + 1 == length terms) (satisfies a (place_identity kind.places kind.end) t) (λ e. passes_place kind.end t (last_of (IsPlace a kind.places kind.end) terms i t chain.last at (ends_here i e))) in
       let link = unless_so (i + 1 == length terms) (are_linked a (link_at kind i) t (slice_index_or terms (i + 1) t)) (λ e.
-      let n = next_of i (goes_on i (there terms i t at) e) in
+      let n = next_of i (goes_on i (slice_get_within terms i t at) e) in
       let one : i + 1 ≡ suc i = omega arith in
-      let is : slice_index_or terms (i + 1) t ≡ n.0 = ap (λ k. slice_index_or terms k t) one ∙ get_or-slice_get terms (suc i) n.0 t n.1 in
+      let is : slice_index_or terms (i + 1) t ≡ n.0 = ap (λ k. slice_index_or terms k t) one ∙ get_or_from_slice_get terms (suc i) n.0 t n.1 in
       subst (λ z. are_linked a (link_at kind i) t z ≡ true) (sym is) (passes_link (link_at kind i) t n.0 (link_here i t n.0 at n.1))) in
-      all_true (is_fit a kind (length terms) i t) ((i + 1 == length terms) || are_linked a (link_at kind i) t (slice_index_or terms (i + 1) t))
-      (all_true (satisfies_all a kind.own t) ((not (i == 0) || satisfies a (place_identity kind.places 0) t) && (not (i + 1 == length terms) || satisfies a (place_identity kind.places kind.end) t)) own
-      (all_true (not (i == 0) || satisfies a (place_identity kind.places 0) t) (not (i + 1 == length terms) || satisfies a (place_identity kind.places kind.end) t) first last))
+      and_from (is_fit a kind (length terms) i t) ((i + 1 == length terms) || are_linked a (link_at kind i) t (slice_index_or terms (i + 1) t))
+      (and_from (satisfies_all a kind.own t) ((not (i == 0) || satisfies a (place_identity kind.places 0) t) && (not (i + 1 == length terms) || satisfies a (place_identity kind.places kind.end) t)) own
+      (and_from (not (i == 0) || satisfies a (place_identity kind.places 0) t) (not (i + 1 == length terms) || satisfies a (place_identity kind.places kind.end) t) first last))
       link
 
   no_link_flaw : links_flaw a kind terms ≡ None
@@ -214,8 +204,8 @@ flawless_chain fine read a table name lists narrow some steps chain =
     let count : length terms ≡ length lists = length-map lists (written_steps a) in
     let is = terms_written read a table (kind_of name).places lists steps in
     no_line (chain_lines a name terms) (
-      no_refusal (nat_lt WIDTH (chain_width a name) || is_without_term terms) flaw.Width (not_either (nat_lt WIDTH (chain_width a name)) (is_without_term terms) (within (chain_width a name) narrow)
-          (not_either (length terms == 0) (list_any (λ (steps : List CertStep). length steps == 0) terms) (nonempty lists chain) (none_empty a lists some))),
+      refusal_if-false (nat_lt WIDTH (chain_width a name) || is_without_term terms) flaw.Width (or_from (nat_lt WIDTH (chain_width a name)) (is_without_term terms) (within (chain_width a name) narrow)
+          (or_from (length terms == 0) (list_any (λ (steps : List CertStep). length steps == 0) terms) (nonempty lists chain) (none_empty a lists some))),
       (
         no_term_flaw fine a table (kind_of name).places 0 lists steps,
         (subst (λ ts. links_flaw a (kind_of name) ts ≡ None) (sym is) (no_link_flaw a (kind_of name) (map (written_term (arities_of a)) lists) chain), tt),

@@ -6,12 +6,14 @@ use Rattle.std.proofs.lemmas.Bool.Decides.{nat_tests}
 use Rattle.std.proofs.lemmas.List.{length-map, length-replicate}
 use Rattle.std.proofs.lemmas.List.FromFn.{length-map-range_with_len}
 use Rattle.std.proofs.lemmas.List.Elements.{All-from_recursion}
+use Rattle.std.proofs.lemmas.Option.{get_or_from_slice_get}
 use Rattle.ua_table.specs.Algebras.{Vector, FiniteAlgebra, arities_of}
 use Rattle.ua_table.specs.Terms.{Tree, IsTerm, term_value, eval}
 use Rattle.ua_table.specs.declared.limits.TheConstants.{WIDTH}
 use Rattle.ua_table.specs.Refusals.{refusal_if}
 use Rattle.ua_table.specs.Generated.{Sg}
-use Rattle.ua_table.proofs.Lists.{get_or-slice_get, found, all_at, Contains-flat_map_from, Contains-map_from}
+use Rattle.ua_table.proofs.Lists.{found, all_at, Contains-flat_map_from, Contains-map_from}
+use Rattle.ua_table.proofs.FrameLemmas.{arities_of_power}
 use Rattle.ua_term.specs.Assignments.{IsAssignment, assignments}
 use Rattle.ua_term.proofs.AssignmentLaws.{assignment_from}
 use Rattle.ua_walk.specs.Sequences.{Alternates, EndsWith}
@@ -31,8 +33,8 @@ use Rattle.ua_check.specs.Chains.{kind_of, chain_width, HasNoChain}
 use Rattle.ua_check.specs.Reached.{even_parts, odd_parts, leads, is_own_row, holds_position, is_led_to, is_started, is_followed, is_not_end, places_of, place_of, row_flaw, reached_lines, reached_flaw, odd_positions, no_chain_lines, no_chain_flaw}
 use Rattle.ua_flaws.proofs.FirstLaws.{both, not_true, option_none, none_of, each_good}
 use Rattle.ua_flaws.proofs.PassLaws.{is_same_vector}
-use Rattle.ua_flaws.proofs.Powers.{arities_power}
 use Rattle.ua_check.proofs.ReachedLaws.{some_wide}
+use Rattle.ua_check.proofs.ChainLaws.{three_places}
 
 -- ---- the patterns of the chains
 
@@ -46,10 +48,6 @@ patterns_are Hm = (fits 2 0 0 1 (omega arith) (omega arith) (omega arith), (fits
 pub three_long : (name : ChainName) → AllByRecursion (λ (p : VariablePattern). length p.places ≡ 3) (kind_of name).patterns
 three_long Jonsson = (refl, (refl, (refl, tt)))
 three_long Hm = (refl, (refl, tt))
-
-pub three : (name : ChainName) → (kind_of name).places ≡ 3
-three Jonsson = refl
-three Hm = refl
 
 -- what stands at the places of a pattern are elements
 named_elements : (n : ℕ) (ys places : List ℕ) → AllByRecursion (λ y. y < n) ys → AllByRecursion (λ v. v < length ys) places → AllByRecursion (λ x. x < n) (map (slice_index ys) places)
@@ -162,12 +160,12 @@ module _ (a : FiniteAlgebra) (name : ChainName) (rows : List Vector) (even odd :
       let count : (kind_of name).places ≡ length gens = sym (length-map-range_with_len (place_vector (all_fillings a.size ps)) 0 (kind_of name).places) in
       let member : Sg (power a ps) gens (vector_of a ps t) = record {
         term = t;
-        is_term = subst (λ ks. IsTerm ks (length gens) t) (sym (arities_power a wide some)) (subst (λ n. IsTerm (arities_of a) n t) count h);
-        value = law a ps (kind_of name).places t (subst (λ n. AllByRecursion (λ (p : VariablePattern). length p.places ≡ n) ps) (sym (three name)) (three_long name)) h;
+        is_term = subst (λ ks. IsTerm ks (length gens) t) (sym (arities_of_power a wide some)) (subst (λ n. IsTerm (arities_of a) n t) count h);
+        value = law a ps (kind_of name).places t (subst (λ n. AllByRecursion (λ (p : VariablePattern). length p.places ≡ n) ps) (sym (three_places name)) (three_long name)) h;
       } in
       let there = hold a (chain_width a name) gens rows closed (vector_of a ps t) (subst (λ n. Sg (replicate n a) gens (vector_of a ps t)) (sym (length-replicate wide a)) member) in
       let at = found rows there.0 there.1 in
-      let same : at.0 ≡ vector_of a ps t = sym (get_or-slice_get rows there.0 at.0 (vector_of a ps t) at.1) ∙ there.2 in
+      let same : at.0 ≡ vector_of a ps t = sym (get_or_from_slice_get rows there.0 at.0 (vector_of a ps t) at.1) ∙ there.2 in
       record { place = there.0; stands = at.1 ∙ ap (λ v. Some v) same }
 
   -- the vector of a term stands at one of the positions
@@ -186,7 +184,7 @@ module _ (a : FiniteAlgebra) (name : ChainName) (rows : List Vector) (even odd :
       record { place = r.place; stands = r.stands; held = after_not (is_same (vec a name t) (place_of a name 0)) (holds_position even r.place) test (is_same_vector (vec a name t) (place_of a name 0) (start_is a name t h)) }
 
   led : (link : ℕ × ℕ) (ps : List ℕ) (d e : Tree) → Stands ps d → leads a.size name link (vec a name d) (vec a name e) ≡ true → is_led_to a.size name link rows ps (vec a name e) ≡ true
-  led link ps d e s h = any_at (λ p. leads a.size name link (get_or rows p []) (vec a name e)) ps s.place s.held (ap (λ v. leads a.size name link v (vec a name e)) (get_or-slice_get rows s.place (vec a name d) [] s.stands) ∙ h)
+  led link ps d e s h = any_at (λ p. leads a.size name link (get_or rows p []) (vec a name e)) ps s.place s.held (ap (λ v. leads a.size name link v (vec a name e)) (get_or_from_slice_get rows s.place (vec a name d) [] s.stands) ∙ h)
 
   -- what the test of a row that is led to says
   record Followed (i : ℕ) (v : Vector) : Type 0 where

@@ -1,15 +1,13 @@
 -- Rows at positions, and their parts, as loops read them.
-use Rattle.std.proofs.Common.{◌≡◌, ℕ, zero, suc, ◌+◌, ◌-◌, ◌*◌, ◌^◌, ◌<◌, ◌≤◌, Bool, true, false, ◌||◌, Some, None, List, [], ◌∷◌, length, take, drop, set, get_or, refl, sym, ap, ◌∙◌, arith}
-use Rattle.std.specs.Prelude.{◌==◌, slice_get, slice_range}
+use Rattle.std.proofs.Common.{◌≡◌, ℕ, zero, suc, ◌+◌, ◌-◌, ◌*◌, ◌^◌, ◌<◌, ◌≤◌, Bool, true, false, Some, None, List, [], ◌∷◌, length, take, drop, get_or, refl, sym, ap, ◌∙◌, arith}
+use Rattle.std.specs.Prelude.{slice_get, slice_range}
 use Rattle.std.specs.List.{AllByRecursion}
 use Rattle.std.specs.Option.{option_map}
-use Rattle.std.proofs.lemmas.Bool.Decides.{nat_tests}
 use Rattle.std.proofs.Math.Nat.{pow-suc, pow-succ', pow-zero}
-use Rattle.std.proofs.lemmas.List.{get_or-set_same, get_or-set_other}
-use Rattle.std.proofs.lemmas.List.Folds.{list_any_more}
+use Rattle.std.proofs.lemmas.Option.{get_or_from_slice_get}
 use Rattle.ua_table.specs.Algebras.{Vector, FiniteAlgebra}
 use Rattle.ua_table.specs.Refusals.{first_refusal}
-use Rattle.ua_table.proofs.Lists.{get_or-slice_get}
+use Rattle.ua_table.proofs.RefusalLemmas.{passed}
 use Rattle.ua_identity.specs.Identities.{VariablePattern, xxy}
 use Rattle.ua_identity.specs.Patterns.{fillings, all_fillings, start_of}
 use Rattle.ua_identity.proofs.FillingLaws.{length_fillings, width_more, start_narrow}
@@ -18,8 +16,8 @@ use Rattle.ua_cert.specs.declared.certs.ChainName.TheVariants.{Jonsson, Hm}
 use Rattle.ua_flaws.specs.declared.flaws.Flaw.TheVariants as flaw
 use Rattle.ua_flaws.specs.Firsts.{first_bad}
 use Rattle.ua_check.specs.Chains.{kind_of}
-use Rattle.ua_check.specs.Reached.{pattern_at, part, holds_position, odd_positions, places_of, place_of, row_flaw, sides_flaw, reached_lines, reached_flaw}
-use Rattle.ua_flaws.proofs.FirstLaws.{alone, skipped, bad_here, bad_later}
+use Rattle.ua_check.specs.Reached.{pattern_at, part, odd_positions, places_of, place_of, row_flaw, sides_flaw, reached_lines, reached_flaw}
+use Rattle.ua_flaws.proofs.FirstLaws.{alone, bad_here, bad_later}
 
 -- ---- row by row
 
@@ -86,7 +84,7 @@ odd_low n Jonsson even odd h k = k
 odd_low n Hm even odd h k = h
 
 place_at : (a : FiniteAlgebra) (name : ChainName) (places : List Vector) (j : ℕ) (v : Vector) → places ≡ places_of a name → slice_get places j ≡ Some v → v ≡ place_of a name j
-place_at a name places j v e at = sym (get_or-slice_get places j v [] at) ∙ ap (λ (vs : List Vector). get_or vs j []) e
+place_at a name places j v e at = sym (get_or_from_slice_get places j v [] at) ∙ ap (λ (vs : List Vector). get_or vs j []) e
 
 end_place : (name : ChainName) → 2 ≡ (kind_of name).end
 end_place Jonsson = refl
@@ -100,7 +98,7 @@ reached_told a name rows places even odd odd' n start end size same first last i
     let e = place_at a name places 2 end same last ∙ ap (place_of a name) (end_place name) in
     (λ i. first_refusal (reached_lines (size i) name (s i) (e i) rows even (is i)))
     ∙ alone (reached_flaw a name rows even (odd_positions name even odd))
-    ∙ sym (skipped (sides_flaw name (length rows) even odd) (reached_flaw a name rows even (odd_positions name even odd) ∷ []) fine)
+    ∙ sym (passed (sides_flaw name (length rows) even odd) (reached_flaw a name rows even (odd_positions name even odd) ∷ []) fine)
 
 pub part_read : (n : ℕ) (name : ChainName) (m from : ℕ) (v : Vector) → m < length (kind_of name).patterns → from ≡ start_of n (kind_of name).patterns m → slice_range v from (from + n * n) ≡ part n name m v
 part_read n name m from v h e =

@@ -3,9 +3,12 @@ use Rattle.std.proofs.Common.{◌≡◌, ℕ, zero, suc, ◌+◌, ◌<◌, Bool,
 use Rattle.std.specs.Prelude.{Contains, slice_get, slice_index, ◌==◌, nat_lt}
 use Rattle.std.specs.List.{AllByRecursion, list_any}
 use Rattle.std.proofs.lemmas.Bool.Decides.{nat_tests}
+use Rattle.std.proofs.lemmas.Bool.{and_from}
+use Rattle.std.proofs.lemmas.Option.{slice_get_within, get_or_from_slice_get}
 use Rattle.ua_table.specs.Algebras.{Vector, FiniteAlgebra, arities_of}
 use Rattle.ua_table.specs.Terms.{Tree, Generator, IsTerm, eval}
-use Rattle.ua_table.proofs.Lists.{found, get_or-slice_get, Contains-head, Contains-tail, Contains-cases, Contains-none, All-slice_get, all_append}
+use Rattle.ua_table.proofs.Lists.{found, Contains-head, Contains-tail, Contains-cases, Contains-none, All-slice_get, all_append}
+use Rattle.ua_table.proofs.RefusalLemmas.{refusal_if-false}
 use Rattle.ua_walk.specs.Sequences.{Alternates, BeginsWith, EndsWith, ends_even}
 use Rattle.ua_identity.specs.Identities.{xxy, xyx, xyy}
 use Rattle.ua_identity.specs.Chains.{AreLinked, IsOwn, IsPlace, is_among_even, IsReached}
@@ -19,7 +22,7 @@ use Rattle.ua_check.specs.Answers.{AreThose}
 use Rattle.ua_check.specs.Chains.{kind_of}
 use Rattle.ua_check.specs.Reached.{even_parts, odd_parts, leads, is_own_row, holds_position, is_position, positions_flaw, parity_flaw, place_of}
 use Rattle.ua_flaws.proofs.FirstLaws.{same_is}
-use Rattle.ua_flaws.proofs.PassLaws.{is_below, all_true, no_refusal, no_option, none_bad}
+use Rattle.ua_flaws.proofs.PassLaws.{is_below, no_option, none_bad}
 use Rattle.ua_check.proofs.NoChainLaws.{vec, even_leads, odd_leads, start_is}
 
 -- ---- positions
@@ -46,14 +49,9 @@ held_is (p ∷ ps) i h =
 position_fine : (n : ℕ) (ps : List ℕ) → ((j k : ℕ) → j < k → k < length ps → slice_index ps j < slice_index ps k) → AllByRecursion (λ i. i < n) ps → (i p : ℕ) → slice_get ps i ≡ Some p → is_position n ps i p ≡ true
 position_fine n ps up low zero p at = is_below p n (All-slice_get (λ x. x < n) ps 0 p low at)
 position_fine n ps up low (suc i) p at =
-    let next : slice_index ps (suc i) ≡ p = get_or-slice_get ps (suc i) p 0 at in
-    let step = up i (suc i) (omega arith) (there ps (suc i) p at) in
-    all_true (nat_lt p n) (nat_lt (slice_index ps i) p) (is_below p n (All-slice_get (λ x. x < n) ps (suc i) p low at)) (is_below (slice_index ps i) p (subst (λ z. slice_index ps i < z) next step))
-  where
-    there : (xs : List ℕ) (j x : ℕ) → slice_get xs j ≡ Some x → j < length xs
-    there [] j x e = cc
-    there (y ∷ ys) zero x e = omega arith
-    there (y ∷ ys) (suc j) x e = let l = there ys j x e in omega (arith, l)
+    let next : slice_index ps (suc i) ≡ p = get_or_from_slice_get ps (suc i) p 0 at in
+    let step = up i (suc i) (omega arith) (slice_get_within ps (suc i) p at) in
+    and_from (nat_lt p n) (nat_lt (slice_index ps i) p) (is_below p n (All-slice_get (λ x. x < n) ps (suc i) p low at)) (is_below (slice_index ps i) p (subst (λ z. slice_index ps i < z) next step))
 
 pub no_position_flaw : (a : FiniteAlgebra) (name : ChainName) (even : Bool) (rows : List Vector) (ps : List ℕ) → AreThose a name even rows ps → positions_flaw (length rows) ps ≡ None
 no_position_flaw a name even rows ps h =
@@ -74,7 +72,7 @@ no_odd a rows (p ∷ ps) h =
 
 pub no_parity_flaw : (a : FiniteAlgebra) (name : ChainName) (rows : List Vector) (odd : List ℕ) → AreThose a name false rows odd → parity_flaw name odd ≡ None
 no_parity_flaw a Jonsson rows odd h = refl
-no_parity_flaw a Hm rows odd h = no_refusal (not (length odd == 0)) (flaw.Reached (slice_index odd 0)) (ap not (no_odd a rows odd h))
+no_parity_flaw a Hm rows odd h = refusal_if-false (not (length odd == 0)) (flaw.Reached (slice_index odd 0)) (ap not (no_odd a rows odd h))
 
 -- ---- one term more
 
@@ -152,6 +150,7 @@ led_from f (p ∷ ps) h =
       | false ↦ λ e k. (let r = led_from f ps k in (r.0, Contains-tail p r.0 ps r.1, r.2))
     ] refl h
 
+-- a test that is asked only where another passes
 pub where_so : (b c : Bool) → (b ≡ true → c ≡ true) → (not b || c) ≡ true
 where_so true c h = h refl
 where_so false c h = refl

@@ -2,7 +2,7 @@
 use Rattle.std.proofs.Common.{◌≡◌, ℕ, ◌+◌, ◌-◌, ◌<◌, ◌≤◌, Some, List, [], ◌∷◌, ◌++◌, length, map, take, set, get_or, refl, sym, ap, subst, ◌∙◌, arith}
 use Rattle.std.specs.Prelude.{slice_index, slice_get}
 use Rattle.std.specs.List.{AllByRecursion}
-use Rattle.std.proofs.lemmas.List.{length-append, map-append, get_or-map, get_or-take, take_all, take_more_set}
+use Rattle.std.proofs.lemmas.List.{length-append, map-append, get_or-map, get_or-take, take_all, take_more_set, length-take-le, take_more}
 use Rattle.std.proofs.lemmas.List.Elements.{All-from_recursion}
 use Rattle.ua_table.specs.declared.origins.Origin.{Origin}
 use Rattle.ua_table.specs.declared.origins.Origin.TheVariants.{Gen, Op}
@@ -10,8 +10,9 @@ use Rattle.ua_table.specs.Algebras.{Operation, FiniteAlgebra, arities_of, numera
 use Rattle.ua_table.specs.Tables.{IsAlgebraTable}
 use Rattle.ua_table.specs.Terms.{Tree, Generator, eval, eval_all}
 use Rattle.ua_table.specs.Origins.{IsOrigin}
+use Rattle.ua_table.proofs.Lists.{all_push}
 use Rattle.ua_term.specs.Steps.{AreSteps, terms_at, term_after, terms_from, unfolded}
-use Rattle.ua_term.proofs.StepLaws.{step_at, take_push, length_taken, all_more}
+use Rattle.ua_term.proofs.StepLaws.{step_at}
 use Rattle.ua_term.proofs.TreeLemmas.{operation_facts}
 use Rattle.ua_flaws.specs.Steps.{written_term}
 use Rattle.ua_check.specs.Equations.{element_of}
@@ -48,10 +49,10 @@ module _ (a : FiniteAlgebra) (xs : List ℕ) where
   value_more gens steps i o values v are l at room known e =
       let ks = arities_of a in
       let ts = unfolded ks (take i steps) in
-      let count : i ≡ length ts = (let m = terms_count ks [] (take i steps) in let k = length_taken steps i (omega (arith, l)) in omega (arith, m, k)) in
+      let count : i ≡ length ts = (let m = terms_count ks [] (take i steps) in let k = length-take-le i steps (omega (arith, l)) in omega (arith, m, k)) in
       let one : IsOrigin ks gens i o = subst (IsOrigin ks gens i) (sym at) (step_at ks gens steps i o are l) in
       let v_is : v ≡ eval a xs (term_after ks ts o) = e ∙ ap (λ vs. element_of a xs vs o) known ∙ element_after gens i ts o count one in
-      let steps_more : take (i + 1) steps ≡ take i steps ++ o ∷ [] = take_push steps i o l ∙ ap (λ (w : Origin). take i steps ++ w ∷ []) (sym at) in
+      let steps_more : take (i + 1) steps ≡ take i steps ++ o ∷ [] = take_more steps i o l ∙ ap (λ (w : Origin). take i steps ++ w ∷ []) (sym at) in
       take_more_set values i v room
       ∙ ap (λ vs. vs ++ v ∷ []) known
       ∙ ap (λ w. map (eval a xs) ts ++ w ∷ []) v_is
@@ -88,4 +89,4 @@ operation_value a f o values args entries j h g l m e =
 
 -- elements, one more
 pub below_more : (n : ℕ) (values : List ℕ) (i v : ℕ) → i < length values → AllByRecursion (λ x. x < n) (take i values) → v < n → AllByRecursion (λ x. x < n) (take (i + 1) (set values i v))
-below_more n values i v room h l = subst (AllByRecursion (λ x. x < n)) (sym (take_more_set values i v room)) (all_more (λ x. x < n) (take i values) v h l)
+below_more n values i v room h l = subst (AllByRecursion (λ x. x < n)) (sym (take_more_set values i v room)) (all_push (λ x. x < n) (take i values) v h l)

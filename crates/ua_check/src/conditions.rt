@@ -8,7 +8,6 @@ ghost use Rattle.ua_table.specs.Refusals.{refusal_if};
 ghost use Rattle.ua_term.specs.Steps.{AreSteps};
 ghost use Rattle.ua_identity.specs.Identities.{TermIdentity};
 ghost use Rattle.ua_identity.specs.Conditions.{IsCondition};
-ghost use Rattle.ua_identity.specs.Patterns.{condition_power};
 ghost use Rattle.ua_flaws.specs.declared.flaws.Flaw.TheVariants as flaw;
 ghost use Rattle.ua_flaws.specs.Steps.{written_term};
 ghost use Rattle.ua_flaws.specs.Flaws.{Tells};

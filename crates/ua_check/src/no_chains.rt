@@ -7,7 +7,7 @@ ghost use Rattle.ua_table.specs.Refusals.{first_refusal};
 ghost use Rattle.ua_term.specs.Assignments.{projection};
 ghost use Rattle.ua_identity.specs.Patterns.{all_fillings};
 ghost use Rattle.ua_flaws.specs.Flaws.{Tells};
-ghost use Rattle.ua_check.specs.Chains.{kind_of, chain_width, HasNoChain};
+ghost use Rattle.ua_check.specs.Chains.{kind_of, HasNoChain};
 ghost use Rattle.ua_check.specs.Reached as reached;
 ghost use Rattle.ua_check.specs.ChartsOf.{IsChartOf};
 

@@ -1,12 +1,12 @@
 -- What an answer says of terms.
 use Rattle.std.proofs.Common.{◌≡◌, ℕ, ◌-◌, ◌<◌, List, length, ap, ◌∙◌, subst, arith, Some, Ok}
 use Rattle.std.specs.Prelude.{slice_get, ◌↔◌}
-use Rattle.std.proofs.lemmas.Option.{slice_get_within}
+use Rattle.std.proofs.lemmas.Option.{slice_get_within, get_or_from_slice_get}
 use Rattle.ua_table.specs.Algebras.{Vector, FiniteAlgebra, Product, arities_of, arities}
 use Rattle.ua_table.specs.Terms.{Tree, Generator, IsTerm, term_value}
 use Rattle.ua_table.specs.Generated.{Sg}
 use Rattle.ua_table.specs.Listings.{Row}
-use Rattle.ua_table.proofs.Lists.{mapped_from, get_or-slice_get}
+use Rattle.ua_table.proofs.Lists.{mapped_from}
 use Rattle.ua_term.specs.Steps.{StepList, AreSteps, unfolded, step_values}
 use Rattle.ua_term.proofs.StepLaws.{step_is_term, length_values}
 use Rattle.ua_close.specs.declared.memberships.Answer.TheVariants.{No}
@@ -34,7 +34,7 @@ module _ (a : FiniteAlgebra) (c : TermCondition) where
       let t = m.0 in
       let last : slice_get (unfolded s.arities s.items) i ≡ Some t = ap (λ (ks : List ℕ). slice_get (unfolded ks s.items) i) h.arities_are ∙ m.1 in
       let low : i < length s.items = (let within = slice_get_within (step_values power arguments s.items) i value h.value in let long = length_values power arguments s.items in omega (arith, within, long)) in
-      let is_term : IsTerm s.arities s.gens t = subst (IsTerm s.arities s.gens) (get_or-slice_get (unfolded s.arities s.items) i t (Generator 0) last) (step_is_term s.arities s.gens s.items i h.steps low) in
+      let is_term : IsTerm s.arities s.gens t = subst (IsTerm s.arities s.gens) (get_or_from_slice_get (unfolded s.arities s.items) i t (Generator 0) last) (step_is_term s.arities s.gens s.items i h.steps low) in
       let w = (written t).0 (subst (λ (X : Type 0). X) (λ k. IsTerm (h.arities_are k) (h.generators k) t) is_term, m.2) in
       record { term = t; last = last; is_term = w.0; meets = w.1 }
 

@@ -2,9 +2,10 @@
 use Rattle.std.proofs.Common.{◌≡◌, ℕ, None, List, [], ◌∷◌, length, get_or, refl, ◌∙◌, subst, arith}
 use Rattle.std.specs.Prelude.{Contains, slice_index, find, replicate}
 use Rattle.std.specs.List.{AllByRecursion, range_with_len}
+use Rattle.std.proofs.lemmas.List.{get_or_default}
 use Rattle.ua_table.specs.Algebras.{Vector, Product, arities, apply}
 use Rattle.ua_table.specs.Generated.{IsClosed}
-use Rattle.ua_table.proofs.Lists.{any_default, Contains-map}
+use Rattle.ua_table.proofs.Lists.{Contains-map}
 use Rattle.ua_table.proofs.Choices.{IsChoice, chosen, in_range}
 use Rattle.ua_term.specs.Assignments.{assignments}
 use Rattle.ua_rows.specs.RowLists.{rows_at}
@@ -20,7 +21,7 @@ positions_give : (rows args : List Vector) (h : AllByRecursion (Contains rows) a
 unfolding positions
 positions_give rows [] h = refl
 positions_give rows (v ∷ vs) h =
-    let here : get_or rows h.0.0 [] ≡ v = any_default rows h.0.0 [] v h.0.1 ∙ h.0.2 in
+    let here : get_or rows h.0.0 [] ≡ v = get_or_default rows h.0.0 [] v h.0.1 ∙ h.0.2 in
     let rest = positions_give rows vs h.1 in
     λ i. here i ∷ rest i
 

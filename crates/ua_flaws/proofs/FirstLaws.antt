@@ -1,16 +1,17 @@
 -- The first item that fails a test, as a loop finds it and as a proof reads it; and the first of some refusals.
-use Rattle.std.proofs.Common.{◌≡◌, ℕ, zero, suc, ◌+◌, ◌<◌, ◌≤◌, Bool, true, false, not, ◌&&◌, ◌||◌, cond, Option, Some, None, List, [], ◌∷◌, ◌++◌, map, length, take, drop, get_or, refl, sym, ap, ◌∙◌, arith, ⊎_elim}
+use Rattle.std.proofs.Common.{◌≡◌, ℕ, zero, suc, ◌+◌, ◌<◌, ◌≤◌, Bool, true, false, not, ◌&&◌, cond, Option, Some, None, List, [], ◌∷◌, ◌++◌, map, length, take, drop, get_or, refl, sym, ap, ◌∙◌, arith, ⊎_elim}
 use Rattle.std.specs.Prelude.{Contains, slice_get, IfSome, IfNone, is_some, find, nat_lt, min, ◌==◌}
 use Rattle.std.specs.List.{AllByRecursion, list_all}
 use Rattle.std.specs.Option.{option_map}
 use Rattle.std.specs.Cmp.Lexicographic.{bytes_decides, nat_list_eq_equiv}
 use Rattle.std.proofs.lemmas.Bool.Decides.{nat_tests}
-use Rattle.std.proofs.lemmas.List.{take_more, map-append}
+use Rattle.std.proofs.lemmas.List.{take_more, map-append, drop_all}
 use Rattle.std.proofs.lemmas.Map.Views.{Contains-from_any, list_any-from_Contains}
-use Rattle.std.proofs.Math.Seq.{drop-cons, take-append_seam}
+use Rattle.std.proofs.Math.Seq.{drop-cons}
+use Rattle.std.proofs.lemmas.Option.{slice_get_read}
 use Rattle.ua_table.specs.Algebras.{Vector}
 use Rattle.ua_table.specs.Refusals.{refusal_if, first_refusal}
-use Rattle.ua_table.proofs.Lists.{Contains-slice_get, Contains-cases, Contains-none, found, get_or-slice_get, all_take_more}
+use Rattle.ua_table.proofs.Lists.{Contains-slice_get, Contains-cases, Contains-none, found, all_take_more}
 use Rattle.ua_flaws.specs.Firsts.{first_bad, unlike_lengths, is_same, is_among}
 
 -- ---- tests
@@ -18,10 +19,6 @@ use Rattle.ua_flaws.specs.Firsts.{first_bad, unlike_lengths, is_same, is_among}
 pub both : (b c : Bool) → (b && c) ≡ true → (b ≡ true) × (c ≡ true)
 both true c e = (refl, e)
 both false c e = cc
-
-pub neither : (b c : Bool) → (b || c) ≡ false → (b ≡ false) × (c ≡ false)
-neither false c e = (refl, e)
-neither true c e = cc
 
 pub not_false : (b : Bool) → not b ≡ false → b ≡ true
 not_false true e = refl
@@ -56,22 +53,13 @@ all_below n (x ∷ xs) e = let h = both (nat_lt x n) (list_all (λ y. nat_lt y n
     below : (y : ℕ) → nat_lt y n ≡ true → y < n
     below y t = grind (arith, nat_tests)
 
--- what holds at each place holds of each
-pub all_from_places : {X : Type 0} (P : X → Type 0) (xs : List X) → ((i : ℕ) (x : X) → slice_get xs i ≡ Some x → P x) → AllByRecursion P xs
-all_from_places P [] h = tt
-all_from_places P (x ∷ xs) h = (h 0 x refl, all_from_places P xs (λ i y at. h (suc i) y at))
-
--- what a loop reads stands there
-pub placed : {X : Type 0} (xs : List X) (i : ℕ) (x : X) → i < length xs → x ≡ get_or xs i x → slice_get xs i ≡ Some x
-placed xs i x h e = let v = found xs i h in v.1 ∙ ap (λ y. Some y) (sym (e ∙ get_or-slice_get xs i v.0 x v.1))
-
 -- one more of a mapped list
 pub map_more : {X Y : Type 0} (f : X → Y) (xs : List X) (i : ℕ) (x : X) → i < length xs → x ≡ get_or xs i x → map f (take (i + 1) xs) ≡ map f (take i xs) ++ f x ∷ []
 map_more f xs i x h e = ap (map f) (take_more xs i x h ∙ ap (λ y. take i xs ++ y ∷ []) (sym e)) ∙ map-append f (take i xs) (x ∷ [])
 
 -- one more is good
 pub good_more : {X : Type 0} (P : X → Type 0) (xs : List X) (i : ℕ) (x : X) → i < length xs → x ≡ get_or xs i x → AllByRecursion P (take i xs) → P x → AllByRecursion P (take (i + 1) xs)
-good_more P xs i x h e done here = all_take_more P xs i x done (placed xs i x h e) here
+good_more P xs i x h e done here = all_take_more P xs i x done (slice_get_read xs (length xs) i x refl h e) here
 
 -- ---- refusals
 
@@ -109,15 +97,6 @@ pub alone : {E : Type 0} (o : Option E) → o ≡ first_refusal (o ∷ [])
 alone None = refl
 alone (Some e) = refl
 
--- a line that does not apply, and one that does
-pub skipped : {E : Type 0} (o : Option E) (rest : List (Option E)) → o ≡ None → first_refusal (o ∷ rest) ≡ first_refusal rest
-skipped None rest h = refl
-skipped (Some e) rest h = cc
-
-pub stopped : {E : Type 0} (o : Option E) (rest : List (Option E)) (e : E) → o ≡ Some e → first_refusal (o ∷ rest) ≡ Some e
-stopped None rest e h = cc
-stopped (Some d) rest e h = h
-
 -- ---- what a look finds
 
 pub find_none : {X : Type 0} (p : X → Bool) (xs : List X) (x : X) → find p xs ≡ None → Contains xs x → p x ≡ false
@@ -127,12 +106,6 @@ find_none p (y ∷ ys) x h c =
       | true ↦ λ e k. cc
       | false ↦ λ e k. ⊎_elim (λ same. ap p (sym same) ∙ e) (λ rest. find_none p ys x k rest) (Contains-cases y x ys c)
     ] refl h
-
--- nothing is left past the end
-pub past : {X : Type 0} (i : ℕ) (xs : List X) → length xs ≤ i → drop i xs ≡ []
-past {X} i [] h = elim i as (λ j. drop {A = X} j [] ≡ []) [ zero ↦ refl | suc j ↦ refl ]
-past zero (x ∷ xs) h = absurd (omega (arith, h))
-past (suc i) (x ∷ xs) h = past i xs (omega (arith, h))
 
 -- ---- the first item that fails
 
@@ -158,7 +131,7 @@ module _ {X : Type 0} (good : ℕ → X → Bool) where
   bad_nowhere xs i h = none i xs h
     where
       none : (i : ℕ) (xs : List X) → length xs ≤ i → first_bad good i (drop i xs) ≡ None
-      none i xs h = ap (first_bad good i) (past i xs h)
+      none i xs h = ap (first_bad good i) (drop_all i xs h)
 
   -- where none fails, each passes
   pub each_good : (n : ℕ) (xs : List X) → first_bad good n xs ≡ None → (i : ℕ) (x : X) → slice_get xs i ≡ Some x → good (n + i) x ≡ true
@@ -182,10 +155,6 @@ like_lengths m n h = cases (m == n) h (λ e. equal e)
     cases : (b : Bool) → cond b None (Some (min m n)) ≡ None → (b ≡ true → m ≡ n) → m ≡ n
     cases true k f = f refl
     cases false k f = cc
-
--- what is written over a whole vector
-pub written_back : {X : Type 0} (xs ys : List X) (n : ℕ) → length ys ≡ length xs → n ≡ length xs → take n (ys ++ drop (length ys) xs) ≡ ys
-written_back xs ys n e f = ap (λ m. take m (ys ++ drop (length ys) xs)) (f ∙ sym e) ∙ take-append_seam ys (drop (length ys) xs)
 
 -- what a loop reads of the first n
 pub taken_is : {X : Type 0} (n : ℕ) (xs : List X) (i : ℕ) (x : X) → i < n → x ≡ get_or xs i x → x ≡ get_or (take n xs) i x

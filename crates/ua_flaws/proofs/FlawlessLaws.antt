@@ -8,6 +8,8 @@ use Rattle.std.specs.declared.cmp.Ordering.TheVariants.{Less}
 use Rattle.std.specs.List.Sorted.{IsStrictlySortedBy}
 use Rattle.std.proofs.lemmas.Bool.Decides.{nat_tests}
 use Rattle.std.proofs.lemmas.List.{length-map, take_all, take-append-drop}
+use Rattle.std.proofs.lemmas.Bool.{and_from, or_from, or_parts}
+use Rattle.std.proofs.lemmas.Option.{slice_get_within, get_or_from_slice_get}
 use Rattle.ua_table.specs.declared.limits.TheConstants.{WIDTH}
 use Rattle.ua_table.specs.declared.origins.Origin.{Origin}
 use Rattle.ua_table.specs.declared.origins.Origin.TheVariants.{Gen, Op}
@@ -20,10 +22,12 @@ use Rattle.ua_table.specs.Origins.{IsOrigin, IsApplication, arguments_of, origin
 use Rattle.ua_table.specs.Terms.{term_value}
 use Rattle.ua_table.specs.Listings.{Row, vectors_of, ranks_of, IsMadeFrom}
 use Rattle.ua_table.specs.Refusals.{first_refusal, is_outside}
-use Rattle.ua_table.proofs.Lists.{found, mapped_at, mapped_from, Contains-head, Contains-tail, Contains-slice_get, All-slice_get, get_or-slice_get}
+use Rattle.ua_table.proofs.Lists.{found, mapped_at, mapped_from, Contains-head, Contains-tail, Contains-slice_get, All-slice_get}
 use Rattle.ua_table.proofs.Counts.{one_if-same, times-Contains}
 use Rattle.ua_table.proofs.GeneratedLaws.{generator_in, result_in}
 use Rattle.ua_table.proofs.Choices.{range_low}
+use Rattle.ua_table.proofs.RefusalLemmas.{refusal_if-false}
+use Rattle.ua_table.proofs.FrameLemmas.{arities_of_power}
 use Rattle.ua_term.specs.Meanings.{operation_number, has_operation}
 use Rattle.ua_term.specs.Steps.{AreStepsFrom, AreSteps, step_values, step_term, unfolded}
 use Rattle.ua_term.specs.Printing.{name_at}
@@ -41,9 +45,8 @@ use Rattle.ua_flaws.specs.Shapes.{power, is_vector}
 use Rattle.ua_flaws.specs.Closing.{is_missing, missing_of, missing}
 use Rattle.ua_flaws.specs.Answers.{AreExact, IsPowerListing}
 use Rattle.ua_flaws.specs.Flaws.{vectors_flaw, steps_flaw, follows, order_flaw, is_rank, first_or_short, ranks_flaw, is_made, origins_flaw, generators_flaw, results_flaw, closed_flaw, outside_lines, gives_target, member_lines, member_flaw, not_member_lines, not_member_flaw, listing_lines, listing_flaw}
-use Rattle.ua_flaws.proofs.FirstLaws.{among_is}
-use Rattle.ua_flaws.proofs.PassLaws.{is_below, is_equal, are_below, is_same_vector, is_there, all_true, not_either, no_line, no_refusal, no_option, none_bad, none_found}
-use Rattle.ua_flaws.proofs.Powers.{arities_power}
+use Rattle.ua_flaws.proofs.FirstLaws.{among_is, both}
+use Rattle.ua_flaws.proofs.PassLaws.{is_below, is_equal, are_below, is_same_vector, is_there, no_line, no_option, none_bad, none_found}
 
 -- ---- vectors
 
@@ -53,17 +56,9 @@ is_power_vector a zero (x ∷ v) h = absurd h
 is_power_vector a (suc n) [] h = absurd h
 is_power_vector a (suc n) (x ∷ v) h =
     let rest = is_power_vector a n v h.1 in
-    let long : (length v == n) ≡ true = first (length v == n) (list_all (λ y. nat_lt y a.size) v) rest in
-    let low : list_all (λ y. nat_lt y a.size) v ≡ true = second (length v == n) (list_all (λ y. nat_lt y a.size) v) rest in
-    all_true (suc (length v) == suc n) (nat_lt x a.size && list_all (λ y. nat_lt y a.size) v) (grind (arith, nat_tests)) (all_true (nat_lt x a.size) (list_all (λ y. nat_lt y a.size) v) (is_below x a.size h.0) low)
-  where
-    first : (b c : Bool) → (b && c) ≡ true → b ≡ true
-    first true c e = refl
-    first false c e = cc
-
-    second : (b c : Bool) → (b && c) ≡ true → c ≡ true
-    second true c e = e
-    second false c e = cc
+    let long : (length v == n) ≡ true = (both (length v == n) (list_all (λ y. nat_lt y a.size) v) rest).0 in
+    let low : list_all (λ y. nat_lt y a.size) v ≡ true = (both (length v == n) (list_all (λ y. nat_lt y a.size) v) rest).1 in
+    and_from (suc (length v) == suc n) (nat_lt x a.size && list_all (λ y. nat_lt y a.size) v) (grind (arith, nat_tests)) (and_from (nat_lt x a.size) (list_all (λ y. nat_lt y a.size) v) (is_below x a.size h.0) low)
 
 pub no_vector_flaw : (a : FiniteAlgebra) (width : ℕ) (list : ListName) (vs : List Vector) → AllByRecursion (IsVector (power a width)) vs → vectors_flaw a.size width list vs ≡ None
 no_vector_flaw a width list vs all =
@@ -71,7 +66,7 @@ no_vector_flaw a width list vs all =
     (none_bad (λ (i : ℕ) (v : Vector). is_vector a.size width v) 0 vs (λ i v at. is_power_vector a width v (All-slice_get (IsVector (power a width)) vs i v all at)))
 
 pub right_width : (width : ℕ) → 0 < width → width ≤ WIDTH → is_outside width WIDTH ≡ false
-right_width width some few = not_either (width == 0) (nat_lt WIDTH width) (grind (arith, nat_tests)) (grind (arith, nat_tests))
+right_width width some few = or_from (width == 0) (nat_lt WIDTH width) (grind (arith, nat_tests)) (grind (arith, nat_tests))
 
 -- ---- steps
 
@@ -86,18 +81,14 @@ module _ (a : FiniteAlgebra) (table : IsAlgebraTable a) where
       let ops = length-map a.operations (λ (o : Operation). o.arity) in
       let o = found a.operations f (omega (arith, low, ops)) in
       let there : slice_get (names_of a.operations) f ≡ Some (o.0.name) = mapped_at (λ (o : Operation). o.name) a.operations f o.0 o.1 in
-      let is : name_at a f ≡ o.0.name = get_or-slice_get (names_of a.operations) f o.0.name [] there in
+      let is : name_at a f ≡ o.0.name = get_or_from_slice_get (names_of a.operations) f o.0.name [] there in
       record {
         there = there ∙ ap (λ n. Some n) (sym is);
         free = ap is_reserved is ∙ (All-slice_get IsTable a.operations f o.0 table.tables o.1).free;
       }
 
   not_gen : (word : List ℕ) → is_reserved word ≡ false → pointwise nat_eq word (codes "gen") ≡ false
-  not_gen word e = first (pointwise nat_eq word (codes "gen")) (is_variable word) e
-    where
-      first : (b c : Bool) → (b || c) ≡ false → b ≡ false
-      first false c h = refl
-      first true c h = cc
+  not_gen word e = (or_parts (pointwise nat_eq word (codes "gen")) (is_variable word) e).0
 
   -- a written origin is read as it was
   pub record IsWritten (gens n : ℕ) (o : Origin) : Type 0 where
@@ -117,8 +108,8 @@ module _ (a : FiniteAlgebra) (table : IsAlgebraTable a) where
       let whole : xs ++ replicate (4 - length xs) 0 ≡ args = ap (λ zs. xs ++ zs) tail ∙ take-append-drop k args in
       record {
         step = ap (λ b. cond b ((length xs == 1) && list_all (λ x. nat_lt x gens) xs) (has_operation a (name_at a f) && ((length xs == arity_named a (written_step a (Op f args))) && list_all (λ x. nat_lt x n) xs))) gen
-            ∙ all_true (has_operation a (name_at a f)) ((length xs == arity_named a (written_step a (Op f args))) && list_all (λ x. nat_lt x n) xs) (named_there a f (name_at a f) name.there)
-            (all_true (length xs == arity_named a (written_step a (Op f args))) (list_all (λ x. nat_lt x n) xs) (is_equal (length xs) (arity_named a (written_step a (Op f args))) (h.count ∙ sym arity)) (are_below n xs h.earlier));
+            ∙ and_from (has_operation a (name_at a f)) ((length xs == arity_named a (written_step a (Op f args))) && list_all (λ x. nat_lt x n) xs) (named_there a f (name_at a f) name.there)
+            (and_from (length xs == arity_named a (written_step a (Op f args))) (list_all (λ x. nat_lt x n) xs) (is_equal (length xs) (arity_named a (written_step a (Op f args))) (h.count ∙ sym arity)) (are_below n xs h.earlier));
         origin = ap (λ b. cond b (Gen (slice_index xs 0)) (Op (operation_number a (name_at a f)) (xs ++ replicate (4 - length xs) 0))) gen
             ∙ ap (λ m. Op m (xs ++ replicate (4 - length xs) 0)) number ∙ ap (λ zs. Op f zs) whole;
         rows = ap (λ b. cond b [] xs) gen;
@@ -151,18 +142,18 @@ module _ (a : FiniteAlgebra) (table : IsAlgebraTable a) where
       → AreSteps (arities_of a) (length gens) os → slice_get (step_values (power a width) gens os) (length os - 1) ≡ Some target → member_flaw a gens (written_steps a os) target width ≡ None
   flawless_member gens os target width some few vectors one steps value =
       let count : length (written_steps a os) ≡ length os = length-map os (written_step a) in
-      let ks : arities (power a width) ≡ arities_of a = arities_power a width some in
+      let ks : arities (power a width) ≡ arities_of a = arities_of_power a width some in
       let last : last_term a (written_steps a os) ≡ step_term (arities_of a) os (length os - 1) = ap (λ zs. step_term (arities_of a) zs (length zs - 1)) (steps_again (length gens) 0 os steps) in
       let t = mapped_from (term_value (power a width) gens) (unfolded (arities (power a width)) os) (length os - 1) target value in
-      let at : step_term (arities_of a) os (length os - 1) ≡ t.0 = ap (λ zs. step_term zs os (length os - 1)) (sym ks) ∙ get_or-slice_get (unfolded (arities (power a width)) os) (length os - 1) t.0 _ t.1 in
+      let at : step_term (arities_of a) os (length os - 1) ≡ t.0 = ap (λ zs. step_term zs os (length os - 1)) (sym ks) ∙ get_or_from_slice_get (unfolded (arities (power a width)) os) (length os - 1) t.0 _ t.1 in
       let gives : term_value (power a width) gens (last_term a (written_steps a os)) ≡ target = ap (term_value (power a width) gens) (last ∙ at) ∙ t.2 in
       no_line (member_lines a gens (written_steps a os) target width) (
-        no_refusal (is_outside width WIDTH || (length (written_steps a os) == 0)) flaw.Width (not_either (is_outside width WIDTH) (length (written_steps a os) == 0) (right_width width some few) (some_steps os count value)),
+        refusal_if-false (is_outside width WIDTH || (length (written_steps a os) == 0)) flaw.Width (or_from (is_outside width WIDTH) (length (written_steps a os) == 0) (right_width width some few) (some_steps os count value)),
         (
           no_vector_flaw a width Gens gens vectors,
           (
             no_vector_flaw a width Target (target ∷ []) (one, tt),
-            (no_step_flaw (length gens) None os steps, (no_refusal (not (gives_target a width gens (written_steps a os) target)) flaw.Target (ap not (is_same_vector (term_value (power a width) gens (last_term a (written_steps a os))) target gives)), tt)),
+            (no_step_flaw (length gens) None os steps, (refusal_if-false (not (gives_target a width gens (written_steps a os) target)) flaw.Target (ap not (is_same_vector (term_value (power a width) gens (last_term a (written_steps a os))) target gives)), tt)),
           ),
         ),
       )
@@ -185,7 +176,7 @@ row_follows : (rows : List Vector) → IsIncreasing rows → (i : ℕ) (v : Vect
 row_follows rows inc zero v at = refl
 row_follows rows inc (suc i) v at =
     let u = before rows i v at in
-    ap (λ w. is_lt (slice_cmp nat_cmp w v)) (get_or-slice_get rows i u.0 [] u.1) ∙ ap is_lt (below_next rows i u.0 v inc u.1 at)
+    ap (λ w. is_lt (slice_cmp nat_cmp w v)) (get_or_from_slice_get rows i u.0 [] u.1) ∙ ap is_lt (below_next rows i u.0 v inc u.1 at)
   where
     before : (xs : List Vector) (j : ℕ) (w : Vector) → slice_get xs (suc j) ≡ Some w → (u : Vector) × (slice_get xs j ≡ Some u)
     before [] j w e = cc
@@ -213,7 +204,7 @@ once_each : (n : ℕ) (ranks : List ℕ) → EachOnceBelow n ranks → (i x : �
 once_each n ranks once i x at =
     let there = times-Contains x ranks (Contains-slice_get ranks i x at) in
     let count = once x in
-    all_true (nat_lt x n) (not (list_any (λ y. y == x) (take i ranks))) (low (nat_lt x n) refl) (ap not (not_before ranks i x at (most (nat_lt x n) refl)))
+    and_from (nat_lt x n) (not (list_any (λ y. y == x) (take i ranks))) (low (nat_lt x n) refl) (ap not (not_before ranks i x at (most (nat_lt x n) refl)))
   where
     low : (b : Bool) → nat_lt x n ≡ b → b ≡ true
     low true e = refl
@@ -245,20 +236,15 @@ no_generator_flaw a width gens rows exact =
     no_option flaw.Generator (first_bad (λ i g. is_among rows g) 0 gens)
     (none_bad (λ (i : ℕ) (g : Vector). is_among rows g) 0 gens (λ i g at. is_there rows g (exact.all g (at_place i g at))))
   where
-    low : {X : Type 0} (xs : List X) (i : ℕ) (x : X) → slice_get xs i ≡ Some x → i < length xs
-    low [] i x e = cc
-    low (y ∷ ys) zero x e = omega arith
-    low (y ∷ ys) (suc i) x e = let l = low ys i x e in omega (arith, l)
-
     at_place : (i : ℕ) (g : Vector) → slice_get gens i ≡ Some g → Sg (power a width) gens g
-    at_place i g at = subst (Sg (power a width) gens) (get_or-slice_get gens i g [] at) (generator_in (power a width) gens i (low gens i g at))
+    at_place i g at = subst (Sg (power a width) gens) (get_or_from_slice_get gens i g [] at) (generator_in (power a width) gens i (slice_get_within gens i g at))
 
 -- the rows at positions are generated
 positions_generated : (a : FiniteAlgebra) (width : ℕ) (gens rows : List Vector) → AreExact a width gens rows → (tuple : List ℕ) → AllByRecursion (λ x. x < length rows) tuple → AllByRecursion (Sg (power a width) gens) (rows_at rows tuple)
 positions_generated a width gens rows exact [] low = tt
 positions_generated a width gens rows exact (x ∷ xs) low =
     let v = found rows x low.0 in
-    (subst (Sg (power a width) gens) (sym (get_or-slice_get rows x v.0 [] v.1)) (exact.generated v.0 (Contains-slice_get rows x v.0 v.1)), positions_generated a width gens rows exact xs low.1)
+    (subst (Sg (power a width) gens) (sym (get_or_from_slice_get rows x v.0 [] v.1)) (exact.generated v.0 (Contains-slice_get rows x v.0 v.1)), positions_generated a width gens rows exact xs low.1)
 
 result_there : (a : FiniteAlgebra) (width : ℕ) (gens rows : List Vector) → AreExact a width gens rows → (f : ℕ) (tuple : List ℕ) → f < length (arities (power a width)) → IsAssignment (length rows) (slice_index (arities (power a width)) f) tuple → is_missing (power a width) rows f tuple ≡ false
 result_there a width gens rows exact f tuple low h =
@@ -295,14 +281,14 @@ not_there rows v h = cases (is_among rows v) refl
 
 pub no_outside_flaw : (a : FiniteAlgebra) (width : ℕ) (gens rows : List Vector) (target : Vector) → IsIncreasing rows → AreExact a width gens rows → (Contains rows target → ⊥) → AllByRecursion (λ o. o ≡ None) (outside_lines a width gens rows target)
 no_outside_flaw a width gens rows target inc exact absent =
-    (no_closed_flaw a width gens rows inc exact, (no_refusal (is_among rows target) flaw.Target (not_there rows target absent), tt))
+    (no_closed_flaw a width gens rows inc exact, (refusal_if-false (is_among rows target) flaw.Target (not_there rows target absent), tt))
 
 -- ---- a listing
 
 pub flawless_not_member : (a : FiniteAlgebra) (gens : List Vector) (rows : List Row) (target : Vector) (width : ℕ) → IsPowerListing a width gens rows → IsVector (power a width) target → (Contains (vectors_of rows) target → ⊥) → not_member_flaw a gens (vectors_of rows) target width ≡ None
 flawless_not_member a gens rows target width l one absent =
     no_line (not_member_lines a gens (vectors_of rows) target width) (
-      no_refusal (is_outside width WIDTH) flaw.Width (right_width width l.wide.0 l.wide.1),
+      refusal_if-false (is_outside width WIDTH) flaw.Width (right_width width l.wide.0 l.wide.1),
       (
         no_vector_flaw a width Gens gens l.admitted,
         (no_vector_flaw a width Rows (vectors_of rows) l.vectors, (no_vector_flaw a width Target (target ∷ []) (one, tt), no_outside_flaw a width gens (vectors_of rows) target l.listing.increasing l.exact absent)),
@@ -318,19 +304,19 @@ module _ (a : FiniteAlgebra) (table : IsAlgebraTable a) (width : ℕ) (gens : Li
   origin_made i o at =
       let r = mapped_from (λ (w : Row). written_step a w.origin) rows i o at in
       let made = All-slice_get (IsMadeFrom (power a width) gens rows) rows i r.0 l.listing.origins r.1 in
-      let ks : arities (power a width) ≡ arities_of a = arities_power a width l.wide.0 in
+      let ks : arities (power a width) ≡ arities_of a = arities_of_power a width l.wide.0 in
       let long : length rows ≡ length (vectors_of rows) = sym (length-map rows (λ (w : Row). w.vector)) in
       let origin : IsOrigin (arities_of a) (length gens) (length (vectors_of rows)) r.0.origin = subst (λ n. IsOrigin (arities_of a) (length gens) n r.0.origin) long (subst (λ zs. IsOrigin zs (length gens) (length rows) r.0.origin) ks made.origin) in
       let w = written a table (length gens) (length (vectors_of rows)) r.0.origin origin in
-      let vector : slice_index_or (vectors_of rows) i [] ≡ r.0.vector = get_or-slice_get (vectors_of rows) i r.0.vector [] (mapped_at (λ (x : Row). x.vector) rows i r.0 r.1) in
-      let rank : slice_index (ranks_of rows) i ≡ r.0.rank = get_or-slice_get (ranks_of rows) i r.0.rank 0 (mapped_at (λ (x : Row). x.rank) rows i r.0 r.1) in
+      let vector : slice_index_or (vectors_of rows) i [] ≡ r.0.vector = get_or_from_slice_get (vectors_of rows) i r.0.vector [] (mapped_at (λ (x : Row). x.vector) rows i r.0 r.1) in
+      let rank : slice_index (ranks_of rows) i ≡ r.0.rank = get_or_from_slice_get (ranks_of rows) i r.0.rank 0 (mapped_at (λ (x : Row). x.rank) rows i r.0 r.1) in
       let earlier : AllByRecursion (λ x. slice_index (ranks_of rows) x < slice_index (ranks_of rows) i) (rows_named (written_step a r.0.origin))
       = subst (λ n. AllByRecursion (λ x. slice_index (ranks_of rows) x < n) (rows_named (written_step a r.0.origin))) (sym rank)
       (subst (AllByRecursion (λ x. slice_index (ranks_of rows) x < r.0.rank)) (sym (w.rows ∙ ap (λ zs. arguments_of zs r.0.origin) (sym ks))) made.earlier) in
       let value : origin_value (power a width) gens (vectors_of rows) (origin_of a (written_step a r.0.origin)) ≡ slice_index_or (vectors_of rows) i [] = ap (origin_value (power a width) gens (vectors_of rows)) w.origin ∙ made.value ∙ sym vector in
       subst (λ s. is_made a width gens (vectors_of rows) (ranks_of rows) i s ≡ true) r.2
-      (all_true (is_step a (length gens) (length (vectors_of rows)) (written_step a r.0.origin)) (list_all (λ x. nat_lt (slice_index (ranks_of rows) x) (slice_index (ranks_of rows) i)) (rows_named (written_step a r.0.origin)) && is_same (origin_value (power a width) gens (vectors_of rows) (origin_of a (written_step a r.0.origin))) (slice_index_or (vectors_of rows) i [])) w.step
-      (all_true (list_all (λ x. nat_lt (slice_index (ranks_of rows) x) (slice_index (ranks_of rows) i)) (rows_named (written_step a r.0.origin))) (is_same (origin_value (power a width) gens (vectors_of rows) (origin_of a (written_step a r.0.origin))) (slice_index_or (vectors_of rows) i [])) (ranks_below (slice_index (ranks_of rows) i) (rows_named (written_step a r.0.origin)) earlier)
+      (and_from (is_step a (length gens) (length (vectors_of rows)) (written_step a r.0.origin)) (list_all (λ x. nat_lt (slice_index (ranks_of rows) x) (slice_index (ranks_of rows) i)) (rows_named (written_step a r.0.origin)) && is_same (origin_value (power a width) gens (vectors_of rows) (origin_of a (written_step a r.0.origin))) (slice_index_or (vectors_of rows) i [])) w.step
+      (and_from (list_all (λ x. nat_lt (slice_index (ranks_of rows) x) (slice_index (ranks_of rows) i)) (rows_named (written_step a r.0.origin))) (is_same (origin_value (power a width) gens (vectors_of rows) (origin_of a (written_step a r.0.origin))) (slice_index_or (vectors_of rows) i [])) (ranks_below (slice_index (ranks_of rows) i) (rows_named (written_step a r.0.origin)) earlier)
       (is_same_vector (origin_value (power a width) gens (vectors_of rows) (origin_of a (written_step a r.0.origin))) (slice_index_or (vectors_of rows) i []) value)))
 
   no_origin_flaw : origins_flaw a width gens (vectors_of rows) (ranks_of rows) (row_steps a rows) ≡ None
@@ -345,7 +331,7 @@ module _ (a : FiniteAlgebra) (table : IsAlgebraTable a) (width : ℕ) (gens : Li
       let count : length (vectors_of rows) ≡ length (ranks_of rows) = length-map rows (λ (w : Row). w.vector) ∙ sym (length-map rows (λ (w : Row). w.rank)) in
       let once : EachOnceBelow (length (vectors_of rows)) (ranks_of rows) = subst (λ n. EachOnceBelow n (ranks_of rows)) long l.listing.ranks in
       no_line (listing_lines a gens (row_steps a rows) (ranks_of rows) (vectors_of rows) width) (
-        no_refusal (is_outside width WIDTH) flaw.Width (right_width width l.wide.0 l.wide.1),
+        refusal_if-false (is_outside width WIDTH) flaw.Width (right_width width l.wide.0 l.wide.1),
         (
           no_vector_flaw a width Gens gens l.admitted,
           (

@@ -1,6 +1,5 @@
 pub mod FirstLaws
 pub mod PassLaws
-pub mod Powers
 pub mod ClosingLaws
 pub mod OrderLaws
 pub mod RankLaws

@@ -7,8 +7,9 @@ use Rattle.std.specs.declared.cmp.Ordering.{Ordering}
 use Rattle.std.specs.declared.cmp.Ordering.TheVariants.{Less, Equal, Greater}
 use Rattle.std.specs.Cmp.Lexicographic.{slice_cmp, nat_list_cmp_total}
 use Rattle.std.specs.List.Sorted.{IsStrictlySortedBy}
+use Rattle.std.proofs.lemmas.Option.{get_or_from_slice_get}
 use Rattle.ua_table.specs.Algebras.{Vector, IsIncreasing}
-use Rattle.ua_table.proofs.Lists.{found, get_or-slice_get, Contains-none, Contains-cases, All-slice_get}
+use Rattle.ua_table.proofs.Lists.{found, Contains-none, Contains-cases, All-slice_get}
 use Rattle.ua_flaws.specs.Flaws.{follows, order_flaw}
 use Rattle.ua_flaws.proofs.FirstLaws.{each_good, option_none}
 
@@ -27,7 +28,7 @@ climbs rows none i h =
     let good = each_good (follows rows) 0 rows (option_none _ _ none) (suc i) v.0 v.1 in
     let z : 0 + suc i ≡ suc i = omega arith in
     let at : follows rows (suc i) v.0 ≡ true = ap (λ k. follows rows k v.0) (sym z) ∙ good in
-    let same : get_or rows (suc i) [] ≡ v.0 = get_or-slice_get rows (suc i) v.0 [] v.1 in
+    let same : get_or rows (suc i) [] ≡ v.0 = get_or_from_slice_get rows (suc i) v.0 [] v.1 in
     less_is _ (ap (λ w. is_lt (slice_cmp nat_cmp (get_or rows i []) w)) same ∙ at)
 
 above_all : (x y : Vector) (ys : List Vector) → slice_cmp nat_cmp x y ≡ Less → AllByRecursion (λ z. slice_cmp nat_cmp y z ≡ Less) ys → AllByRecursion (λ z. slice_cmp nat_cmp x z ≡ Less) ys

@@ -6,6 +6,7 @@ use Rattle.ua_table.specs.declared.origins.Origin.{Origin}
 use Rattle.ua_table.specs.declared.origins.Origin.TheVariants.{Gen, Op}
 use Rattle.ua_table.specs.Algebras.{Vector, FiniteAlgebra, Product, arities, arities_of, apply}
 use Rattle.ua_table.specs.Origins.{IsOrigin, arguments_of, origin_value}
+use Rattle.ua_table.proofs.FrameLemmas.{arities_of_power}
 use Rattle.ua_rows.specs.RowLists.{rows_at}
 use Rattle.ua_term.specs.Meanings.{operation_number}
 use Rattle.ua_cert.specs.declared.certs.CertStep.{CertStep}
@@ -14,7 +15,6 @@ use Rattle.ua_flaws.specs.Steps.{is_generator, is_step, origin_of, rows_named}
 use Rattle.ua_flaws.specs.Shapes.{power}
 use Rattle.ua_flaws.specs.Flaws.{is_made}
 use Rattle.ua_flaws.proofs.StepLaws.{Passed, passed, step_read}
-use Rattle.ua_flaws.proofs.Powers.{arities_power}
 
 -- a step that names an operation
 pub record OperationRead (a : FiniteAlgebra) (gens n : ℕ) (s : CertStep) (op : ℕ) (args : List ℕ) : Type 0 where
@@ -76,7 +76,7 @@ module _ (a : FiniteAlgebra) (width : ℕ) (gens rows : List Vector) (ranks : Li
   pub made_operation : (op : ℕ) (args : List ℕ) (v row : Vector) (d : Bool) → 0 < width → Passed a (length gens) (length rows) s (Op op args) → list_all (λ x. nat_lt (slice_index ranks x) (slice_index ranks i)) s.args ≡ true → v ≡ apply (power a width) op (rows_at rows s.args) → slice_index_or rows i [] ≡ row → d ≡ is_same v row → d ≡ is_made a width gens rows ranks i s
   made_operation op args v row d some p h ev er e =
       let o = operation_read a (length gens) (length rows) s op args p in
-      let taken : take (slice_index (arities (power a width)) op) args ≡ s.args = ap (λ (ks : List ℕ). take (slice_index ks op) args) (arities_power a width some) ∙ o.taken in
+      let taken : take (slice_index (arities (power a width)) op) args ≡ s.args = ap (λ (ks : List ℕ). take (slice_index ks op) args) (arities_of_power a width some) ∙ o.taken in
       let value : origin_value (power a width) gens rows (origin_of a s) ≡ v = ap (origin_value (power a width) gens rows) (sym p.origin) ∙ ap (λ (xs : List ℕ). apply (power a width) op (rows_at rows xs)) taken ∙ sym ev in
       sym (made_by true true d p.step (ap (list_all (λ x. nat_lt (slice_index ranks x) (slice_index ranks i))) o.rows ∙ h)
       (ap (λ w. is_same w (slice_index_or rows i [])) value ∙ ap (is_same v) er ∙ sym e))
@@ -93,5 +93,5 @@ all_named a gens n m s op args p e = subst (λ k. AllByRecursion (λ x. x < k) s
 pub arity_in : (a : FiniteAlgebra) (width : ℕ) (q : Product) (gens n : ℕ) (s : CertStep) (op : ℕ) (args : List ℕ) → Passed a gens n s (Op op args) → q ≡ power a width → 0 < width → (op < length (arities q)) × (length s.args ≡ slice_index (arities q) op)
 arity_in a width q gens n s op args p e some =
     let o = operation_read a gens n s op args p in
-    let ks : arities_of a ≡ arities q = sym (ap arities e ∙ arities_power a width some) in
+    let ks : arities_of a ≡ arities q = sym (ap arities e ∙ arities_of_power a width some) in
     (subst (λ zs. op < length zs) ks o.operation, o.arity ∙ ap (λ (zs : List ℕ). slice_index zs op) ks)

@@ -1,5 +1,5 @@
 -- Tests that are passed, so that no line applies and no item fails.
-use Rattle.std.proofs.Common.{◌≡◌, ℕ, suc, ◌+◌, ◌<◌, Bool, true, false, ◌&&◌, ◌||◌, cond, Option, Some, None, List, [], ◌∷◌, refl, sym, ap, ◌∙◌, arith}
+use Rattle.std.proofs.Common.{◌≡◌, ℕ, suc, ◌+◌, ◌<◌, Bool, true, false, ◌&&◌, cond, Option, Some, None, List, [], ◌∷◌, refl, sym, ap, ◌∙◌, arith}
 use Rattle.std.specs.Prelude.{Contains, slice_get, find, nat_lt, ◌==◌}
 use Rattle.std.specs.List.{AllByRecursion, list_all}
 use Rattle.std.specs.Option.{option_map}
@@ -7,7 +7,7 @@ use Rattle.std.specs.Cmp.Lexicographic.{nat_list_eq_equiv, bytes_decides}
 use Rattle.std.proofs.lemmas.Bool.Decides.{nat_tests}
 use Rattle.std.proofs.lemmas.Map.Views.{list_any-from_Contains}
 use Rattle.ua_table.specs.Algebras.{Vector}
-use Rattle.ua_table.specs.Refusals.{refusal_if, first_refusal}
+use Rattle.ua_table.specs.Refusals.{first_refusal}
 use Rattle.ua_table.proofs.Lists.{Contains-head, Contains-tail}
 use Rattle.ua_flaws.specs.Firsts.{first_bad, is_same, is_among}
 
@@ -29,15 +29,6 @@ is_same_vector v w e = (bytes_decides v w).1 e
 pub is_there : (vs : List Vector) (v : Vector) → Contains vs v → is_among vs v ≡ true
 is_there vs v c = list_any-from_Contains nat_list_eq_equiv v vs c
 
--- both parts of a test
-pub all_true : (b c : Bool) → b ≡ true → c ≡ true → (b && c) ≡ true
-all_true true c e f = f
-all_true false c e f = cc
-
-pub not_either : (b c : Bool) → b ≡ false → c ≡ false → (b || c) ≡ false
-not_either false c e f = f
-not_either true c e f = cc
-
 -- ---- lines and items
 
 -- no line applies
@@ -45,10 +36,6 @@ pub no_line : {E : Type 0} (os : List (Option E)) → AllByRecursion (λ o. o �
 no_line [] h = refl
 no_line (None ∷ os) h = no_line os h.1
 no_line (Some e ∷ os) h = cc
-
-pub no_refusal : {E : Type 0} (b : Bool) (e : E) → b ≡ false → refusal_if b e ≡ None
-no_refusal false e h = refl
-no_refusal true e h = cc
 
 pub no_option : {A B : Type 0} (f : A → B) (o : Option A) → o ≡ None → option_map f o ≡ None
 no_option f None h = refl

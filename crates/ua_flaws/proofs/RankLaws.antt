@@ -1,19 +1,19 @@
 -- As many ranks as rows, each below their number and none twice, are those numbers, each once.
-use Rattle.std.proofs.Common.{◌≡◌, ◌≢◌, ℕ, zero, suc, ◌+◌, ◌<◌, ◌≤◌, Bool, true, false, not, ◌&&◌, ◌||◌, Option, Some, None, List, [], ◌∷◌, ◌++◌, length, take, drop, set, get_or, refl, sym, ap, ◌∙◌, arith, ⊎_elim}
+use Rattle.std.proofs.Common.{◌≡◌, ◌≢◌, ℕ, suc, ◌+◌, ◌<◌, ◌≤◌, Bool, true, false, not, ◌&&◌, ◌||◌, Option, Some, None, List, [], ◌∷◌, ◌++◌, length, take, drop, set, get_or, refl, sym, ap, ◌∙◌, arith, ⊎_elim}
 use Rattle.std.specs.Prelude.{slice_get, slice_index_or, Contains, nat_lt, ◌==◌}
 use Rattle.std.specs.List.{AllByRecursion, list_any}
-use Rattle.std.proofs.lemmas.Bool.{cases_lt}
+use Rattle.std.proofs.lemmas.Bool.{cases_lt, or_parts}
 use Rattle.std.proofs.lemmas.Bool.Decides.{nat_tests}
 use Rattle.ua_table.specs.Algebras.{Vector}
 use Rattle.ua_table.specs.Counting.{one_if, total, times, EachOnceBelow, numbers_below}
 use Rattle.ua_table.proofs.Counts.{total-plus, total-zero, one_if-same, one_if-other, once_in, once_out, each_once-numbers_below, length-numbers_below, each_once-below}
-use Rattle.ua_table.proofs.Lists.{Contains-cases, Contains-none, all_from_contains}
-use Rattle.std.proofs.lemmas.List.{take_all, take_more, get_or-set_same, get_or-set_other}
+use Rattle.ua_table.proofs.Lists.{Contains-cases, Contains-none, all_from_contains, all_from_places}
+use Rattle.std.proofs.lemmas.List.{take_all, take_more, get_or-set_same, get_or-set_other, get_or-take}
 use Rattle.std.specs.Option.{option_map}
 use Rattle.ua_flaws.specs.declared.flaws.Flaw.TheVariants as flaw
 use Rattle.ua_flaws.specs.Firsts.{first_bad}
 use Rattle.ua_flaws.specs.Flaws.{is_rank, first_or_short, ranks_flaw}
-use Rattle.ua_flaws.proofs.FirstLaws.{bad_here, bad_later, neither, all_from_places, both, not_true, each_good, option_none, first_none, like_lengths}
+use Rattle.ua_flaws.proofs.FirstLaws.{bad_here, bad_later, both, not_true, each_good, option_none, first_none, like_lengths, taken_long}
 
 -- ---- a number stands there at most once
 
@@ -101,7 +101,7 @@ each_once n xs count low once k = ⊎_elim
 not_before : (x : ℕ) (xs : List ℕ) → list_any (λ y. y == x) xs ≡ false → times x xs ≡ 0
 not_before x [] h = refl
 not_before x (y ∷ ys) h =
-    let parts = neither (y == x) (list_any (λ z. z == x) ys) h in
+    let parts = or_parts (y == x) (list_any (λ z. z == x) ys) h in
     let other : y ≢ x = apart y parts.0 in
     let here = one_if-other x y other in
     let rest = not_before x ys parts.1 in
@@ -174,28 +174,15 @@ marks_more n marks ranks i x e h at m k low =
     cases true t = ap (λ j. slice_index_or (set marks j true) k false) (same t) ∙ get_or-set_same marks k true false (omega (arith, e, low)) ∙ or_true (list_any (λ y. y == k) (take i ranks))
     cases false t = get_or-set_other marks x k true false (λ s. other t (sym s)) ∙ m k low ∙ or_false (list_any (λ y. y == k) (take i ranks))
 
--- what a loop over the ranks reads
-pub taken_at : (n : ℕ) (xs : List ℕ) (i d : ℕ) → i < n → get_or (take n xs) i d ≡ get_or xs i d
-taken_at zero xs i d h = absurd (omega (arith, h))
-taken_at (suc n) [] i d h = refl
-taken_at (suc n) (x ∷ xs) zero d h = refl
-taken_at (suc n) (x ∷ xs) (suc i) d h = taken_at n xs i d (omega (arith, h))
-
-pub taken_long : (n : ℕ) (xs : List ℕ) (i : ℕ) → i < n → i < length xs → i < length (take n xs)
-taken_long zero xs i h l = absurd (omega (arith, h))
-taken_long (suc n) [] i h l = absurd (omega (arith, l))
-taken_long (suc n) (x ∷ xs) zero h l = omega arith
-taken_long (suc n) (x ∷ xs) (suc i) h l = let r = taken_long n xs i (omega (arith, h)) (omega (arith, l)) in omega (arith, r)
-
 module _ (rows : List Vector) (ranks : List ℕ) where
   abbrev pub bad_ranks_from : ℕ → Option ℕ
   bad_ranks_from i = first_bad (is_rank (length rows) ranks) i (drop i (take (length rows) ranks))
 
   pub rank_bad : (i x : ℕ) → i < length rows → i < length ranks → x ≡ get_or ranks i 0 → is_rank (length rows) ranks i x ≡ false → first_bad (is_rank (length rows) ranks) 0 (take (length rows) ranks) ≡ bad_ranks_from i → ranks_flaw rows ranks ≡ Some (flaw.Rank i)
   rank_bad i x h l at bad rest =
-      let here = bad_here (is_rank (length rows) ranks) (take (length rows) ranks) i x 0 (taken_long (length rows) ranks i h l) (at ∙ sym (taken_at (length rows) ranks i 0 h)) bad in
+      let here = bad_here (is_rank (length rows) ranks) (take (length rows) ranks) i x 0 (taken_long (length rows) ranks i h l) (at ∙ sym (get_or-take (length rows) ranks i 0 h)) bad in
       ap (λ o. option_map flaw.Rank (first_or_short o (length rows) (length ranks))) (rest ∙ here)
 
   pub rank_good : (i x : ℕ) → i < length rows → i < length ranks → x ≡ get_or ranks i 0 → is_rank (length rows) ranks i x ≡ true → first_bad (is_rank (length rows) ranks) 0 (take (length rows) ranks) ≡ bad_ranks_from i → first_bad (is_rank (length rows) ranks) 0 (take (length rows) ranks) ≡ bad_ranks_from (i + 1)
   rank_good i x h l at good rest =
-      rest ∙ bad_later (is_rank (length rows) ranks) (take (length rows) ranks) i x 0 (taken_long (length rows) ranks i h l) (at ∙ sym (taken_at (length rows) ranks i 0 h)) good
+      rest ∙ bad_later (is_rank (length rows) ranks) (take (length rows) ranks) i x 0 (taken_long (length rows) ranks i h l) (at ∙ sym (get_or-take (length rows) ranks i 0 h)) good

@@ -4,14 +4,15 @@ use Rattle.std.specs.Prelude.{slice_get, slice_index, find}
 use Rattle.std.specs.List.{range_with_len}
 use Rattle.std.specs.Option.{option_map}
 use Rattle.std.proofs.lemmas.List.{length-map}
+use Rattle.std.proofs.lemmas.Option.{get_or_from_slice_get}
 use Rattle.ua_table.specs.Algebras.{Vector, Operation, FiniteAlgebra, Product, arities}
 use Rattle.ua_table.specs.Refusals.{first_refusal}
-use Rattle.ua_table.proofs.Lists.{get_or-slice_get, mapped_at}
+use Rattle.ua_table.proofs.Lists.{mapped_at}
+use Rattle.ua_table.proofs.FrameLemmas.{arities_of_power}
 use Rattle.ua_term.specs.Assignments.{assignments}
 use Rattle.ua_flaws.specs.Firsts.{first_behind}
 use Rattle.ua_flaws.specs.Shapes.{power}
 use Rattle.ua_flaws.specs.Closing.{is_missing, missing_of, missing}
-use Rattle.ua_flaws.proofs.Powers.{arities_power}
 use Rattle.ua_flaws.proofs.WalkLaws.{map-same}
 
 module _ (p : Product) (rows : List Vector) (f : ℕ) where
@@ -49,11 +50,11 @@ module _ (p : Product) (rows : List Vector) where
 -- the arity of an operation of a power is its table's
 pub arity_at : (a : FiniteAlgebra) (width : ℕ) (p : Product) (f : ℕ) (o : Operation) → p ≡ power a width → 0 < width → slice_get a.operations f ≡ Some o → o.arity ≡ slice_index (arities p) f
 arity_at a width p f o e some at =
-    sym (get_or-slice_get (map (λ (w : Operation). w.arity) a.operations) f o.arity 0 (mapped_at (λ (w : Operation). w.arity) a.operations f o at))
-    ∙ ap (λ (ks : List ℕ). slice_index ks f) (sym (ap arities e ∙ arities_power a width some))
+    sym (get_or_from_slice_get (map (λ (w : Operation). w.arity) a.operations) f o.arity 0 (mapped_at (λ (w : Operation). w.arity) a.operations f o at))
+    ∙ ap (λ (ks : List ℕ). slice_index ks f) (sym (ap arities e ∙ arities_of_power a width some))
 
 pub operations_count : (a : FiniteAlgebra) (width : ℕ) (p : Product) → p ≡ power a width → 0 < width → length (arities p) ≡ length a.operations
-operations_count a width p e some = ap length (ap arities e ∙ arities_power a width some) ∙ length-map a.operations (λ (w : Operation). w.arity)
+operations_count a width p e some = ap length (ap arities e ∙ arities_of_power a width some) ∙ length-map a.operations (λ (w : Operation). w.arity)
 
 pub operations_begin : (a : FiniteAlgebra) (width : ℕ) (p : Product) (rows : List Vector) → p ≡ power a width → 0 < width → missing p rows ≡ over p rows 0 (length a.operations - 0)
 operations_begin a width p rows e some = let n : length (arities p) ≡ length a.operations - 0 = omega (arith, operations_count a width p e some) in ap (over p rows 0) n

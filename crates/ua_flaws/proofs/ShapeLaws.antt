@@ -18,13 +18,14 @@ use Rattle.ua_flaws.specs.Firsts.{first_bad}
 use Rattle.ua_flaws.specs.Steps.{is_step, origins_of}
 use Rattle.ua_flaws.specs.Flaws.{Tells, steps_flaw}
 use Rattle.ua_flaws.proofs.StepLaws.{steps_read}
-use Rattle.ua_flaws.proofs.Powers.{arities_power}
 use Rattle.std.specs.Prelude.{◌==◌, nat_lt}
 use Rattle.std.specs.List.{AllByRecursion, list_all}
 use Rattle.std.proofs.lemmas.Bool.Decides.{nat_tests}
+use Rattle.std.proofs.lemmas.Bool.{or_parts}
 use Rattle.ua_table.specs.Algebras.{Vector}
+use Rattle.ua_table.proofs.FrameLemmas.{arities_of_power}
 use Rattle.ua_flaws.specs.Shapes.{power, is_vector, IsOver}
-use Rattle.ua_flaws.proofs.FirstLaws.{both, neither, all_below, option_none}
+use Rattle.ua_flaws.proofs.FirstLaws.{both, all_below, option_none}
 
 pub is_over : (size width : ℕ) (v : Vector) → is_vector size width v ≡ true → IsOver size width v
 is_over size width v e =
@@ -35,7 +36,7 @@ is_over size width v e =
     equal n t = grind (arith, nat_tests)
 
 pub wide : (width : ℕ) → is_outside width WIDTH ≡ false → 0 < width
-wide width e = let h = neither (width == 0) (nat_lt WIDTH width) e in some h.0
+wide width e = let h = or_parts (width == 0) (nat_lt WIDTH width) e in some h.0
   where
     some : (width == 0) ≡ false → 0 < width
     some z = grind (arith, nat_tests)
@@ -76,7 +77,7 @@ vectors_over a p size width gens items product e same all =
 -- steps without a flaw are steps of the power
 pub steps_over : (a : FiniteAlgebra) (p : Product) (width : ℕ) (gens items : List Vector) (steps : List CertStep) (os : List Origin) → p ≡ power a width → is_outside width WIDTH ≡ false → items ≡ gens → os ≡ origins_of a steps → steps_flaw a (length gens) None steps ≡ None → AreSteps (arities p) (length items) os
 steps_over a p width gens items steps os product inside same read none =
-    let ks : arities_of a ≡ arities p = sym (ap arities product ∙ arities_power a width (wide width inside)) in
+    let ks : arities_of a ≡ arities p = sym (ap arities product ∙ arities_of_power a width (wide width inside)) in
     let are : AreSteps (arities_of a) (length gens) (origins_of a steps) = steps_read a (length gens) 0 steps (option_none (flaw.Step None) (first_bad (is_step a (length gens)) 0 steps) none) in
     subst (λ zs. AreSteps zs (length items) os) ks
     (subst (λ n. AreSteps (arities_of a) n os) (ap length (sym same))

@@ -6,6 +6,7 @@ use Rattle.std.proofs.lemmas.Bool.Decides.{nat_tests}
 use Rattle.std.proofs.lemmas.List.{length-map, take_all}
 use Rattle.std.proofs.lemmas.Map.Views.{list_any-from_Contains}
 use Rattle.std.specs.Cmp.Lexicographic.{nat_list_eq_equiv}
+use Rattle.std.proofs.lemmas.Bool.{or_parts}
 use Rattle.ua_table.specs.declared.limits.TheConstants.{WIDTH}
 use Rattle.ua_table.specs.Algebras.{Vector, FiniteAlgebra, arities_of, arities, IsIncreasing}
 use Rattle.ua_table.specs.Counting.{EachOnceBelow}
@@ -16,6 +17,8 @@ use Rattle.ua_table.specs.Listings.{Row, vectors_of, ranks_of, IsMadeFrom, IsLis
 use Rattle.ua_table.specs.Refusals.{refusal_if, first_refusal, is_outside}
 use Rattle.ua_table.proofs.GeneratedLaws.{Sg-least}
 use Rattle.ua_table.proofs.ListingLaws.{vector_in}
+use Rattle.ua_table.proofs.FrameLemmas.{arities_of_power}
+use Rattle.ua_table.proofs.Lists.{all_from_places}
 use Rattle.ua_term.specs.Steps.{AreSteps}
 use Rattle.ua_term.proofs.StepLaws.{step_is_term}
 use Rattle.ua_term.specs.Printing.{name_at}
@@ -28,13 +31,12 @@ use Rattle.ua_flaws.specs.Shapes.{power}
 use Rattle.ua_flaws.specs.Closing.{missing}
 use Rattle.ua_flaws.specs.Flaws.{vectors_flaw, steps_flaw, is_made, first_or_short, origins_flaw, order_flaw, generators_flaw, results_flaw, closed_flaw, outside_lines, gives_target, member_lines, member_flaw, not_member_flaw, listing_lines, listing_flaw}
 use Rattle.ua_flaws.specs.Properties.{WritesMember, IsNoMember, rows_from, ListsAll}
-use Rattle.ua_flaws.proofs.FirstLaws.{both, neither, not_false, some_length, same_is, among_is, all_from_places, refusal_none, option_none, none_of, behind_none, each_good, like_lengths}
+use Rattle.ua_flaws.proofs.FirstLaws.{both, not_false, some_length, same_is, among_is, refusal_none, option_none, none_of, behind_none, each_good, like_lengths}
 use Rattle.ua_flaws.proofs.ClosingLaws.{closed_from}
 use Rattle.ua_flaws.proofs.OrderLaws.{rows_increase}
 use Rattle.ua_flaws.proofs.RankLaws.{ranks_once}
 use Rattle.ua_flaws.proofs.ShapeLaws.{wide}
 use Rattle.ua_flaws.proofs.StepLaws.{step_read, steps_read}
-use Rattle.ua_flaws.proofs.Powers.{arities_power}
 
 -- ---- the rows hold all that is generated
 
@@ -85,7 +87,7 @@ written a gens term steps some none =
 pub member_holds : (a : FiniteAlgebra) (gens : List Vector) (steps : List CertStep) (target : Vector) (width : ℕ) → member_flaw a gens steps target width ≡ None → WritesMember a gens steps target width
 member_holds a gens steps target width none =
     let l = none_of (member_lines a gens steps target width) none in
-    let shape = neither (is_outside width WIDTH) (length steps == 0) (refusal_none (is_outside width WIDTH || (length steps == 0)) flaw.Width l.0) in
+    let shape = or_parts (is_outside width WIDTH) (length steps == 0) (refusal_none (is_outside width WIDTH || (length steps == 0)) flaw.Width l.0) in
     let are = written a (length gens) None steps (some_length (length steps) shape.1) l.1.1.1.0 in
     record {
       steps_are = are.steps_are;
@@ -172,7 +174,7 @@ module _ (a : FiniteAlgebra) (width : ℕ) (gens rows : List Vector) (ranks : Li
   made_row i r at =
       let are = rows_are a rows ranks origins like in
       let here = are.each i r at in
-      let ks : arities_of a ≡ arities (power a width) = sym (arities_power a width some) in
+      let ks : arities_of a ≡ arities (power a width) = sym (arities_of_power a width some) in
       let e1 = both (is_step a (length gens) (length rows) here.step) (list_all (λ x. nat_lt (slice_index ranks x) (slice_index ranks i)) (rows_named here.step) && is_same (origin_value (power a width) gens rows (origin_of a here.step)) (slice_index_or rows i [])) (made.each i here.step here.origin_at) in
       let e2 = both (list_all (λ x. nat_lt (slice_index ranks x) (slice_index ranks i)) (rows_named here.step)) (is_same (origin_value (power a width) gens rows (origin_of a here.step)) (slice_index_or rows i [])) e1.1 in
       let read = step_read a (length gens) (length rows) here.step e1.0 in

@@ -1,11 +1,11 @@
 //! Rows that hold the generators and are closed under the operations.
 
-ghost use Rattle.std.specs.Prelude.{◌≡◌, ◌<◌, ◌≤◌, ◌^◌, ◌-◌, ◌↔◌, ℕ, List, [], ◌∷◌, None, length, take, slice_index, IsTrue, IsOk, IfOk};
+ghost use Rattle.std.specs.Prelude.{◌≡◌, ◌<◌, ◌≤◌, ◌-◌, ℕ, List, [], ◌∷◌, None, length, take, slice_index, IfOk};
 ghost use Rattle.std.specs.List.{AllByRecursion};
 ghost use Rattle.std.specs.Option.{option_map};
 ghost use Rattle.std.specs.Result.{result_err};
 ghost use Rattle.ua_table.specs.Refusals.{first_refusal};
-ghost use Rattle.ua_table.specs.Algebras.{Vector, IsVector, arities};
+ghost use Rattle.ua_table.specs.Algebras.{IsVector, arities};
 ghost use Rattle.ua_term.specs.Printing.{name_at};
 ghost use Rattle.ua_flaws.specs.declared.flaws.Flaw.TheVariants as flaws;
 ghost use Rattle.ua_flaws.specs.Firsts.{is_among, first_behind};

@@ -1,8 +1,6 @@
 //! Origins of rows.
 
 ghost use Rattle.std.specs.Prelude.{◌≡◌, ◌<◌, ◌^◌, length};
-ghost use Rattle.std.specs.List.{AllByRecursion};
-ghost use Rattle.ua_table.specs.Algebras.{IsVector};
 ghost use Rattle.ua_flaws.specs.Closing.{IsTableOver};
 ghost use Rattle.ua_flaws.specs.Flaws as flaws;
 

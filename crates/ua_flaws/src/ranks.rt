@@ -1,10 +1,7 @@
 //! Ranks and origins of rows.
 
-ghost use Rattle.std.specs.Prelude.{◌≡◌, ◌<◌, ◌≤◌, ◌^◌, ◌==◌, ◌&&◌, ◌||◌, nat_lt, true, false, min, not, replicate, length, set, take, slice_index, slice_index_or, [], IfOk};
-ghost use Rattle.std.specs.List.{AllByRecursion, list_all, list_any};
-ghost use Rattle.ua_table.specs.Algebras.{IsVector};
-ghost use Rattle.ua_flaws.specs.Steps.{rows_named};
-ghost use Rattle.ua_flaws.specs.Closing.{IsTableOver};
+ghost use Rattle.std.specs.Prelude.{◌≡◌, ◌<◌, ◌^◌, ◌&&◌, ◌||◌, nat_lt, true, false, min, not, length, set, slice_index, slice_index_or};
+ghost use Rattle.std.specs.List.{AllByRecursion, list_all};
 ghost use Rattle.ua_flaws.specs.Flaws as flaws;
 
 use crate::flaws::{CheckError, Flaw};

@@ -1,6 +1,6 @@
 //! The steps of a certificate.
 
-ghost use Rattle.std.specs.Prelude.{◌≡◌, ◌<◌, ◌≤◌, ◌^◌, ◌==◌, ◌&&◌, nat_lt, slice_index, true, false, length, not, IfSome, IfNone, IfOk, OnOk, [], ◌∷◌, ◌++◌, Some, None, if◌then◌else◌};
+ghost use Rattle.std.specs.Prelude.{◌≡◌, ◌<◌, ◌≤◌, ◌^◌, ◌==◌, ◌&&◌, nat_lt, slice_index, true, false, length, IfSome, IfNone, IfOk, OnOk, [], ◌∷◌, ◌++◌, Some, None, if◌then◌else◌};
 ghost use Rattle.std.specs.List.{list_all};
 ghost use Rattle.ua_table.specs.Algebras.{arities_of};
 ghost use Rattle.ua_term.specs.Meanings.{operation_number, has_operation};

@@ -11,6 +11,7 @@ use Rattle.ua_table.specs.Algebras.{FiniteAlgebra, numeral}
 use Rattle.ua_table.proofs.SpanLaws.{IsTurned, rank, turned_at_end, turned_more, turned_next, turned_same}
 use Rattle.ua_table.specs.Terms.{Tree}
 use Rattle.ua_table.proofs.Codes.{numeral-cons, same_digits}
+use Rattle.ua_table.proofs.Lists.{all_replicate}
 use Rattle.ua_term.specs.Assignments.{IsAssignment, assignments}
 use Rattle.ua_term.proofs.AssignmentLaws.{elements, many_is, rank_is, within_from, within_is, length_assignments, assignment_below, assignment_stands}
 use Rattle.ua_free.specs.Identities.{AgreeAt, Holds, FailsFirst}
@@ -37,10 +38,6 @@ pub record IsNumbered (n k number : ℕ) (xs : List ℕ) : Type 0 where
   pub assignment : IsAssignment n k xs
   pub number_is : number < n ^ k → numeral n xs ≡ number
 
-all_zero : (n k : ℕ) → 0 < n → AllByRecursion (λ x. x < n) (replicate k 0)
-all_zero n zero some = tt
-all_zero n (suc k) some = (some, all_zero n k some)
-
 numeral_zero : (n k : ℕ) → numeral n (replicate k 0) ≡ 0
 numeral_zero n zero = refl
 numeral_zero n (suc k) =
@@ -49,7 +46,7 @@ numeral_zero n (suc k) =
 
 -- it begins with zeros
 pub walk_begins : (n k : ℕ) → 0 < n → IsNumbered n k 0 (replicate k 0)
-walk_begins n k some = record { assignment = record { count = length-replicate k 0; elements = all_zero n k some }; number_is = λ low. numeral_zero n k }
+walk_begins n k some = record { assignment = record { count = length-replicate k 0; elements = all_replicate (λ x. x < n) k 0 some }; number_is = λ low. numeral_zero n k }
 
 -- and goes on from each to the next
 pub walk_goes_on : (n k number : ℕ) (xs ys : List ℕ) → IsNumbered n k number xs → IsAssignment n (length xs) ys → (numeral n xs + 1 < n ^ length xs → numeral n ys ≡ numeral n xs + 1) → IsNumbered n k (number + 1) ys
@@ -110,8 +107,8 @@ module _ (n j : ℕ) (old new : List ℕ) (fine : AllByRecursion (λ x. x < n) o
       (next, omega (arith, number, r.0, rank_is n old))
 
 -- behind the first place the last assignment has gone back to the first
-pub turn_over : (n : ℕ) (old new : List ℕ) → length new ≡ length old → IsTurned (elements n (length old)) 0 old new → IsAssignment n (length old) new × (numeral n old + 1 ≡ n ^ length old)
-turn_over n old new long t =
+pub turn_over : (n : ℕ) (old new : List ℕ) → IsTurned (elements n (length old)) 0 old new → IsAssignment n (length old) new × (numeral n old + 1 ≡ n ^ length old)
+turn_over n old new t =
     (within_is n (length old) new t.within, (let last = t.last in omega (arith, last, rank_is n old, many_is n (length old))))
 
 -- ---- an identity

@@ -1,8 +1,8 @@
 //! Laws of free algebras and identities: the function does nothing, and its contract states them.
 
 ghost use Rattle.std.specs.Prelude.{◌≡◌, ◌↔◌, ℕ, ◌<◌};
-ghost use Rattle.ua_table.specs.Algebras.{Vector, FiniteAlgebra, arities_of};
-ghost use Rattle.ua_table.specs.Terms.{Tree, IsTerm};
+ghost use Rattle.ua_table.specs.Algebras.{Vector, FiniteAlgebra};
+ghost use Rattle.ua_table.specs.Terms.{Tree};
 ghost use Rattle.ua_table.specs.Generated.{Sg};
 ghost use Rattle.ua_term.specs.Assignments.{projections, power_of_assignments, term_operation};
 ghost use Rattle.ua_free.specs.Identities.{Holds};

@@ -2,14 +2,11 @@
 use Rattle.std.proofs.Common.{◌≡◌, ℕ, suc, ◌+◌, ◌<◌, List, [], ◌∷◌, ◌++◌, length, sym, ap, ◌∙◌, subst, arith, add-one}
 use Rattle.std.specs.Prelude.{slice_index_or}
 use Rattle.std.specs.List.{AllByRecursion, flat_map}
-use Rattle.std.specs.List.Sorted.{IsPermutation}
 use Rattle.std.proofs.lemmas.List.{map-append}
-use Rattle.std.proofs.lemmas.List.Sorted.{All-permutation}
-use Rattle.std.proofs.lemmas.List.Elements.{recursion_from_All, All-from_recursion}
 use Rattle.atomic_table.specs.Seated.{TableId}
 use Rattle.ua_table.specs.Counting.{total, times, once_below, EachOnceBelow}
 use Rattle.ua_table.proofs.Counts.{once-suc, once_within, times-append, times_push, total_push}
-use Rattle.ua_table.proofs.Lists.{all_append, all_weaker}
+use Rattle.ua_table.proofs.Lists.{all_append, all_weaker, all_push}
 use Rattle.ua_jobs.specs.declared.views.View.{View}
 use Rattle.ua_jobs.specs.declared.views.Taking.{Taking}
 use Rattle.ua_jobs.specs.declared.batches.Turn.{Turn}
@@ -21,7 +18,7 @@ use Rattle.ua_jobs.specs.Moves.{HasAll, pushed, joined}
 use Rattle.ua_jobs.specs.Seats.{PassView, with_view}
 use Rattle.ua_jobs.specs.Harvests.{AreAnswers, IsHarvest, EndTells, numbers_of}
 use Rattle.ua_jobs.specs.Batches.{IsUnused, IsReady, IsOtherHarvest, joined_times}
-use Rattle.ua_jobs.proofs.Places.{all_more, all_from_times}
+use Rattle.ua_jobs.proofs.Places.{all_from_times}
 
 -- ---- the pushes
 
@@ -42,7 +39,7 @@ pub above_next : (n : ℕ) (xs : List ℕ) → AllByRecursion (λ x. x < n) xs �
 above_next n xs a = all_weaker (λ x. x < n) (λ x. x < n + 1) (λ x h. omega (arith, h)) xs a
 
 pub above_pushed : (n : ℕ) (xs : List ℕ) → AllByRecursion (λ x. x < n) xs → AllByRecursion (λ x. x < n + 1) (xs ++ n ∷ [])
-above_pushed n xs a = all_more (λ x. x < n + 1) xs n (above_next n xs a) (omega arith)
+above_pushed n xs a = all_push (λ x. x < n + 1) xs n (above_next n xs a) (omega arith)
 
 -- what was kept are numbers of jobs
 pub kept_below : (n : ℕ) (xs kept : List ℕ) → EachOnceBelow n (xs ++ kept) → AllByRecursion (λ x. x < n) kept
@@ -120,7 +117,3 @@ pub joined_pass : (old p new other : PassView) → p ≡ with_view old (record o
 joined_pass old p new other i e =
     let more : List Taking = p.own.joined ++ record { number = other.own.number; taken = other.own.taken } ∷ [] in
     e ∙ ap (λ (q : PassView). with_view q (record q.own { joined = more })) i ∙ ap (λ (l : List Taking). with_view old (record old.own { joined = l })) (sym (ap (λ (q : PassView). q.own.joined) e))
-
--- what holds of each of a list, holds of each in another order
-pub all_permutation : {X : Type 0} (P : X → Type 0) (xs ys : List X) → IsPermutation xs ys → AllByRecursion P xs → AllByRecursion P ys
-all_permutation P xs ys p h = recursion_from_All P ys (All-permutation P xs ys p (All-from_recursion P xs h))

@@ -1,5 +1,5 @@
 -- Answers in the order of their numbers.
-use Rattle.std.proofs.Common.{◌≡◌, ◌≢◌, ℕ, suc, ◌+◌, ◌<◌, ◌≤◌, List, [], ◌∷◌, length, map, drop, refl, sym, ap, ◌∙◌, subst, arith, Ok, Err, Result, IfOk, ⊎_elim}
+use Rattle.std.proofs.Common.{◌≡◌, ◌≢◌, ℕ, suc, ◌+◌, ◌<◌, ◌≤◌, List, [], ◌∷◌, length, map, drop, refl, sym, ap, ◌∙◌, subst, arith, ⊎_elim}
 use Rattle.std.specs.Prelude.{slice_index_or}
 use Rattle.std.specs.List.{AllByRecursion}
 use Rattle.std.specs.List.Sorted.{IsPermutation, IsNonDecreasingBy}
@@ -10,6 +10,7 @@ use Rattle.std.proofs.lemmas.List.Sorted.{IsPermutation-map}
 use Rattle.std.proofs.lemmas.Option.{get_or_from_slice_get}
 use Rattle.ua_table.specs.Counting.{times, once_below, EachOnceBelow}
 use Rattle.ua_table.proofs.Counts.{one_if-same, one_if-other, once_in, once_within, times-IsPermutation}
+pub use Rattle.ua_table.proofs.Results.{IfOk-both as of_both}
 use Rattle.ua_jobs.specs.Harvests.{IsAnswer, AreAnswers, AnswerEach, numbered, numbers_of}
 use Rattle.ua_jobs.proofs.Places.{holds_of}
 
@@ -88,8 +89,3 @@ each_from {J} {O} permits jobs (o ∷ os) m are len =
 
 pub answer_each : {J O : Type 0} (permits : J → O → Type 0) (jobs : List J) (outs : List O) → AreAnswers (IsAnswer permits jobs) (numbered 0 outs) → length outs ≡ length jobs → AnswerEach permits jobs outs
 answer_each permits jobs outs are len = each_from permits jobs outs 0 are (omega (arith, len))
-
--- what follows of a value from two facts
-pub of_both : {X E : Type 0} (r : Result X E) (P Q R : X → Type 0) → ((x : X) → P x → Q x → R x) → IfOk r P → IfOk r Q → IfOk r R
-of_both (Ok x) P Q R f p q = f x p q
-of_both (Err e) P Q R f p q = tt

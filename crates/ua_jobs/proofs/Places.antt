@@ -6,6 +6,7 @@ use mathlib.Core.Option.{some, some-ne-none, some-injective}
 use lib.ListN.{get_elem?}
 use Rattle.ua_table.specs.Counting.{one_if, total, times}
 use Rattle.ua_table.proofs.Counts.{one_has, one_if-same}
+use Rattle.ua_table.proofs.Lists.{all_push}
 use Rattle.ua_jobs.specs.Rule.{IsAscending}
 
 module _ {X : Type 0} where
@@ -28,15 +29,6 @@ module _ {X : Type 0} where
   at_all P [] i x a e = absurd (some-ne-none x (sym e))
   at_all P (z ∷ zs) zero x a e = subst P (some-injective z x e) a.0
   at_all P (z ∷ zs) (suc i) x a e = at_all P zs i x a.1 e
-
-  pub all_moved : (P : X → Type 0) (xs : List X) (i : ℕ) (y : X) → AllByRecursion P xs → P y → AllByRecursion P (set xs i y)
-  all_moved P [] i y a p = tt
-  all_moved P (z ∷ zs) zero y a p = (p, a.1)
-  all_moved P (z ∷ zs) (suc i) y a p = (a.0, all_moved P zs i y a.1 p)
-
-  pub all_more : (P : X → Type 0) (xs : List X) (y : X) → AllByRecursion P xs → P y → AllByRecursion P (xs ++ y ∷ [])
-  all_more P [] y a p = (p, tt)
-  all_more P (z ∷ zs) y a p = (a.0, all_more P zs y a.1 p)
 
   -- where a total is 0, each has no part in it
   pub all_none : (g : X → ℕ) (P Q : X → Type 0) (xs : List X) → total g xs ≡ 0 → AllByRecursion P xs → ((u : X) → P u → g u ≡ 0 → Q u) → AllByRecursion Q xs
@@ -85,4 +77,4 @@ all_from_times P (x ∷ xs) h = (h x (omega (arith, one_if-same x x refl)), all_
 -- a greater number may follow
 pub ascending_more : (xs : List ℕ) (x : ℕ) → IsAscending xs → AllByRecursion (λ y. y < x) xs → IsAscending (xs ++ x ∷ [])
 ascending_more [] x up below = (tt, tt)
-ascending_more (y ∷ ys) x up below = (all_more (λ z. y < z) ys x up.0 below.0, ascending_more ys x up.1 below.1)
+ascending_more (y ∷ ys) x up below = (all_push (λ z. y < z) ys x up.0 below.0, ascending_more ys x up.1 below.1)

@@ -5,25 +5,13 @@ use Rattle.std.proofs.lemmas.Bool.Decides.{nat_tests}
 use Rattle.crossbeam_queue.specs.Fifo.{Pushes, Pops, Forks, Merges, Learns}
 use Rattle.ua_table.specs.Counting.{one_if, total, times, once_below}
 use Rattle.ua_table.proofs.Counts.{one_if-same, once-suc, times_push, total_push}
+use Rattle.ua_table.proofs.Lists.{all_push, all_set}
 use Rattle.ua_jobs.specs.declared.views.View.{View}
 use Rattle.ua_jobs.specs.declared.views.Taking.{Taking}
 use Rattle.ua_jobs.specs.Rule.{Rule, IsView, spent, first_view, first_one, passes_of, taken_times, number_times}
 use Rattle.ua_jobs.specs.Moves.{IsFirst, HasAll, IsLeft, told, untold, pushed, took, split_first, split_new, joined}
-use Rattle.ua_jobs.proofs.Places.{total_moved, total_kept, at_all, all_moved, all_more, all_alone, holds_of, all_from_times, ascending_more}
+use Rattle.ua_jobs.proofs.Places.{total_moved, total_kept, at_all, all_alone, holds_of, all_from_times, ascending_more}
 use Rattle.ua_jobs.proofs.ViewLaws.{view_at, below_jobs, made_of_first, pushed_of_first, passes_of_first, left_of_first, spent_of, spent_view, first_no, first_yes}
-
-pub begins : Rule [] (first_view 0 ∷ [])
-begins = record {
-  jobs = 0;
-  orderly = record {
-    each = (record { jobs_is = λ _. refl; below = tt; ascending = tt; first = λ _. (refl, refl); other = λ e. absurd (omega (arith, e)); spent_is = λ e. absurd (true≢false e) }, tt);
-    one_first = refl;
-    numbers_once = λ k. grind (arith, nat_tests);
-    passes = refl;
-    pushed_once = λ x. refl;
-    ascending = tt;
-  };
-}
 
 -- a view with another list of taken numbers is a view
 took_view : (jobs : ℕ) (v : View) (x : ℕ) → v.live ≡ true → IsView jobs v → IsView jobs (took v x)
@@ -47,7 +35,7 @@ takes port v live x items views h at =
       record {
         jobs = jobs;
         orderly = record {
-          each = all_moved (IsView jobs) views port w o.each (took_view jobs v x live is);
+          each = all_set (IsView jobs) views port w (took_view jobs v x live is) o.each;
           one_first = total_kept first_one views port v w at refl ∙ o.one_first;
           numbers_once = λ k. total_kept (number_times k) views port v w at refl ∙ o.numbers_once k ∙ ap (λ n. once_below n k) (sym (total_kept (λ (u : View). u.made) views port v w at refl));
           passes = total_kept passes_of views port v w at refl ∙ o.passes ∙ sym (total_kept (λ (u : View). u.made) views port v w at refl);
@@ -65,7 +53,7 @@ takes port v live x items views h at =
 pushed_view : (jobs : ℕ) (v : View) (x : ℕ) → IsFirst v → x < jobs → AllByRecursion (λ y. y < x) v.pushed → IsView jobs v → IsView jobs (pushed v x)
 pushed_view jobs v x first low above is = record {
   jobs_is = is.jobs_is;
-  below = all_more (λ y. y < jobs) v.pushed x is.below low;
+  below = all_push (λ y. y < jobs) v.pushed x is.below low;
   ascending = ascending_more v.pushed x is.ascending above;
   first = is.first;
   other = λ e. absurd (omega (arith, first, e));
@@ -85,7 +73,7 @@ puts n port v x first low above items views room h at =
       record {
         jobs = jobs;
         orderly = record {
-          each = all_moved (IsView jobs) views port w o.each (pushed_view jobs v x first below above is);
+          each = all_set (IsView jobs) views port w (pushed_view jobs v x first below above is) o.each;
           one_first = total_kept first_one views port v w at refl ∙ o.one_first;
           numbers_once = λ k. total_kept (number_times k) views port v w at refl ∙ o.numbers_once k ∙ ap (λ n. once_below n k) (sym (total_kept (λ (u : View). u.made) views port v w at refl));
           passes = total_kept passes_of views port v w at refl ∙ o.passes ∙ sym (total_kept (λ (u : View). u.made) views port v w at refl);
@@ -139,7 +127,7 @@ forks port v first items views h at =
     record {
       jobs = jobs;
       orderly = record {
-        each = all_more (IsView jobs) (set views port w) new (all_moved (IsView jobs) views port w o.each (split_first_view jobs v first is)) (split_new_view jobs v first is);
+        each = all_push (IsView jobs) (set views port w) new (all_set (IsView jobs) views port w (split_first_view jobs v first is) o.each) (split_new_view jobs v first is);
         one_first = omega (arith, total_push first_one (set views port w) new, total_kept first_one views port v w at (first_still v first), o.one_first, first_no new refl);
         numbers_once = λ k.
             let count = made_of_first jobs items views o port v at first in
@@ -194,7 +182,7 @@ merges port v other u first none live items views h at apart there =
     let jobs = h.jobs in
     let w = joined v u in
     let is = view_at jobs items views o port v at in
-    let each : AllByRecursion (IsView jobs) (set views port w) = all_moved (IsView jobs) views port w o.each (joined_view jobs v u first is) in
+    let each : AllByRecursion (IsView jobs) (set views port w) = all_set (IsView jobs) views port w (joined_view jobs v u first is) o.each in
     let theirs = at_all (IsView jobs) (set views port w) other u each there in
     let no_joined = (theirs.other none).1 in
     let no_pushed = (theirs.other none).0 in
@@ -204,7 +192,7 @@ merges port v other u first none live items views h at apart there =
     record {
       jobs = jobs;
       orderly = record {
-        each = all_moved (IsView jobs) (set views port w) other spent each (spent_view jobs spent refl);
+        each = all_set (IsView jobs) (set views port w) other spent (spent_view jobs spent refl) each;
         one_first = omega (arith, o.one_first, first_no u none, total_kept first_one views port v w at refl, total_moved first_one (set views port w) other u spent there);
         numbers_once = λ k.
             let a = total_moved (number_times k) views port v w at in
@@ -308,7 +296,7 @@ untells_first port x y items views h at =
       record {
         jobs = jobs;
         orderly = record {
-          each = all_moved (IsView jobs) views port w o.each (subst (λ n. IsView n (first_view (suc x))) jobs_is (untold_view x));
+          each = all_set (IsView jobs) views port w (subst (λ n. IsView n (first_view (suc x))) jobs_is (untold_view x)) o.each;
           one_first = total_kept first_one views port v w at refl ∙ o.one_first;
           numbers_once = λ k. total_kept (number_times k) views port v w at refl ∙ o.numbers_once k ∙ ap (λ n. once_below n k) (sym (total_kept (λ (u : View). u.made) views port v w at refl));
           passes = total_kept passes_of views port v w at refl ∙ o.passes ∙ sym (total_kept (λ (u : View). u.made) views port v w at refl);

@@ -1,14 +1,14 @@
 -- The pairs that generators and their images generate are the values of the terms, and so make a homomorphism.
 use Rattle.std.proofs.Common.{◌≡◌, ℕ, zero, suc, ◌<◌, List, [], ◌∷◌, length, map, get_or, refl, sym, ap, ◌∙◌, subst, arith}
-use Rattle.std.specs.Prelude.{Contains, zip, slice_index, slice_index_or, ◌-◌}
+use Rattle.std.specs.Prelude.{Contains, zip, slice_index, slice_index_or}
 use Rattle.std.specs.List.{AllByRecursion}
-use Rattle.std.proofs.lemmas.List.{length-map}
+use Rattle.std.proofs.lemmas.List.{length-map, get_or_default}
 use Rattle.ua_table.specs.Algebras.{FiniteAlgebra, Product, Vector, arities_of, value_at, column, apply}
 use Rattle.ua_table.specs.Generated.{Sg, HasMoreThan, IsClosed}
 use Rattle.ua_table.specs.Terms.{Tree, Generator, Application, IsTerm, term_value, eval}
 use Rattle.ua_table.proofs.GeneratedLaws.{generator_in, result_in, Sg-least}
 use Rattle.ua_table.proofs.ListingLaws.{length-le_from_members}
-use Rattle.ua_table.proofs.Lists.{any_default, Contains-slice_get, Contains-map, Contains-map_from, all_at, all_from_contains, all_weaker, all_map}
+use Rattle.ua_table.proofs.Lists.{Contains-map, Contains-map_from, all_at, all_from_contains, all_weaker, all_map}
 use Rattle.ua_table.proofs.TermLaws.{value_is_eval}
 use Rattle.ua_term.specs.Steps.{StepList}
 use Rattle.ua_close.specs.declared.memberships.Answer.TheVariants.{Yes}
@@ -17,6 +17,7 @@ use Rattle.ua_sub.specs.Members.{singles}
 use Rattle.ua_sub.specs.Homs.{both, two, with_images, IsGraph, IsMap, IsClash}
 use Rattle.ua_sub.specs.Extensions.{elements_in, images_in, IsExtension}
 use Rattle.ua_sub.proofs.HomLaws.{length-with_images}
+use Rattle.ua_sub.proofs.MemberLaws.{column_singles}
 
 -- ---- what is told
 
@@ -72,10 +73,6 @@ module _ (a b : FiniteAlgebra) (gens images : List ℕ) (same : length images �
   images_second (g ∷ gens) [] e = absurd (omega (arith, e))
   images_second (g ∷ gens) (x ∷ images) e = ap (λ (xs : List ℕ). x ∷ xs) (images_second gens images (omega (arith, e)))
 
-  gens_single : (xs : List ℕ) → column (singles xs) 0 ≡ xs
-  gens_single [] = refl
-  gens_single (x ∷ xs) = ap (λ (ys : List ℕ). x ∷ ys) (gens_single xs)
-
   generator_pair : (gens images : List ℕ) (i : ℕ) → length images ≡ length gens → i < length gens → slice_index_or (with_images gens images) i [] ≡ two (slice_index gens i, slice_index images i)
   generator_pair [] images i e h = absurd (omega (arith, h))
   generator_pair (g ∷ gens) [] i e h = absurd (omega (arith, e))
@@ -97,7 +94,7 @@ module _ (a b : FiniteAlgebra) (gens images : List ℕ) (same : length images �
 
   single_value : (t : Tree) → IsTerm (arities_of a) (length gens) t → term_value (a ∷ []) (singles gens) t ≡ eval a gens t ∷ []
   single_value (Generator i) h = generator_single gens i h
-  single_value (Application f ts) h = ap (λ x. x ∷ []) (value_is_eval (a ∷ []) (singles gens) 0 a refl (Application f ts) ∙ ap (λ (xs : List ℕ). eval a xs (Application f ts)) (gens_single gens))
+  single_value (Application f ts) h = ap (λ x. x ∷ []) (value_is_eval (a ∷ []) (singles gens) 0 a refl (Application f ts) ∙ ap (λ (xs : List ℕ). eval a xs (Application f ts)) (column_singles gens))
 
   -- the pairs have exactly the generated elements
   element_of : (x y : ℕ) → Sg (both a b) (with_images gens images) (two (x, y)) → Sg (a ∷ []) (singles gens) (x ∷ [])
@@ -136,7 +133,7 @@ module _ (a b : FiniteAlgebra) (gens images : List ℕ) (same : length images �
   }
     where
       given : (q : ℕ × ℕ) → Contains (with_images gens images) (two q) → Sg (both a b) (with_images gens images) (two q)
-      given q c = subst (Sg (both a b) (with_images gens images)) (any_default (with_images gens images) c.0 [] (two q) c.1 ∙ c.2) (generator_in (both a b) (with_images gens images) c.0 c.1)
+      given q c = subst (Sg (both a b) (with_images gens images)) (get_or_default (with_images gens images) c.0 [] (two q) c.1 ∙ c.2) (generator_in (both a b) (with_images gens images) c.0 c.1)
 
 -- ---- the other way round
 

@@ -6,19 +6,19 @@ use Rattle.std.specs.Cmp.Lexicographic.{slice_cmp}
 use Rattle.std.specs.Ordering.{nat_cmp, ordering_then}
 use Rattle.std.specs.declared.cmp.Ordering.{Ordering}
 use Rattle.std.specs.declared.cmp.Ordering.TheVariants.{Less, Equal, Greater}
-use Rattle.std.proofs.Math.Nat.{pow-suc, pow-zero}
+use Rattle.std.proofs.Math.Nat.{pow-suc}
 use Rattle.std.proofs.lemmas.Bool.{cases_lt, cases_eq}
-use Rattle.std.proofs.lemmas.List.{get_or-take, length-map, take-append-drop, take_at, drop_at, drop-set, take-set-le, drop_more, drop_all, length-drop, take_more, take_more_set, map-append}
+use Rattle.std.proofs.lemmas.List.{get_or-take, length-map, take-append-drop, take_at, drop_at, drop-set, take-set-le, drop_more, length-drop, take_more, take_more_set, map-append}
 use Rattle.std.proofs.lemmas.List.Elements.{All-from_recursion, recursion_from_All, All-set}
 use Rattle.std.proofs.lemmas.Option.{slice_get_within}
 use Rattle.ua_table.specs.Algebras.{Operation, FiniteAlgebra, IsAlgebra, arities_of, value_at, numeral, signature}
 use Rattle.ua_table.specs.Tables.{IsTable}
 use Rattle.ua_table.proofs.ApplyLemmas.{arities_at, numeral-below}
-use Rattle.ua_table.proofs.Codes.{same_digits}
-use Rattle.ua_prod.proofs.ClashLaws.{arity_is, size_is, value_is, head_not}
-use Rattle.ua_prod.proofs.Numerals.{numeral_place, numeral_set, numeral-cons, digits_less, cmp-append, cmp_same, cmp_less, cmp_equal}
+use Rattle.ua_table.proofs.Codes.{same_digits, numeral-cons}
+use Rattle.ua_prod.proofs.ClashLaws.{arity_is, size_is, value_is}
+use Rattle.ua_prod.proofs.Numerals.{numeral_place, numeral_set, digits_less, cmp-append, cmp_same}
 use Rattle.ua_sub.specs.declared.flaws.HomFlaw.{HomFlaw}
-use Rattle.ua_sub.specs.Flaws.{images_of, GoesWith, IsHom, arguments_in, IsFlaw, IsFirstFlaw}
+use Rattle.ua_sub.specs.Flaws.{images_of, GoesWith, IsHom, arguments_in, IsFlaw}
 use Rattle.ua_sub.specs.Searches.{NoFlawOf, IsFirstOf}
 
 abbrev zeros : ℕ → List ℕ
@@ -95,12 +95,6 @@ module _ (n place : ℕ) (old digits : List ℕ) (h : IsCarried n (place + 1) ol
         full = omega (arith, full_old, old_cons, product, h.full, greater, whole, spread);
         below = recursion_from_All (λ x. x < n) (set digits place 0) (All-set (λ x. x < n) digits place 0 (omega (arith, digit)) (All-from_recursion (λ x. x < n) digits h.below));
       })
-
--- what is written twice at a place
-pub written_twice : (xs : List ℕ) (i x y : ℕ) → set (set xs i x) i y ≡ set xs i y
-written_twice [] i x y = refl
-written_twice (z ∷ zs) zero x y = refl
-written_twice (z ∷ zs) (suc i) x y = ap (λ (ys : List ℕ). z ∷ ys) (written_twice zs i x y)
 
 -- ---- an operation of two algebras of one signature
 
@@ -259,17 +253,7 @@ module _ (a b : FiniteAlgebra) (images : List ℕ) (f count : ℕ) (o : Operatio
 
 -- ---- operation by operation
 
-pub first_flaw : (a b : FiniteAlgebra) (images : List ℕ) (f : ℕ) (flaw : HomFlaw) → IsFirstOf a b images f flaw → ((g : ℕ) → g < f → NoFlawOf a b images g) → IsFirstFlaw a b images flaw
-first_flaw a b images f flaw h before = record {
-  is_flaw = h.is_flaw;
-  first = λ other is. head_not flaw.op other.op flaw.args other.args (λ low. before other.op (let e = h.op_is in omega (arith, low, e)) other is refl) (λ e. h.first other is (sym e ∙ h.op_is));
-}
-
--- a homomorphism has no flaw
-pub no_flaw : (a b : FiniteAlgebra) (images : List ℕ) → IsHom a b images → (flaw : HomFlaw) → ¬ IsFlaw a b images flaw
-no_flaw a b images hom flaw h = h.apart (hom flaw.op (arguments_in a flaw) h.application.operation h.application.count h.application.earlier)
-
--- and a map without one is a homomorphism
+-- a map without a flaw is a homomorphism
 pub hom_without : (a b : FiniteAlgebra) (images : List ℕ) → ((f : ℕ) → f < length (arities_of a) → NoFlawOf a b images f) → IsHom a b images
 hom_without a b images none f args within count below = ⊎_elim (λ e. e) (λ apart. absurd (none f within _ (flawed apart) refl)) (cases_eq (slice_index images (value_at a f args)) (value_at b f (images_of images args)))
   where

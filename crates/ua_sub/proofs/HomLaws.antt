@@ -4,27 +4,25 @@ use Rattle.std.specs.Prelude.{Contains, Result, ◌↔◌, slice_get, slice_inde
 use Rattle.std.specs.List.{AllByRecursion, AllZip, list_any}
 use Rattle.std.proofs.lemmas.Bool.{eq-eqb, eqb-true, or_cases, or_left, and_parts, cases_lt, cases_eq}
 use Rattle.std.proofs.lemmas.List.{length-map, map-append, take_more}
-use Rattle.std.proofs.lemmas.Option.{slice_get_within}
+use Rattle.std.proofs.lemmas.Option.{slice_get_within, get_or_from_slice_get}
 use Rattle.ua_table.specs.Algebras.{FiniteAlgebra, Product, Vector, IsVector, IsIncreasing, arities, signature}
 use Rattle.ua_table.specs.Counting.{EachOnceBelow}
 use Rattle.ua_table.specs.Generated.{Sg}
 use Rattle.ua_table.specs.Listings.{Row, vectors_of, ranks_of, IsListing, IsClosedListing}
-use Rattle.ua_table.specs.Orders.{IsSerialListing}
 use Rattle.ua_table.proofs.ListingLaws.{vector_in}
-use Rattle.ua_table.proofs.Lists.{get_or-slice_get, Contains-cases, Contains-none, all_from_contains, AllZip-length}
-use Rattle.ua_table.proofs.Once.{once-below, once-differ}
+use Rattle.ua_table.proofs.Lists.{Contains-cases, Contains-none, all_from_contains, AllZip-length}
 use Rattle.ua_term.specs.Steps.{StepList}
 use Rattle.ua_work.specs.Goals.{clashes, has_clash, Meets}
 use Rattle.ua_work.specs.declared.goals.Goal.TheVariants as goals
 use Rattle.ua_close.specs.Needed.{rank_at, AreStepsFor}
 use Rattle.ua_close.specs.Memberships.{AreStepsTo}
 use Rattle.ua_close.proofs.MetLaws.{meets_more}
-use Rattle.ua_sub.specs.Homs.{both, two, with_images, vector_at, ClashInOrder, IsFirstClash, IsMap, IsClash, IsListedClash, Maps, IsSerialHom, IsClashOf}
+use Rattle.ua_close.proofs.NeedLaws.{position_is, rank_below, one_rank}
+use Rattle.ua_sub.specs.Homs.{both, two, with_images, vector_at, ClashInOrder, IsFirstClash, IsMap, IsClash, IsListedClash}
 use Rattle.ua_sub.specs.Permitted.{MayMapPairs, MayMap}
 use Rattle.ua_sub.specs.declared.homs.HomError.{HomError}
 use Rattle.ua_sub.specs.declared.homs.HomError.TheVariants.{Signature, Wide, OutOfMemory}
 use Rattle.ua_sub.specs.declared.homs.Hom.{Hom}
-use Rattle.ua_sub.specs.declared.homs.Hom.TheVariants.{Map, Clash, Exceeds}
 
 -- ---- rows as pairs
 
@@ -40,7 +38,7 @@ pub pairs_more : (pairs : List (ℕ × ℕ)) (q : ℕ × ℕ) (vs : List Vector)
 pairs_more pairs q vs i same at =
     map-append two pairs (q ∷ [])
     ∙ ap (λ (ws : List Vector). ws ++ two q ∷ []) same
-    ∙ ap (λ (w : Vector). take i vs ++ w ∷ []) (sym (get_or-slice_get vs i (two q) [] at))
+    ∙ ap (λ (w : Vector). take i vs ++ w ∷ []) (sym (get_or_from_slice_get vs i (two q) [] at))
     ∙ sym (take_more vs i [] (slice_get_within vs i (two q) at))
 
 -- a generator with its image, behind those before it
@@ -116,26 +114,9 @@ clashing (v ∷ vs) h = ⊎_elim
 
 -- ---- the first clash
 
--- the row of a rank
-pub at_rank : (rows : List Row) (i rank : ℕ) → slice_get (ranks_of rows) i ≡ Some rank → (i < length rows) × (rank_at rows i ≡ rank)
-at_rank rows i rank e = (let w = slice_get_within (ranks_of rows) i rank e in let l = length-map rows (λ (r : Row). r.rank) in omega (arith, w, l), get_or-slice_get (ranks_of rows) i rank 0 e)
-
 module _ (rows : List Row) (once : EachOnceBelow (length rows) (ranks_of rows)) where
-  ranks : length (ranks_of rows) ≡ length rows
-  ranks = length-map rows (λ (r : Row). r.rank)
-
-  rank_below : (i : ℕ) → i < length rows → rank_at rows i < length rows
-  rank_below i h = once-below (length rows) (ranks_of rows) once i (omega (arith, h, ranks))
-
   pub rank_low : (i rank : ℕ) → slice_get (ranks_of rows) i ≡ Some rank → rank < length rows
-  rank_low i rank e = let here = at_rank rows i rank e in let low = rank_below i here.0 in omega (arith, low, here.1)
-
-  -- no two rows have one rank
-  pub same_row : (i j : ℕ) → i < length rows → j < length rows → rank_at rows i ≡ rank_at rows j → i ≡ j
-  same_row i j h k e = ⊎_elim
-      (λ low. absurd (once-differ (length rows) (ranks_of rows) once i j low (omega (arith, k, ranks)) e))
-      (λ high. ⊎_elim (λ same. same) (λ apart. absurd (once-differ (length rows) (ranks_of rows) once j i (omega (arith, high, apart)) (omega (arith, h, ranks)) (sym e))) (cases_eq i j))
-      (cases_lt i j)
+  rank_low i rank e = let here = position_is rows i rank e in let low = rank_below rows once i here.0 in omega (arith, low, here.1)
 
   -- where vectors clash, two rows do in the order of their ranks
   some_clash : Meets goals.Clash (vectors_of rows) → (i : ℕ) × (j : ℕ) × ClashInOrder rows i j
@@ -152,7 +133,7 @@ module _ (rows : List Row) (once : EachOnceBelow (length rows) (ranks_of rows)) 
         record {
           earlier_within = later;
           later_within = earlier;
-          order = ⊎_elim (λ same. absurd (let e = same_row c.i c.j earlier later same in let o = c.order in omega (arith, o, e))) (λ apart. omega (arith, high, apart)) (cases_eq (rank_at rows c.i) (rank_at rows c.j));
+          order = ⊎_elim (λ same. absurd (let e = one_rank rows once c.i c.j earlier later same in let o = c.order in omega (arith, o, e))) (λ apart. omega (arith, high, apart)) (cases_eq (rank_at rows c.i) (rank_at rows c.j));
           clash = clash_swap (vector_at rows c.i) (vector_at rows c.j) c.clash;
         },
       ))
@@ -162,7 +143,7 @@ module _ (rows : List Row) (once : EachOnceBelow (length rows) (ranks_of rows)) 
   pub not_all : Meets goals.Clash (vectors_of rows) → (n : ℕ) → length rows ≤ n → ((k l : ℕ) → ClashInOrder rows k l → n ≤ rank_at rows l) → ⊥
   not_all met n all none =
       let c = some_clash met in
-      let low = rank_below c.1 c.2.later_within in
+      let low = rank_below rows once c.1 c.2.later_within in
       let high = none c.0 c.1 c.2 in
       omega (arith, low, high, all)
 
@@ -171,9 +152,9 @@ module _ (rows : List Row) (once : EachOnceBelow (length rows) (ranks_of rows)) 
   pub earlier_more : (later : ℕ) (q r : ℕ × ℕ) → slice_get (vectors_of rows) later ≡ Some (two q) → slice_get (vectors_of rows) place ≡ Some (two r) → ¬ ((r.0 ≡ q.0) × (r.1 ≢ q.1)) → ((i : ℕ) → ClashInOrder rows i later → rank ≤ rank_at rows i) → (i : ℕ) → ClashInOrder rows i later → rank + 1 ≤ rank_at rows i
   earlier_more later q r at_q at_r apart before i clash = ⊎_elim
       (λ here.
-      let same = same_row rows once i place clash.earlier_within (at_rank rows place rank at).0 (here ∙ sym (at_rank rows place rank at).1) in
-      let r_is : vector_at rows i ≡ two r = ap (vector_at rows) same ∙ get_or-slice_get (vectors_of rows) place (two r) [] at_r in
-      let q_is : vector_at rows later ≡ two q = get_or-slice_get (vectors_of rows) later (two q) [] at_q in
+      let same = one_rank rows once i place clash.earlier_within (position_is rows place rank at).0 (here ∙ sym (position_is rows place rank at).1) in
+      let r_is : vector_at rows i ≡ two r = ap (vector_at rows) same ∙ get_or_from_slice_get (vectors_of rows) place (two r) [] at_r in
+      let q_is : vector_at rows later ≡ two q = get_or_from_slice_get (vectors_of rows) later (two q) [] at_q in
       absurd (apart (clash_parts (two r) (two q) (subst (λ (w : Vector × Vector). clashes w.0 w.1 ≡ true) (λ k. (r_is k, q_is k)) clash.clash))))
       (λ other. let low = before i clash in omega (arith, low, other))
       (cases_eq (rank_at rows i) rank)
@@ -181,10 +162,10 @@ module _ (rows : List Row) (once : EachOnceBelow (length rows) (ranks_of rows)) 
   -- or that does
   pub clash_here : (later rank_later : ℕ) (q r : ℕ × ℕ) → slice_get (ranks_of rows) later ≡ Some rank_later → rank < rank_later → slice_get (vectors_of rows) later ≡ Some (two q) → slice_get (vectors_of rows) place ≡ Some (two r) → r.0 ≡ q.0 → r.1 ≢ q.1 → ClashInOrder rows place later
   clash_here later rank_later q r at_later low at_q at_r same apart =
-      let here = at_rank rows place rank at in
-      let there = at_rank rows later rank_later at_later in
-      let r_is : vector_at rows place ≡ two r = get_or-slice_get (vectors_of rows) place (two r) [] at_r in
-      let q_is : vector_at rows later ≡ two q = get_or-slice_get (vectors_of rows) later (two q) [] at_q in
+      let here = position_is rows place rank at in
+      let there = position_is rows later rank_later at_later in
+      let r_is : vector_at rows place ≡ two r = get_or_from_slice_get (vectors_of rows) place (two r) [] at_r in
+      let q_is : vector_at rows later ≡ two q = get_or_from_slice_get (vectors_of rows) later (two q) [] at_q in
       record {
         earlier_within = here.0;
         later_within = there.0;
@@ -196,7 +177,7 @@ module _ (rows : List Row) (once : EachOnceBelow (length rows) (ranks_of rows)) 
   pub later_more : ((i : ℕ) → ¬ ClashInOrder rows i place) → ((i j : ℕ) → ClashInOrder rows i j → rank ≤ rank_at rows j) → (i j : ℕ) → ClashInOrder rows i j → rank + 1 ≤ rank_at rows j
   later_more none before i j clash = ⊎_elim
       (λ here.
-      let same = same_row rows once j place clash.later_within (at_rank rows place rank at).0 (here ∙ sym (at_rank rows place rank at).1) in
+      let same = one_rank rows once j place clash.later_within (position_is rows place rank at).0 (here ∙ sym (position_is rows place rank at).1) in
       absurd (none i (subst (ClashInOrder rows i) same clash)))
       (λ other. let low = before i j clash in omega (arith, low, other))
       (cases_eq (rank_at rows j) rank)
@@ -225,8 +206,8 @@ map_is p gens b rows pairs closed unmet same = record {
 pub clash_is : (p : Product) (gens : List Vector) (rows : List Row) (earlier later : ℕ) (q r : ℕ × ℕ) (first second : StepList) → IsFirstClash rows earlier later → slice_get (vectors_of rows) earlier ≡ Some (two q) → slice_get (vectors_of rows) later ≡ Some (two r) → AreStepsTo p gens (two q) first → AreStepsTo p gens (two r) second → AreStepsFor (arities p) rows earlier first.items → AreStepsFor (arities p) rows later second.items
     → IsClash p gens q.0 q.1 r.1 first second × IsListedClash (arities p) rows q.0 q.1 r.1 first second
 clash_is p gens rows earlier later q r first second clash at_q at_r to_q to_r for_q for_r =
-    let q_is : vector_at rows earlier ≡ two q = get_or-slice_get (vectors_of rows) earlier (two q) [] at_q in
-    let r_is : vector_at rows later ≡ two r = get_or-slice_get (vectors_of rows) later (two r) [] at_r in
+    let q_is : vector_at rows earlier ≡ two q = get_or_from_slice_get (vectors_of rows) earlier (two q) [] at_q in
+    let r_is : vector_at rows later ≡ two r = get_or_from_slice_get (vectors_of rows) later (two r) [] at_r in
     let parts = clash_parts (two q) (two r) (subst (λ (w : Vector × Vector). clashes w.0 w.1 ≡ true) (λ i. (q_is i, r_is i)) clash.clash.clash) in
     let other : two r ≡ two (q.0, r.1) = ap (λ x. two (x, r.1)) (sym parts.0) in (
       record { apart = parts.1; first_steps = to_q; second_steps = subst (λ (u : Vector). AreStepsTo p gens u second) other to_r },

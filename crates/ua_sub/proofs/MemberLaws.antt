@@ -10,7 +10,7 @@ use Rattle.std.specs.declared.cmp.Ordering.{Ordering}
 use Rattle.std.specs.declared.cmp.Ordering.TheVariants.{Less, Equal, Greater}
 use Rattle.std.proofs.Math.Seq.{take-suc}
 use Rattle.std.proofs.Math.Nat.{pow-le-pow_right, mul-le-mul}
-use Rattle.std.proofs.lemmas.Option.{slice_get_within}
+use Rattle.std.proofs.lemmas.Option.{slice_get_within, get_or_from_slice_get}
 use Rattle.std.proofs.lemmas.Map.Keys.{IsStrictlyIncreasing-from_sorted}
 use Rattle.ua_table.specs.Algebras.{FiniteAlgebra, Vector, IsAlgebra, IsProduct, IsVector, IsIncreasing, arities_of, arities, value_at, column}
 use Rattle.ua_table.specs.Generated.{Sg, HasMoreThan}
@@ -23,8 +23,8 @@ use Rattle.ua_table.proofs.ListingLaws.{exceeding_has_more}
 use Rattle.ua_close.specs.Answers.{IsWide}
 use Rattle.ua_close.specs.Kinds.{cardinality}
 use Rattle.ua_close.proofs.KindLaws.{members_vectors}
-use Rattle.std.proofs.lemmas.List.{length-map}
-use Rattle.ua_table.proofs.Lists.{get_or-slice_get, any_default, all_at, all_weaker, all_map, Contains-map, Contains-map_from, all_from_contains, AllZip-length}
+use Rattle.std.proofs.lemmas.List.{length-map, get_or_default}
+use Rattle.ua_table.proofs.Lists.{all_at, all_weaker, all_map, Contains-map, Contains-map_from, all_from_contains, AllZip-length, AllZip-push}
 use Rattle.ua_table.specs.Counting.{numbers_below}
 use Rattle.ua_sub.specs.Members.{singles, contents, AreMembers}
 
@@ -89,7 +89,7 @@ entries_more xs x vs i v same at one e =
 
     take_more : (vs : List Vector) (i : ℕ) (v : Vector) → slice_get vs i ≡ Some v → take (i + 1) vs ≡ take i vs ++ v ∷ []
     take_more vs i v e =
-        (let n : i + 1 ≡ suc i = omega arith in ap (λ m. take m vs) n) ∙ take-suc vs i v (slice_get_within vs i v e) ∙ ap (λ (w : Vector). take i vs ++ w ∷ []) (get_or-slice_get vs i v v e)
+        (let n : i + 1 ≡ suc i = omega arith in ap (λ m. take m vs) n) ∙ take-suc vs i v (slice_get_within vs i v e) ∙ ap (λ (w : Vector). take i vs ++ w ∷ []) (get_or_from_slice_get vs i v v e)
 
 -- the rows of a closed listing of width 1 have one entry
 pub one_entry : (a : FiniteAlgebra) (gens : List ℕ) (b : ℕ) (rows : List Row) → ((v : Vector) → Sg (a ∷ []) (singles gens) v → IsVector (a ∷ []) v) → IsClosedListing (a ∷ []) (singles gens) b rows → AllByRecursion (λ (v : Vector). length v ≡ 1) (vectors_of rows)
@@ -123,17 +123,11 @@ never_wide a gens few shape wide = ⊎_elim
 
 -- ---- one list more
 
-zip_push : {X Y : Type 0} (R : X → Y → Type 0) (xs : List X) (ys : List Y) (x : X) (y : Y) → AllZip R xs ys → R x y → AllZip R (xs ++ x ∷ []) (ys ++ y ∷ [])
-zip_push R [] [] x y h k = (k, tt)
-zip_push R [] (z ∷ ys) x y h k = absurd h
-zip_push R (w ∷ xs) [] x y h k = absurd h
-zip_push R (w ∷ xs) (z ∷ ys) x y h k = (h.0, zip_push R xs ys x y h.1 k)
-
 pub ones_more : (a : FiniteAlgebra) (n : ℕ) (lists lists' : List (Vec ℕ Global)) (members : Vec ℕ Global) → AllZip (λ x ms. AreMembers a (x ∷ []) ms) (numbers_below n) (contents lists) → lists' ≡ lists ++ members ∷ [] → AreMembers a (n ∷ []) members.items
     → AllZip (λ x ms. AreMembers a (x ∷ []) ms) (numbers_below (n + 1)) (contents lists')
 ones_more a n lists lists' members before same here =
     let e : suc n ≡ n + 1 = omega arith in
-    let all = zip_push (λ x ms. AreMembers a (x ∷ []) ms) (numbers_below n) (contents lists) n members.items before here in
+    let all = AllZip-push (λ x ms. AreMembers a (x ∷ []) ms) (numbers_below n) (contents lists) n members.items before here in
     subst (λ (z : List ℕ × List (List ℕ)). AllZip (λ x ms. AreMembers a (x ∷ []) ms) z.0 z.1) (λ i. (numbers_below (e i), (sym (contents-append lists) ∙ ap contents (sym same)) i)) all
   where
     contents-append : (vs : List (Vec ℕ Global)) → contents (vs ++ members ∷ []) ≡ contents vs ++ members.items ∷ []
@@ -142,12 +136,17 @@ ones_more a n lists lists' members before same here =
 
 -- ---- members as the universe of a subalgebra
 
+-- the entries of lists of one element are the elements
+pub column_singles : (xs : List ℕ) → column (singles xs) 0 ≡ xs
+column_singles [] = refl
+column_singles (x ∷ xs) = ap (λ (ys : List ℕ). x ∷ ys) (column_singles xs)
+
 module _ (a : FiniteAlgebra) (gens members : List ℕ) (are : AreMembers a gens members) where
   pub generators_in : AllByRecursion (Contains members) gens
   generators_in = all_from_contains (Contains members) gens (λ x c. (are.exact x).1 (held x (single_in x gens c)))
     where
       held : (x : ℕ) → Contains (singles gens) (x ∷ []) → Sg (a ∷ []) (singles gens) (x ∷ [])
-      held x c = subst (Sg (a ∷ []) (singles gens)) (any_default (singles gens) c.0 [] (x ∷ []) c.1 ∙ c.2) (generator_in (a ∷ []) (singles gens) c.0 c.1)
+      held x c = subst (Sg (a ∷ []) (singles gens)) (get_or_default (singles gens) c.0 [] (x ∷ []) c.1 ∙ c.2) (generator_in (a ∷ []) (singles gens) c.0 c.1)
 
   pub members_below : IsAlgebra a → AllByRecursion (λ x. x < a.size) gens → AllByRecursion (λ x. x < a.size) members
   members_below alg below = all_from_contains (λ x. x < a.size) members (λ x c. (members_vectors (a ∷ []) (singles gens) (line alg) (singles_admitted a gens below) (x ∷ []) ((are.exact x).0 c)).0)
@@ -160,7 +159,3 @@ module _ (a : FiniteAlgebra) (gens members : List ℕ) (are : AreMembers a gens 
       (are.exact (value_at a f args)).1
       (subst (λ (xs : List ℕ). Sg (a ∷ []) (singles gens) (value_at a f xs ∷ [])) (column_singles args)
       (result_in (a ∷ []) (singles gens) f (singles args) within (length-map args (λ x. x ∷ []) ∙ arity) (all_map (Sg (a ∷ []) (singles gens)) (λ x. x ∷ []) args (all_weaker (Contains members) (λ x. Sg (a ∷ []) (singles gens) (x ∷ [])) (λ x c. (are.exact x).0 c) args all))))
-    where
-      column_singles : (xs : List ℕ) → column (singles xs) 0 ≡ xs
-      column_singles [] = refl
-      column_singles (x ∷ xs) = ap (λ (ys : List ℕ). x ∷ ys) (column_singles xs)

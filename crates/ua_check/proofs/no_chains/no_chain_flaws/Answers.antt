@@ -1,8 +1,8 @@
 use Rattle.std.proofs.Common.{◌∷◌, [], length, sym, subst, ◌∙◌}
 use Rattle.ua_table.specs.Refusals.{first_refusal}
+use Rattle.ua_table.proofs.RefusalLemmas.{passed}
 use Rattle.ua_flaws.specs.Flaws.{Tells}
 use Rattle.ua_check.specs.Reached.{odd_positions, rows_flaw, sides_flaw, reached_flaw}
-use Rattle.ua_flaws.proofs.FirstLaws.{skipped}
 use Rattle.ua_check.proofs.no_chains.no_chain_flaws.Goals as goal
 
 pub returns : goal.returns
@@ -11,5 +11,5 @@ returns c =
     let read = c.in_ok-list.ensures.rows in
     subst (λ f. Tells f c.positions_flaws.result)
     ((λ i. first_refusal (sides_flaw name (length (read i)) even odd ∷ reached_flaw a name (read i) even (odd_positions name even odd) ∷ []))
-    ∙ sym (skipped (rows_flaw a name rows) (sides_flaw name (length rows) even odd ∷ reached_flaw a name rows even (odd_positions name even odd) ∷ []) c.in_ok-list.ensures.told))
+    ∙ sym (passed (rows_flaw a name rows) (sides_flaw name (length rows) even odd ∷ reached_flaw a name rows even (odd_positions name even odd) ∷ []) c.in_ok-list.ensures.told))
     c.positions_flaws.ensures

@@ -1,9 +1,9 @@
 use Rattle.std.proofs.Common.{◌≡◌, ◌-◌, ◌<◌, [], length, get_or, sym, ap, ◌∙◌, arith}
 use Rattle.std.proofs.lemmas.List.{length-map, get_or-map}
+use Rattle.std.proofs.lemmas.Option.{get_or_from_slice_get}
 use Rattle.ua_table.specs.Algebras.{arities}
 use Rattle.ua_table.specs.Terms.{Generator, term_value}
 use Rattle.ua_table.specs.VectorLists.{VectorList}
-use Rattle.ua_table.proofs.Lists.{get_or-slice_get}
 use Rattle.ua_term.specs.Steps.{StepList, unfolded, step_values}
 use Rattle.ua_term.proofs.StepLaws.{length_values}
 use Rattle.ua_flaws.proofs.members.last_value.Goals as goal
@@ -27,7 +27,7 @@ returns-clause-value c =
     let some = c.requires.some in
     let low : length steps - 1 < length (unfolded (arities p) steps) = omega (arith, n, terms) in
     c.in_ok-from_slice.ensures.items
-    ∙ sym (get_or-slice_get c.in_ok-vectors.vectors.items (c.len.result - 1) c.get.result.now [] c.get.ensures.vector)
+    ∙ sym (get_or_from_slice_get c.in_ok-vectors.vectors.items (c.len.result - 1) c.get.result.now [] c.get.ensures.vector)
     ∙ ap (λ vs. get_or vs (c.len.result - 1) []) items
     ∙ ap (λ k. get_or (step_values p gens steps) k []) last
     ∙ get_or-map (term_value p gens) (unfolded (arities p) steps) (length steps - 1) (Generator 0) [] low

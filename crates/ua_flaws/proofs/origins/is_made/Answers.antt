@@ -1,10 +1,10 @@
 use Rattle.std.proofs.Common.{◌<◌, ℕ, List, [], length, refl, sym, ap, ◌∙◌, subst}
 use Rattle.std.specs.Prelude.{slice_index, nat_lt}
 use Rattle.std.specs.List.{AllByRecursion, list_all}
+use Rattle.std.proofs.lemmas.Option.{get_or_from_slice_get}
 use Rattle.ua_table.specs.declared.origins.Origin.TheVariants.{Gen, Op}
 use Rattle.ua_table.specs.Algebras.{apply}
 use Rattle.ua_rows.specs.RowLists.{rows_at}
-use Rattle.ua_table.proofs.Lists.{get_or-slice_get}
 use Rattle.ua_flaws.specs.Firsts.{is_same}
 use Rattle.ua_flaws.specs.Shapes.{power}
 use Rattle.ua_flaws.proofs.OriginLaws.{passed_at, all_named, arity_in, made_generator, made_high, made_operation}
@@ -36,8 +36,8 @@ pub returns-in-Gen-clause-made : goal.returns-in-Gen-clause-made
 returns-in-Gen-clause-made c =
     let p = passed_at c.args.a.now c.len.result (length c.args.gens.now.items) c.len-2.result (length c.args.table.now.rows.now.items) c.args.step.now c.in-Some.origin (Gen c.in-Gen.index) c.read_step.result c.len.ensures c.len-2.ensures.len c.in-Some.is c.in-Gen.is c.read_step.ensures in
     made_generator c.args.a.now c.args.table.now.rows.now.width c.args.gens.now.items c.args.table.now.rows.now.items c.args.ranks.now c.args.i c.args.step.now c.in-Gen.index c.get.result.now c.row.result.now c.eq.result p
-    (get_or-slice_get c.args.gens.now.items c.in-Gen.index c.get.result.now [] c.get.ensures.vector)
-    (get_or-slice_get c.args.table.now.rows.now.items c.args.i c.row.result.now [] c.row.ensures.row) c.eq.ensures
+    (get_or_from_slice_get c.args.gens.now.items c.in-Gen.index c.get.result.now [] c.get.ensures.vector)
+    (get_or_from_slice_get c.args.table.now.rows.now.items c.args.i c.row.result.now [] c.row.ensures.row) c.eq.ensures
 
 pub returns-then-not-are_smaller-clause-made : goal.returns-then-not-are_smaller-clause-made
 returns-then-not-are_smaller-clause-made c =
@@ -52,5 +52,5 @@ returns-else-not-are_smaller-clause-made c =
     (ap (list_all (λ x. nat_lt (slice_index c.args.ranks.now x) (slice_index c.args.ranks.now c.args.i))) (sym c.as_slice-args.ensures) ∙ sym c.are_smaller.ensures ∙ c.if-not-are_smaller.false)
     (c.apply.ensures.value ∙ ap (λ q. apply q c.in-Op.op (rows_at c.args.table.now.rows.now.items c.as_slice-args.result.now)) c.requires.table.product
     ∙ ap (λ (xs : List ℕ). apply (power c.args.a.now c.args.table.now.rows.now.width) c.in-Op.op (rows_at c.args.table.now.rows.now.items xs)) c.as_slice-args.ensures)
-    (get_or-slice_get c.args.table.now.rows.now.items c.args.i c.row-in-Op.result.now [] c.row-in-Op.ensures.row)
+    (get_or_from_slice_get c.args.table.now.rows.now.items c.args.i c.row-in-Op.result.now [] c.row-in-Op.ensures.row)
     (c.eq-in-Op.ensures ∙ ap (λ v. is_same v c.row-in-Op.result.now) c.as_slice.ensures)

@@ -46,9 +46,9 @@ whole n i old new none t = let e : i ≡ 0 = omega (arith, none) in subst (λ j.
 
 pub returns-clause-assignment : goal.returns-clause-assignment
 returns-clause-assignment c =
-    (turn_over c.args.size c.args.xs.now c.loop-i.xs c.loop-i.auto.xs (whole c.args.size c.loop-i.i c.args.xs.now c.loop-i.xs c.loop-i-test.false c.loop-i.invariant)).0
+    (turn_over c.args.size c.args.xs.now c.loop-i.xs (whole c.args.size c.loop-i.i c.args.xs.now c.loop-i.xs c.loop-i-test.false c.loop-i.invariant)).0
 
 pub returns-clause-next : goal.returns-clause-next
 returns-clause-next c = λ low.
-    let last = (turn_over c.args.size c.args.xs.now c.loop-i.xs c.loop-i.auto.xs (whole c.args.size c.loop-i.i c.args.xs.now c.loop-i.xs c.loop-i-test.false c.loop-i.invariant)).1 in
+    let last = (turn_over c.args.size c.args.xs.now c.loop-i.xs (whole c.args.size c.loop-i.i c.args.xs.now c.loop-i.xs c.loop-i-test.false c.loop-i.invariant)).1 in
     absurd (omega (arith, last, low))

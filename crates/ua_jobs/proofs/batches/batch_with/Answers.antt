@@ -1,12 +1,13 @@
 use Rattle.std.proofs.Common.{◌≡◌, ℕ, length, ap, sym, ◌∙◌, subst, arith}
 use Rattle.std.specs.List.{AllByRecursion}
 use Rattle.std.proofs.lemmas.Result.{IfOk-weaker}
+use Rattle.ua_table.proofs.Lists.{all_permutation}
 use Rattle.atomic_table.specs.Seated.{TableId}
 use Rattle.ua_jobs.specs.declared.batches.Turn.{Turn}
 use Rattle.ua_jobs.specs.Seats.{PassView}
 use Rattle.ua_jobs.specs.Harvests.{MayGive, numbered}
 use Rattle.ua_jobs.specs.Batches.{IsUnused}
-use Rattle.ua_jobs.proofs.BatchLaws.{other_harvests, answers_together, all_permutation}
+use Rattle.ua_jobs.proofs.BatchLaws.{other_harvests, answers_together}
 use Rattle.ua_jobs.proofs.batches.batch_with.Goals as goal
 
 pub gather-requires-clause-harvests : goal.gather-requires-clause-harvests

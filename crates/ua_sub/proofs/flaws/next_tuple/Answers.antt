@@ -1,7 +1,7 @@
 use Rattle.std.proofs.Common.{◌≡◌, ◌+◌, ◌-◌, ◌<◌, length, subst, arith}
 use Rattle.std.specs.Prelude.{slice_index}
-use Rattle.std.proofs.lemmas.List.{get_or-set_same}
-use Rattle.ua_sub.proofs.FlawLaws.{IsCarried, carried_done, carried_more, written_twice}
+use Rattle.std.proofs.lemmas.List.{get_or-set_same, set-set}
+use Rattle.ua_sub.proofs.FlawLaws.{IsCarried, carried_done, carried_more}
 use Rattle.ua_sub.proofs.flaws.next_tuple.Goals as goal
 
 pub returns-then-from-size-clause-next : goal.returns-then-from-size-clause-next
@@ -16,5 +16,5 @@ loop-place-preserved c =
     let x = slice_index c.loop-place.args (c.loop-place.place - 1) + 1 in
     let written = get_or-set_same c.loop-place.args (c.loop-place.place - 1) x 0 w in
     carried_more c.args.size (c.loop-place.place - 1) c.args.args.now c.loop-place.args (subst (λ m. IsCarried c.args.size m c.args.args.now c.loop-place.args) k c.loop-place.invariant) _
-    (written_twice c.loop-place.args (c.loop-place.place - 1) _ 0)
+    (set-set c.loop-place.args (c.loop-place.place - 1) _ 0)
     (omega (arith, c.if-from-size.false, c.from.ensures, written))

@@ -1,5 +1,6 @@
 use Rattle.std.proofs.Common.{arith}
-use Rattle.ua_sub.proofs.HomLaws.{at_rank, rank_low, earlier_more}
+use Rattle.ua_close.proofs.NeedLaws.{position_is}
+use Rattle.ua_sub.proofs.HomLaws.{rank_low, earlier_more}
 use Rattle.ua_sub.proofs.homs.earlier_clash.Goals.{else-same-element-via-then-same-element+else-other-image, else-same-element-via-else-same-element}
 use Rattle.ua_sub.proofs.homs.earlier_clash.Goals as goal
 
@@ -9,7 +10,7 @@ position-earlier-requires c =
     omega (arith, low, c.loop-rank-test.true)
 
 pub pair_at-same-requires-clause-row : goal.pair_at-same-requires-clause-row
-pair_at-same-requires-clause-row c = (at_rank c.args.list.now c.position-earlier.result c.loop-rank.rank c.position-earlier.ensures).0
+pair_at-same-requires-clause-row c = (position_is c.args.list.now c.position-earlier.result c.loop-rank.rank c.position-earlier.ensures).0
 
 pub loop-rank-preserved : goal.loop-rank-preserved
 loop-rank-preserved c =
@@ -25,5 +26,5 @@ loop-rank-preserved c =
 pub returns-clause-none : goal.returns-clause-none
 returns-clause-none c earlier clash =
     let low = c.loop-rank.invariant earlier clash in
-    let here = at_rank c.args.list.now c.args.later c.rank-rank-end.result c.rank-rank-end.ensures in
+    let here = position_is c.args.list.now c.args.later c.rank-rank-end.result c.rank-rank-end.ensures in
     omega (arith, low, clash.order, here.1, c.loop-rank-test.false)
