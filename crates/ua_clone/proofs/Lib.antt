@@ -2,4 +2,3 @@ pub mod PointLaws
 pub mod PolynomialLaws
 pub mod CloneLaws
 pub mod PolyLaws
-pub mod FrameLaws

@@ -13,6 +13,3 @@ coordinates a c = length (all_fillings a.size (patterns_of c))
 
 pub width_is : (a : FiniteAlgebra) (c : TermCondition) → length (condition_power a c) ≡ coordinates a c
 width_is a c = length-replicate (coordinates a c) a
-
-pub places_are : (a : FiniteAlgebra) (c : TermCondition) → length (argument_vectors a c) ≡ c.arity
-places_are a c = length-map-range_with_len (place_vector (all_fillings a.size (patterns_of c))) 0 c.arity
