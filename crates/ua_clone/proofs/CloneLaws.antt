@@ -1,14 +1,14 @@
 -- What an answer says of polynomials.
 use Rattle.std.proofs.Common.{◌≡◌, ℕ, ◌+◌, ◌-◌, ◌<◌, ◌≤◌, Bool, true, false, List, length, sym, ap, ◌∙◌, subst, arith, Some, None, Ok}
 use Rattle.std.specs.Prelude.{nat_le, slice_get, if◌then◌else◌}
-use Rattle.std.proofs.lemmas.Option.{slice_get_within}
+use Rattle.std.proofs.lemmas.Option.{slice_get_within, get_or_from_slice_get}
 use Rattle.std.specs.List.{AllByRecursion}
 use Rattle.ua_table.specs.Algebras.{Vector, FiniteAlgebra, Product, arities_of, arities}
 use Rattle.ua_table.specs.Terms.{Tree, Generator, IsTerm, term_value}
 use Rattle.ua_table.specs.Listings.{Row}
-use Rattle.ua_table.proofs.Lists.{mapped_from, get_or-slice_get}
+use Rattle.ua_table.proofs.Lists.{mapped_from}
 use Rattle.ua_term.specs.Trees.{node_count}
-use Rattle.ua_term.specs.Steps.{StepList, AreSteps, unfolded, step_term, step_values, within}
+use Rattle.ua_term.specs.Steps.{StepList, unfolded, step_term, step_values, within}
 use Rattle.ua_term.proofs.StepLaws.{step_is_term, length_values}
 use Rattle.ua_close.specs.declared.memberships.Answer.TheVariants.{No}
 use Rattle.ua_close.specs.Memberships.{AreStepsTo}
@@ -47,7 +47,7 @@ module _ (a : FiniteAlgebra) (k : ℕ) (kind : CloneKind) (ps : List Point) wher
       let t = m.0 in
       let last : slice_get (unfolded s.arities s.items) i ≡ Some t = ap (λ (ks : List ℕ). slice_get (unfolded ks s.items) i) h.arities_are ∙ m.1 in
       let low : i < length s.items = (let within = slice_get_within (step_values power gens s.items) i wanted h.value in let long = length_values power gens s.items in omega (arith, within, long)) in
-      let is_term : IsTerm s.arities s.gens t = subst (IsTerm s.arities s.gens) (get_or-slice_get (unfolded s.arities s.items) i t (Generator 0) last) (step_is_term s.arities s.gens s.items i h.steps low) in
+      let is_term : IsTerm s.arities s.gens t = subst (IsTerm s.arities s.gens) (get_or_from_slice_get (unfolded s.arities s.items) i t (Generator 0) last) (step_is_term s.arities s.gens s.items i h.steps low) in
       let w = written_from a k kind ps some points t (subst (λ (X : Type 0). X) (λ j. IsTerm (h.arities_are j) (h.generators j) t) is_term, m.2) in
       record {
         operations = h.arities_are ∙ same_arities a k kind ps some points;
@@ -65,7 +65,7 @@ module _ (a : FiniteAlgebra) (k : ℕ) (kind : CloneKind) (ps : List Point) wher
   -- what is made of the last step is what the steps write
   pub made_agrees : (s : StepList) (limit : ℕ) (p : Poly) → WriteAgreeing a k kind ps s → Some (polynomial_of k p) ≡ within limit (step_term s.arities s.items (length s.items - 1)) → variables_of p ≤ k → IsPoly a k p × IsPolynomial a k kind (polynomial_of k p) × AgreesWith a ps (polynomial_of k p)
   made_agrees s limit p h e low =
-      let same : polynomial_of k p ≡ h.polynomial = within_is limit (step_term s.arities s.items (length s.items - 1)) (polynomial_of k p) e ∙ get_or-slice_get (unfolded s.arities s.items) (length s.items - 1) h.polynomial (Generator 0) h.last in
+      let same : polynomial_of k p ≡ h.polynomial = within_is limit (step_term s.arities s.items (length s.items - 1)) (polynomial_of k p) e ∙ get_or_from_slice_get (unfolded s.arities s.items) (length s.items - 1) h.polynomial (Generator 0) h.last in
       let is : IsPolynomial a k kind (polynomial_of k p) = subst (IsPolynomial a k kind) (sym same) h.is_polynomial in
       let few = few_elements kind a.size in (
         record { variables = low; polynomial = term_wider (arities_of a) (k + named_elements kind a.size) (k + a.size) (polynomial_of k p) (omega (arith, few)) is },

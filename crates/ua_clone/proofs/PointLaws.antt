@@ -1,17 +1,16 @@
 -- Lists of points, and the vectors of what they give.
-use Rattle.std.proofs.Common.{◌≡◌, ℕ, zero, suc, ◌+◌, ◌^◌, ◌<◌, ◌≤◌, List, [], ◌∷◌, ◌++◌, length, map, take, get_or, refl, sym, ap, ◌∙◌, subst, arith}
+use Rattle.std.proofs.Common.{◌≡◌, ℕ, ◌+◌, ◌^◌, ◌<◌, ◌≤◌, List, [], ◌∷◌, ◌++◌, length, map, take, get_or, refl, sym, ap, ◌∙◌, subst, arith}
 use Rattle.std.specs.Prelude.{zip, slice_index}
 use Rattle.std.specs.List.{AllByRecursion}
 use Rattle.std.proofs.Math.Nat.{one-le-pow}
-use Rattle.std.proofs.lemmas.List.{length-map, map-append, length-take-le, get_or-take}
+use Rattle.std.proofs.lemmas.List.{length-map, map-append, length-take-le, get_or-take, take_more}
 use Rattle.std.proofs.lemmas.List.Elements.{All-from_recursion}
 use Rattle.std.proofs.lemmas.Simd.{map-map}
 use Rattle.std.proofs.lemmas.Slice.Zip.{length-zip, firsts-zip, seconds-zip}
 use Rattle.ua_table.specs.Algebras.{Vector, column}
-use Rattle.ua_table.proofs.Lists.{all_map, all_from_contains}
+use Rattle.ua_table.proofs.Lists.{all_map, all_from_contains, all_take}
 use Rattle.ua_term.specs.Assignments.{IsAssignment, assignments, projection}
 use Rattle.ua_term.proofs.AssignmentLaws.{length_assignments, assignment_from}
-use Rattle.ua_term.proofs.StepLaws.{take_push}
 use Rattle.ua_clone.specs.declared.points.Points.{Points}
 use Rattle.ua_clone.specs.declared.points.Points.TheVariants.{Total, Partial}
 use Rattle.ua_clone.specs.Points.{Point, total_points, partial_points, points_of, IsPoint, ArePoints}
@@ -62,11 +61,6 @@ module _ (n k : ℕ) (values : List ℕ) (long : length values ≡ n ^ k) where
 abbrev AreEntries : ℕ → ℕ → List Vector → Type 0
 AreEntries n k vs = AllByRecursion (λ (v : Vector). (length v ≡ k + 1) × AllByRecursion (λ x. x < n) v) vs
 
-all_taken : (P : ℕ → Type 0) (k : ℕ) (xs : List ℕ) → AllByRecursion P xs → AllByRecursion P (take k xs)
-all_taken P zero xs h = tt
-all_taken P (suc k) [] h = tt
-all_taken P (suc k) (x ∷ xs) h = (h.0, all_taken P k xs h.1)
-
 pub variable_partial : (k i : ℕ) (vs : List Vector) → i < k → variable_vector (partial_points k vs) i ≡ column vs i
 variable_partial k i [] l = refl
 variable_partial k i (v ∷ vs) l = (λ j. get_or-take k v i 0 l j ∷ variable_partial k i vs l j)
@@ -80,7 +74,7 @@ points_partial n k [] h = tt
 points_partial n k (v ∷ vs) h =
     let long = h.0.0 in (
       record {
-        assignment = record { count = length-take-le k v (omega (arith, long)); elements = all_taken (λ x. x < n) k v h.0.1 };
+        assignment = record { count = length-take-le k v (omega (arith, long)); elements = all_take (λ x. x < n) k v h.0.1 };
         element = All-from_recursion (λ x. x < n) v h.0.1 k 0 (omega (arith, long));
       },
       points_partial n k vs h.1,
@@ -140,7 +134,7 @@ module _ (n k : ℕ) (points : Points) (h : ArePoints n k points) where
 -- ---- vectors as partial tables
 
 pub column_more : (vs : List Vector) (i place : ℕ) → i < length vs → column (take (i + 1) vs) place ≡ column (take i vs) place ++ slice_index (get_or vs i []) place ∷ []
-column_more vs i place l = ap (λ (us : List Vector). column us place) (take_push vs i [] l) ∙ map-append (λ (v : Vector). slice_index v place) (take i vs) (get_or vs i [] ∷ [])
+column_more vs i place l = ap (λ (us : List Vector). column us place) (take_more vs i [] l) ∙ map-append (λ (v : Vector). slice_index v place) (take i vs) (get_or vs i [] ∷ [])
 
 -- vectors of a width fit exactly where it is one more than the variables, and all entries are below
 abbrev AreWide : ℕ → List Vector → Type 0

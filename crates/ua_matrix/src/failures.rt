@@ -1,6 +1,6 @@
 //! Matrices that refute the term condition.
 
-ghost use Rattle.std.specs.Prelude.{◌≡◌, ◌+◌, ◌<◌, ◌≤◌, ◌↔◌, length, slice_index, IsTrue, IfSome, IfNone};
+ghost use Rattle.std.specs.Prelude.{◌+◌, ◌<◌, ◌↔◌, length, IsTrue, IfSome, IfNone};
 ghost use Rattle.std.specs.List.{AllByRecursion};
 ghost use Rattle.ua_table.specs.Listings.{vectors_of, ranks_of};
 ghost use Rattle.ua_matrix.specs.Matrices.{AreFour, Goes, Fails, IsFirstFailure, IsFirstOfFront};

@@ -1,9 +1,10 @@
 use Rattle.std.proofs.Common.{◌≡◌, List, [], sym, ap, ◌∙◌, subst, Some}
 use Rattle.std.specs.Prelude.{slice_get, IfNone}
 use Rattle.std.specs.List.{AllByRecursion}
+use Rattle.std.proofs.lemmas.Option.{get_or_from_slice_get}
 use Rattle.ua_table.specs.Algebras.{Vector, Product, arities}
 use Rattle.ua_table.specs.Listings.{vectors_of}
-use Rattle.ua_table.proofs.Lists.{all_at, get_or-slice_get, Contains-slice_get}
+use Rattle.ua_table.proofs.Lists.{all_at, Contains-slice_get}
 use Rattle.ua_close.specs.Memberships.{AreStepsTo}
 use Rattle.ua_close.specs.Needed.{AreStepsFor}
 use Rattle.ua_matrix.specs.Matrices.{matrix_generators, IsMatrix, AreFour, Goes, Fails}
@@ -35,7 +36,7 @@ returns c =
     let m = c.four-matrix.result in
     let first = c.in-Some.ensures.some in
     let here : slice_get rows i ≡ Some m = c.row.ensures ∙ ap (λ (v : Vector). Some v) (sym c.four-matrix.ensures) in
-    let fails : Fails delta m = subst (Fails delta) (get_or-slice_get rows i m [] here) first.fails in
+    let fails : Fails delta m = subst (Fails delta) (get_or_from_slice_get rows i m [] here) first.fails in
     let generated : IsMatrix a alpha beta m = (c.requires.closed.1.exact m).0 (Contains-slice_get rows i m here) in (
       not_central a alpha beta delta m generated fails,
       record {
