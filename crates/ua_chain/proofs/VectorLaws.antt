@@ -35,13 +35,6 @@ generators_fit a kind k =
     let low = range_low 0 kind.places j c in
     place_fits a kind.places j (all_fillings a.size kind.patterns) (omega (arith, low.1)) (λ xs d. fillings_assign a kind.places kind.patterns xs k.patterns d)))
 
--- a power that is not too wide for a budget is no wider than the limit of cells
-pub width_low : (a : FiniteAlgebra) (width b : ℕ) (vectors : List Vector) → 1 ≤ b → ¬ IsWide (replicate width a) vectors b → width ≤ CELLS
-width_low a width b vectors some fine =
-    let cells = ap (λ n. b * n) (length-replicate width a) in
-    let least : 1 * width ≤ b * width = mul-le 1 width b width some (omega arith) in
-    ⊎_elim (λ high. absurd (fine (inr high))) (λ low. omega (arith, cells, least, low)) (cases_lt CELLS (b * length (replicate width a)))
-
 -- a frame and generators that are the kind's
 pub closure_from : (a : FiniteAlgebra) (kind : ChainKind) (p : Product) (gens : List Vector) → IsKind kind → 0 < a.size → p ≡ power_of a kind → gens ≡ generators_of a kind → IsClosureOf a kind p gens
 closure_from a kind p gens k some e f = record { is_kind = k; wide = some_fillings a.size kind k some; product_is = e; gens_are = f }

@@ -10,54 +10,32 @@ use Rattle.ua_close.specs.Answers.{IsCause}
 use Rattle.ua_identity.specs.Patterns.{all_fillings, place_vector}
 use Rattle.ua_chain.specs.Answers.{power_of, generators_of}
 use Rattle.ua_chain.proofs.ChainLaws.{some_fillings, generator_count}
-use Rattle.ua_chain.proofs.VectorLaws.{generators_fit, width_low}
+use Rattle.ua_chain.proofs.VectorLaws.{generators_fit}
 use Rattle.ua_chain.proofs.vectors.generators.Goals as goal
 
-pub check_power-requires-clause-some : goal.check_power-requires-clause-some
-check_power-requires-clause-some c =
+pub power_within-requires-clause-some : goal.power_within-requires-clause-some
+power_within-requires-clause-some c =
     let width = c.width_of-width.ensures.width ∙ (λ i. length (all_fillings (c.size.ensures.size i) (c.patterns.ensures.patterns i))) in
     let some = some_fillings c.args.a.now.size c.args.kind.now c.places-places.ensures.kind c.size.ensures.algebra.algebra.inhabited in
     omega (arith, width, some)
 
-pub returns-in_err-check_power-clause-cause : goal.returns-in_err-check_power-clause-cause
-returns-in_err-check_power-clause-cause c =
+pub returns-in_err-frame-clause-cause : goal.returns-in_err-frame-clause-cause
+returns-in_err-frame-clause-cause c =
     let a = c.args.a.now in
     let kind = c.args.kind.now in
     let gens = generators_of a kind in
     let width = c.width_of-width.ensures.width ∙ (λ i. length (all_fillings (c.size.ensures.size i) (c.patterns.ensures.patterns i))) in
     let count : length gens ≡ c.from.result = generator_count a kind.patterns kind.places ∙ sym c.places-places.ensures.places ∙ sym c.from.ensures in
-    let cause = c.in_err-check_power.ensures.cause gens count in
-    let e = c.in_err-check_power.field-0.0 in
+    let cause = c.in_err-frame.ensures.cause gens count in
+    let e = c.in_err-frame.field-0.0 in
     let p = err_from_is_err_and c.from_residual.result c.from_residual.ensures.1 in
     subst (λ (r : Result (Product × VectorList) CloseError). IfErr r (IsCause (power_of a kind) gens c.args.budget)) (sym (p.1 ∙ ap Err p.2)) (subst (λ n. IsCause (replicate n a) gens c.args.budget e) width cause)
-
-pub overflow_cast-width : goal.overflow_cast-width
-overflow_cast-width c =
-    let a = c.args.a.now in
-    let kind = c.args.kind.now in
-    let gens = generators_of a kind in
-    let count : length gens ≡ c.from.result = generator_count a kind.patterns kind.places ∙ sym c.places-places.ensures.places ∙ sym c.from.ensures in
-    let fine = c.in_ok-check_power.ensures.narrow refl gens count in
-    let low = width_low a c.width_of-width.result c.args.budget gens c.requires.some fine in
-    omega (arith, low)
-
-pub unreachable-requires : goal.unreachable-requires
-unreachable-requires c =
-    let a = c.args.a.now in
-    let kind = c.args.kind.now in
-    let gens = generators_of a kind in
-    let width = c.width_of-width.ensures.width ∙ (λ i. length (all_fillings (c.size.ensures.size i) (c.patterns.ensures.patterns i))) in
-    let some = some_fillings a.size kind c.places-places.ensures.kind c.size.ensures.algebra.algebra.inhabited in
-    let count : length gens ≡ c.from.result = generator_count a kind.patterns kind.places ∙ sym c.places-places.ensures.places ∙ sym c.from.ensures in
-    let fine = c.in_ok-check_power.ensures.narrow refl gens count in
-    let low = width_low a c.width_of-width.result c.args.budget gens c.requires.some fine in
-    false≢true (c.in_default.ensures.made.1 (omega (arith, width, some), omega (arith, low)))
 
 pub returns-clause-admitted : goal.returns-clause-admitted
 returns-clause-admitted c =
     let a = c.args.a.now in
     let kind = c.args.kind.now in
     let width = c.width_of-width.ensures.width ∙ (λ i. length (all_fillings (c.size.ensures.size i) (c.patterns.ensures.patterns i))) in
-    let frame : c.in-Ok.frame ≡ power_of a kind = c.in-Ok.ensures.ok ∙ ap (λ n. replicate n a) width in
+    let frame : c.in_ok-frame.frame ≡ power_of a kind = c.in_ok-frame.ensures.frame ∙ ap (λ n. replicate n a) width in
     let gens : c.in_ok-gens.gens.items ≡ generators_of a kind = c.in_ok-gens.ensures.vectors ∙ (λ i. map (place_vector (all_fillings (c.size-2.ensures.size i) (c.patterns-2.ensures.patterns i))) (range_with_len 0 (c.places-places.ensures.places i))) in
     subst (λ (q : Product × List Vector). AllByRecursion (IsVector q.0) q.1) (λ i. (sym frame i, sym gens i)) (generators_fit a kind c.places-places.ensures.kind)

@@ -1,16 +1,13 @@
-use Rattle.std.proofs.Common.{◌≡◌, ◌*◌, ◌≤◌, ℕ, List, length, replicate, Err, refl, sym, ap, ◌∙◌, subst, arith, inr, ⊎_elim}
+use Rattle.std.proofs.Common.{◌≡◌, List, replicate, Err, sym, ap, ◌∙◌, subst, arith}
 use Rattle.std.specs.List.{AllByRecursion}
-use Rattle.std.proofs.lemmas.Bool.{cases_lt, false≢true}
-use Rattle.std.proofs.lemmas.List.{length-replicate}
 use Rattle.std.proofs.lemmas.Nat.{mul-le}
 use Rattle.std.proofs.lemmas.Result.{err_from_is_err_and}
-use Rattle.ua_table.specs.declared.limits.TheConstants.{CELLS}
 use Rattle.std.specs.Prelude.{Result, IfErr}
 use Rattle.ua_close.specs.declared.close.CloseError.{CloseError}
-use Rattle.ua_table.specs.Algebras.{Vector, FiniteAlgebra, Product, IsVector}
+use Rattle.ua_table.specs.Algebras.{Vector, Product, IsVector}
 use Rattle.ua_table.specs.VectorLists.{VectorList}
 use Rattle.ua_term.specs.Assignments.{projections, power_of_assignments}
-use Rattle.ua_close.specs.Answers.{IsWide, IsCause}
+use Rattle.ua_close.specs.Answers.{IsCause}
 use Rattle.ua_free.proofs.MemberLaws.{power_some, projections_admitted, length_projections}
 use Rattle.ua_free.proofs.WalkLaws.{few_assignments, counted}
 use Rattle.ua_free.proofs.free_algebras.generators.Goals as goal
