@@ -62,7 +62,7 @@ fn certify_close<R: Threads + Sync, G: Gate>(
     let alloc = context.alloc;
     let budget = context.run.budget;
     let vectors = vectors(alloc, known, width.value, gens)?;
-    let frame = match power(alloc, known, width, &vectors, budget) {
+    let frame = match power(known, width, &vectors, budget) {
         Ok(frame) => frame,
         Err(cause) => return cause_reply(alloc, cause),
     };
@@ -96,7 +96,7 @@ fn certify_member<R: Threads + Sync, G: Gate>(
     let vectors = vectors(alloc, known, width.value, gens)?;
     let entries = vector(alloc, known, width.value, target)?;
     let target = entries.as_slice();
-    let frame = match power(alloc, known, width, &vectors, budget) {
+    let frame = match power(known, width, &vectors, budget) {
         Ok(frame) => frame,
         Err(cause) => return cause_reply(alloc, cause),
     };

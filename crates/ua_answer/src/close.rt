@@ -30,7 +30,7 @@ fn close_known<R: Threads + Sync, G: Gate>(
     ensures { IfOk result (λ v. ClosureAnswer known.now (bounds_of context.now.run.now.budget context.now.run.now.workers) (power_of known.now width.value) (vectors_of known.now gens.now) mode v.items) }
 {
     let vectors = vectors(context.alloc, known, width.value, gens)?;
-    match power(context.alloc, known, width, &vectors, context.run.budget) {
+    match power(known, width, &vectors, context.run.budget) {
         Ok(frame) => closing(context, known, &frame, &vectors, mode),
         Err(cause) => cause_reply(context.alloc, cause),
     }

@@ -34,7 +34,7 @@ fn membership<R: Threads + Sync, G: Gate>(
 {
     let vectors = vectors(context.alloc, known, width.value, gens)?;
     let target = vector(context.alloc, known, width.value, target)?;
-    let frame = power(context.alloc, known, width, &vectors, context.run.budget)?;
+    let frame = power(known, width, &vectors, context.run.budget)?;
     member(
         context.rt,
         context.alloc,

@@ -13,7 +13,7 @@ ghost use Rattle.ua_reply.specs.Operands.{element_of, place_of, value_of, values
 use crate::checks::FirstErrors;
 use crate::known::Known;
 use std::alloc::{AllocError, Global};
-use ua_close::CloseError;
+use ua_close::{CloseError, power_within};
 use ua_script::{Entry, Items, Number};
 use ua_table::limits::{BUDGET, VARIABLES};
 use ua_table::{Elem, Frame, Vectors};
@@ -222,10 +222,5 @@ pub fn power<'a>(
     ensures ok { IfOk result (λ frame. frame ≡ power_of known.now width.value) }
     ensures cause { IfErr result (IsCause (power_of known.now width.value) gens.now.items budget) }
 {
-    power_within(
-        known.algebra(),
-        u128::from(width.value),
-        gens.len(),
-        budget,
-    )
+    power_within(known.algebra(), u128::from(width.value), gens.len(), budget)
 }
