@@ -118,13 +118,3 @@ above_zero w false e h = cc
 
 pub width_positive : (w : Number) → Passes (positive w) → 0 < w.value
 width_positive w h = above_zero w (nat_lt 0 w.value) refl h.range
-
--- a power with more coordinates than a frame has is too wide
-pub power_wide : (a : FiniteAlgebra) (width : ℕ) (gens : List Vector) (budget : ℕ) → 0 < width → (IsWidth width → ⊥) → 1 ≤ budget
-    → IsCause (replicate width a) gens budget (causes.Wide (records (arities_of a) (length gens) budget) (budget * width))
-power_wide a zero gens budget some wide positive = absurd (omega (arith, some))
-power_wide a (suc n) gens budget some wide positive =
-    let many : WIDTH < suc n = elim (cases_lt WIDTH (suc n)) [ inl lt ↦ lt | inr ge ↦ absurd (wide (some, ge)) ] in
-    let count : length (replicate (suc n) a) ≡ suc n = length-replicate (suc n) a in
-    let more = mul-le-mul_right (suc n) positive in
-    (inr (rw count (omega (arith, many, more))), refl, sym (ap (λ w. budget * w) count))
