@@ -1,17 +1,12 @@
 -- The power of a kind of chain, its generators, and the parts of its vectors.
-use Rattle.std.proofs.Common.{◌≡◌, ℕ, ◌-◌, ◌*◌, ◌<◌, ◌≤◌, List, [], ◌∷◌, length, replicate, sym, ap, ◌∙◌, arith, inr, ⊎_elim}
+use Rattle.std.proofs.Common.{◌≡◌, ℕ, ◌-◌, ◌<◌, List, [], ◌∷◌, length, replicate, sym, ap, ◌∙◌, arith}
 use Rattle.std.specs.Prelude.{Contains}
 use Rattle.std.specs.List.{AllByRecursion, AllZip, range_with_len}
-use Rattle.std.proofs.lemmas.Bool.{cases_lt}
-use Rattle.std.proofs.lemmas.List.{length-replicate}
 use Rattle.std.proofs.lemmas.List.Elements.{All-from_recursion}
-use Rattle.std.proofs.lemmas.Nat.{mul-le}
-use Rattle.ua_table.specs.declared.limits.TheConstants.{CELLS}
 use Rattle.ua_table.specs.Algebras.{Vector, FiniteAlgebra, Product, IsVector}
 use Rattle.ua_table.proofs.Choices.{range_low}
 use Rattle.ua_table.proofs.Lists.{Contains-head, Contains-tail, all_from_contains, all_map}
 use Rattle.ua_term.specs.Assignments.{IsAssignment}
-use Rattle.ua_close.specs.Answers.{IsWide}
 use Rattle.ua_identity.specs.Chains.{ChainKind}
 use Rattle.ua_identity.specs.Kinds.{IsKind}
 use Rattle.ua_identity.specs.Patterns.{all_fillings, place_vector}

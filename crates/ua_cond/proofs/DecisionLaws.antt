@@ -7,7 +7,7 @@ use Rattle.ua_table.specs.Terms.{Tree, Generator, IsTerm, term_value}
 use Rattle.ua_table.specs.Generated.{Sg}
 use Rattle.ua_table.specs.Listings.{Row}
 use Rattle.ua_table.proofs.Lists.{mapped_from}
-use Rattle.ua_term.specs.Steps.{StepList, AreSteps, unfolded, step_values}
+use Rattle.ua_term.specs.Steps.{StepList, unfolded, step_values}
 use Rattle.ua_term.proofs.StepLaws.{step_is_term, length_values}
 use Rattle.ua_close.specs.declared.memberships.Answer.TheVariants.{No}
 use Rattle.ua_close.specs.Memberships.{AreStepsTo}

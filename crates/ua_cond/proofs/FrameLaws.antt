@@ -1,11 +1,9 @@
 -- The power in which a condition is decided.
 use Rattle.std.proofs.Common.{◌≡◌, ℕ, length}
-use Rattle.std.specs.Prelude.{slice_index}
-use Rattle.std.proofs.lemmas.List.{length-map, length-replicate}
-use Rattle.std.proofs.lemmas.List.FromFn.{length-map-range_with_len}
+use Rattle.std.proofs.lemmas.List.{length-replicate}
 use Rattle.ua_table.specs.Algebras.{FiniteAlgebra}
 use Rattle.ua_identity.specs.Conditions.{TermCondition}
-use Rattle.ua_identity.specs.Patterns.{all_fillings, place_vector, patterns_of, condition_power, argument_vectors}
+use Rattle.ua_identity.specs.Patterns.{all_fillings, patterns_of, condition_power}
 
 -- how many coordinates there are
 abbrev pub coordinates : FiniteAlgebra → TermCondition → ℕ
