@@ -1,6 +1,6 @@
 //! Laws of commutators and of series: each function does nothing, and its contract states them.
 
-ghost use Rattle.std.specs.Prelude.{◌≡◌, ◌≢◌, ℕ, ◌<◌, ◌≤◌, ◌↔◌, List, [], ◌∷◌, ◌++◌, Contains};
+ghost use Rattle.std.specs.Prelude.{◌≡◌, ◌≢◌, ℕ, ◌<◌, ◌≤◌, ◌↔◌, List, Contains};
 ghost use Rattle.ua_table.specs.Counting.{total};
 ghost use Rattle.ua_table.specs.Algebras.{Vector, FiniteAlgebra, IsAlgebra};
 ghost use Rattle.ua_part.specs.Partitions.{Partition, LiesBelow, identity_on};

@@ -10,7 +10,6 @@ use Rattle.std.proofs.lemmas.List.Sorted.{IsPermutation-map}
 use Rattle.std.proofs.lemmas.Option.{get_or_from_slice_get}
 use Rattle.ua_table.specs.Counting.{times, once_below, EachOnceBelow}
 use Rattle.ua_table.proofs.Counts.{one_if-same, one_if-other, once_in, once_within, times-IsPermutation}
-pub use Rattle.ua_table.proofs.Results.{IfOk-both as of_both}
 use Rattle.ua_jobs.specs.Harvests.{IsAnswer, AreAnswers, AnswerEach, numbered, numbers_of}
 use Rattle.ua_jobs.proofs.Places.{holds_of}
 

@@ -1,8 +1,9 @@
 -- The first places of joined checks, and what passes in them.
-use Rattle.std.proofs.Common.{◌≡◌, ℕ, zero, suc, ◌+◌, ◌<◌, Bool, true, false, List, [], ◌∷◌, ◌++◌, length, get_or, take, Option, refl, sym, ap, ◌∙◌, subst, append_assoc, append-nil, arith}
+use Rattle.std.proofs.Common.{◌≡◌, ℕ, suc, ◌+◌, ◌<◌, Bool, true, false, List, [], ◌∷◌, ◌++◌, length, get_or, take, Option, refl, sym, ap, ◌∙◌, subst, append_assoc, append-nil, arith}
 use Rattle.std.proofs.Math.Seq.{take-suc}
 use Rattle.std.specs.List.{AllByRecursion}
 use Rattle.std.specs.Option.{option_or}
+use Rattle.ua_table.proofs.Lists.{all_get_or}
 use Rattle.ua_text.specs.declared.tokens.Place.{Place}
 use Rattle.ua_term.specs.Meanings.{first_place}
 use Rattle.ua_reply.specs.declared.checks.FirstErrors.{FirstErrors}
@@ -66,15 +67,9 @@ pub each_passes : {X : Type 0} (check : X → Checks) (xs : List X) → Passes (
 each_passes check [] h = tt
 each_passes check (x ∷ xs) h = let p = parts_pass (check x) (all_in check xs) h in (p.0, each_passes check xs p.1)
 
--- what holds of each holds at a place
-pub holds_at : {X : Type 0} (P : X → Type 0) (xs : List X) (i : ℕ) (d : X) → AllByRecursion P xs → i < length xs → P (get_or xs i d)
-holds_at P [] i d all h = absurd (omega arith)
-holds_at P (x ∷ xs) zero d all h = all.0
-holds_at P (x ∷ xs) (suc i) d all h = holds_at P xs i d all.1 (omega arith)
-
 -- the one at a place passes
 pub one_passes : {X : Type 0} (check : X → Checks) (xs : List X) (i : ℕ) (x : X) → Passes (all_in check xs) → i < length xs → x ≡ get_or xs i x → Passes (check x)
-one_passes check xs i x h low is = subst (λ x. Passes (check x)) (sym is) (holds_at (λ x. Passes (check x)) xs i x (each_passes check xs h) low)
+one_passes check xs i x h low is = subst (λ x. Passes (check x)) (sym is) (all_get_or (λ x. Passes (check x)) xs i x low (each_passes check xs h))
 
 -- the first places of what is joined, one more at the end
 pub first_more : {X : Type 0} (check : X → Checks) (xs : List X) (i : ℕ) (x : X) (e : FirstErrors) → i < length xs → x ≡ get_or xs i x → AreFirst (all_in check (take i xs) and check x) e → AreFirst (all_in check (take (i + 1) xs)) e

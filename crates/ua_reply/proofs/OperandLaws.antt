@@ -1,5 +1,5 @@
 -- What it means that operands pass.
-use Rattle.std.proofs.Common.{◌≡◌, ℕ, zero, suc, ◌<◌, ◌≤◌, ◌*◌, inl, inr, ◌==◌, Bool, true, false, nat_lt, List, [], ◌∷◌, length, map, replicate, get_or, slice_index, Option, Some, None, refl, sym, ap, ◌∙◌, subst, arith}
+use Rattle.std.proofs.Common.{◌≡◌, ℕ, zero, suc, ◌<◌, ◌≤◌, ◌*◌, inl, inr, ◌==◌, Bool, true, false, nat_lt, List, [], ◌∷◌, length, map, replicate, get_or, slice_index, Option, Some, None, refl, sym, ap, ◌∙◌, arith}
 use Rattle.std.specs.List.{AllByRecursion}
 use Rattle.std.specs.Option.{unwrap_or}
 use Rattle.std.proofs.lemmas.Bool.{ltb-true, eqb-true, cases_lt}
@@ -9,6 +9,7 @@ use Rattle.ua_table.specs.Algebras.{Vector, FiniteAlgebra, IsVector, arities_of}
 use Rattle.ua_table.specs.declared.limits.TheConstants.{WIDTH}
 use Rattle.ua_table.specs.Frames.{IsWidth}
 use Rattle.ua_table.specs.Numbering.{records}
+use Rattle.ua_table.proofs.FrameLemmas.{in_power}
 use Rattle.ua_text.specs.declared.tokens.Place.{Place}
 use Rattle.ua_text.specs.declared.named.Block.{Block}
 use Rattle.ua_close.specs.declared.close.CloseError.TheVariants as causes
@@ -16,10 +17,9 @@ use Rattle.ua_close.specs.Answers.{IsCause}
 use Rattle.ua_operands.specs.declared.written.Number.{Number}
 use Rattle.ua_operands.specs.declared.written.Entry.{Entry}
 use Rattle.ua_operands.specs.declared.written.Items.{Items}
-use Rattle.ua_reply.specs.declared.checks.FirstErrors.{FirstErrors}
-use Rattle.ua_reply.specs.Checks.{◌and◌, unless, Passes, AreFirst}
-use Rattle.ua_reply.specs.Operands.{element_of, place_of, value_of, values_of, vectors_of, pair_of, pairs_of, IsPairIn, power_of, positive, known_in, element_in, elements_in, length_in, vector_in, vectors_in}
-use Rattle.ua_reply.proofs.CheckLaws.{parts_pass, each_passes, holds_at}
+use Rattle.ua_reply.specs.Checks.{unless, Passes}
+use Rattle.ua_reply.specs.Operands.{element_of, place_of, value_of, values_of, vectors_of, pairs_of, IsPairIn, power_of, positive, known_in, element_in, elements_in, length_in, vector_in, vectors_in}
+use Rattle.ua_reply.proofs.CheckLaws.{parts_pass, each_passes}
 
 -- ---- elements
 
@@ -56,13 +56,6 @@ values_below k es h = all_below k es (each_passes (element_in k) es h)
 
 -- ---- vectors
 
--- an element for each coordinate of a power
-in_power : (a : FiniteAlgebra) (v : Vector) (width : ℕ) → length v ≡ width → AllByRecursion (λ x. x < a.size) v → IsVector (replicate width a) v
-in_power a [] zero e h = tt
-in_power a [] (suc n) e h = absurd (omega arith)
-in_power a (x ∷ v) zero e h = absurd (omega arith)
-in_power a (x ∷ v) (suc n) e h = (h.0, in_power a v n (omega arith) h.1)
-
 length_step : (width : ℕ) (v : Items) (b : Bool) → (length v.values == width) ≡ b → unless b v.place ≡ [] → length v.values ≡ width
 length_step width v true e h = eqb-true (length v.values) width e
 length_step width v false e h = cc
@@ -80,7 +73,7 @@ entries_pass k width v h = (parts_pass (elements_in k v.values) (length_in width
 -- a vector that passes is one of the power
 pub vector_admitted : (k : Block) (width : ℕ) (v : Items) → Passes (vector_in k width v) → IsVector (power_of k width) (values_of k v)
 vector_admitted k width v h =
-    in_power k.algebra (values_of k v) width (length-map v.values (value_of k) ∙ vector_length k width v h) (values_below k v.values (entries_pass k width v h))
+    in_power k.algebra width (values_of k v) (length-map v.values (value_of k) ∙ vector_length k width v h) (values_below k v.values (entries_pass k width v h))
 
 all_admitted : (k : Block) (width : ℕ) (vs : List Items) → AllByRecursion (λ v. Passes (vector_in k width v)) vs → AllByRecursion (IsVector (power_of k width)) (vectors_of k vs)
 all_admitted k width [] h = tt

@@ -9,19 +9,9 @@ use Rattle.std.proofs.Math.Seq.{take-append_seam}
 use Rattle.std.proofs.lemmas.List.Folds.{find-append}
 use Rattle.std.proofs.lemmas.Bool.Decides.{Decides-eqb}
 use Rattle.std.proofs.lemmas.Slice.Eq.{slice_eq-Decides}
+use Rattle.ua_table.proofs.Lists.{slice_get-append_left, slice_get-push}
 use Rattle.ua_text.specs.declared.named.Block.{Block}
 use Rattle.ua_reply.specs.Sessions.{lookup, IsPlace, ArePlaces}
-
--- ---- one more at the end of a list
-
-at_left : {X : Type 0} (xs ys : List X) (i : ℕ) → i < length xs → slice_get (xs ++ ys) i ≡ slice_get xs i
-at_left [] ys i h = absurd (omega (arith, h))
-at_left (x ∷ xs) ys zero h = refl
-at_left (x ∷ xs) ys (suc i) h = at_left xs ys i (omega (arith, h))
-
-at_end : {X : Type 0} (xs : List X) (y : X) → slice_get (xs ++ y ∷ []) (length xs) ≡ Some y
-at_end [] y = refl
-at_end (x ∷ xs) y = at_end xs y
 
 -- ---- one more name
 
@@ -47,7 +37,7 @@ kept s k name (Some i) h other =
     let there = slice_get-get_or s i k h.0 in
     let len = length-append s (k ∷ []) in (
       (let l = h.0 in omega (arith, l, len)),
-      at_left s (k ∷ []) i h.0 ∙ there ∙ sym (still_found s k _ name (sym h.1 ∙ there)),
+      slice_get-append_left s (k ∷ []) i h.0 ∙ there ∙ sym (still_found s k _ name (sym h.1 ∙ there)),
       ap (λ (t : List Block). lookup t name) (take-append-le i s (k ∷ []) (let l = h.0 in omega (arith, l))) ∙ h.2,
     )
 
@@ -63,7 +53,7 @@ places_more s k old new h none update name = at (has_name name k) refl
         let len = length-append s (k ∷ []) in
         subst (IsPlace (s ++ k ∷ []) name) (sym (update name ∙ ap (λ b. cond b (Some (length s)) (old name)) e)) (
           omega (arith, len),
-          at_end s k ∙ sym (found_last s k name true absent e),
+          slice_get-push s k ∙ sym (found_last s k name true absent e),
           ap (λ (t : List Block). lookup t name) (take-append_seam s (k ∷ [])) ∙ absent,
         )
     at false e = subst (IsPlace (s ++ k ∷ []) name) (sym (update name ∙ ap (λ b. cond b (Some (length s)) (old name)) e)) (kept s k name (old name) (h name) (λ _. e))

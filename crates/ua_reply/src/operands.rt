@@ -5,7 +5,6 @@ ghost use Rattle.std.specs.List.{AllByRecursion};
 ghost use Rattle.ua_table.specs.declared.limits.TheConstants.{BUDGET};
 ghost use Rattle.ua_table.specs.Algebras.{IsVector, arities_of};
 ghost use Rattle.ua_table.specs.Numbering.{records};
-ghost use Rattle.ua_term.specs.Meanings.{first_place};
 ghost use Rattle.ua_close.specs.Answers.{IsCause};
 ghost use Rattle.ua_reply.specs.Checks.{AreFirst, Passes};
 ghost use Rattle.ua_reply.specs.Operands.{element_of, place_of, value_of, values_of, vectors_of, power_of, positive, variables_checks, element_in, elements_in, length_in, vector_in, vectors_in, term_in, pair_of, pairs_of, IsPairIn};

@@ -5,6 +5,8 @@ use Rattle.std.proofs.lemmas.List.{take-append-le, take-take, length-take, take_
 use Rattle.std.proofs.Math.Seq.{take-append-add}
 use Rattle.std.specs.List.{AllByRecursion}
 use Rattle.std.specs.Io.KnownBytes.{Appends}
+use Rattle.std.proofs.KnownBytes.{Appends-trans, Appends-nil}
+use Rattle.ua_table.proofs.Lists.{all_push}
 use Rattle.ua_io.specs.Faults.{AppendsFront}
 use Rattle.ua_text.specs.declared.named.Block.{Block}
 use Rattle.ua_script.specs.declared.script.Command.{Command}
@@ -20,7 +22,7 @@ use Rattle.ua_shell.specs.declared.serve.Served.{Served}
 use Rattle.ua_shell.specs.declared.serve.Served.TheVariants as served
 use Rattle.ua_shell.specs.Served.{IsWritten, Serves}
 use Rattle.ua_shell.specs.Hearing.{IsReady, Tells, IsHeard, Hears, AreTold, TellsAll, bytes_of}
-use Rattle.ua_shell.proofs.Serving.{Serving, serving_start, serving_block, serving_command, serving_stop, serving_cut, serving_end, Appends_then, appends_nothing, Rose_since}
+use Rattle.ua_shell.proofs.Serving.{Serving, serving_start, serving_block, serving_command, serving_stop, serving_cut, serving_end, Rose_since}
 
 -- ---- a session that grows
 
@@ -54,10 +56,6 @@ each_before s t b kept [] ready [] each = tt
 each_before s t b kept [] ready (r ∷ rs) each = each
 each_before s t b kept (h ∷ hs) ready [] each = each
 each_before s t b kept (h ∷ hs) ready (r ∷ rs) each = (told_before s t b kept h ready.0 r each.0, each_before s t b kept hs ready.1 rs each.1)
-
-all_more : {X : Type 0} (P : X → Type 0) (xs : List X) (x : X) → AllByRecursion P xs → P x → AllByRecursion P (xs ++ x ∷ [])
-all_more P [] x all last = (last, tt)
-all_more P (y ∷ xs) x all last = (all.0, all_more P xs x all.1 last)
 
 -- ---- one reply more
 
@@ -117,7 +115,7 @@ quiet b whole old new s rest sofar appended serving =
 pub heard_start : (b : Bounds) (whole : List Item) (old : Option (List ℕ)) (s : List Block) (heard : List Heard) → s ≡ [] → heard ≡ [] → HasHeard b whole old old s heard whole
 heard_start b whole old s heard e f =
     subst (λ (t : List Block). HasHeard b whole old old t heard whole) (sym e)
-    (subst (λ (hs : List Heard). HasHeard b whole old old [] hs whole) (sym f) (quiet b whole old old [] whole [] (appends_nothing old) (serving_start b whole)))
+    (subst (λ (hs : List Heard). HasHeard b whole old old [] hs whole) (sym f) (quiet b whole old old [] whole [] (Appends-nil old) (serving_start b whole)))
 
 heard_block : (b : Bounds) (whole : List Item) (old new : Option (List ℕ)) (s t : List Block) (heard : List Heard) (k : Block) (i : ℕ) → drop i whole ≡ items.Block k ∷ drop (i + 1) whole → t ≡ s ++ k ∷ []
     → HasHeard b whole old new s heard (drop i whole) → HasHeard b whole old new t heard (drop (i + 1) whole)
@@ -164,7 +162,7 @@ heard_command b whole old new s t heard more c h i e is f has =
           let end = ends_with t b heard h replies each in
           subst (λ bytes. BegunFrom [] b whole (has.sofar ++ take n bytes)) (sym end.bytes)
           (cut_more b whole s t c rest has.sofar (bytes_of end.first) end.last n (is.says end.last end.told) (here end.first (before end.first end.each)) (has.cut end.first n (before end.first end.each)));
-      ready = all_more (IsReady t) heard h (all_ready_more s t is.kept heard has.ready) is.ready;
+      ready = all_push (IsReady t) heard h (all_ready_more s t is.kept heard has.ready) is.ready;
     })
 
 pub heard_item : (b : Bounds) (whole : List Item) (old new : Option (List ℕ)) (s t : List Block) (before after : List Heard) (x : Item) (i : ℕ) → drop i whole ≡ x ∷ drop (i + 1) whole → Hears b x s t before after
@@ -178,7 +176,7 @@ pub heard_told : (b : Bounds) (whole : List Item) (old new after : Option (List 
     → HasHeard b whole old new s heard rest → HasHeard b whole old after s none rest
 heard_told b whole old new after s heard none rest e told h =
     subst (λ (hs : List Heard). HasHeard b whole old after s hs rest) (sym e)
-    (quiet b whole old after s rest (h.sofar ++ bytes_of told.replies) (Appends_then old new after h.sofar (bytes_of told.replies) h.appended told.written) (h.serving told.replies told.each))
+    (quiet b whole old after s rest (h.sofar ++ bytes_of told.replies) (Appends-trans old new after h.sofar (bytes_of told.replies) h.appended told.written) (h.serving told.replies told.each))
 
 -- nothing more is told
 heard_stop : (b : Bounds) (whole : List Item) (old new : Option (List ℕ)) (s : List Block) (heard : List Heard) (rest : List Item) → HasHeard b whole old new s heard rest → IsWritten old new (BegunFrom [] b whole)
@@ -190,7 +188,7 @@ heard_cut : (b : Bounds) (whole : List Item) (old new after : Option (List ℕ))
 heard_cut b whole old new after s heard rest told h = record {
   out = h.sofar ++ take told.written.0 (bytes_of told.replies);
   kind = h.cut told.replies told.written.0 told.each;
-  appended = Appends_then old new after h.sofar (take told.written.0 (bytes_of told.replies)) h.appended told.written.1;
+  appended = Appends-trans old new after h.sofar (take told.written.0 (bytes_of told.replies)) h.appended told.written.1;
 }
 
 -- all items are heard, and what was heard of them is told
@@ -199,7 +197,7 @@ heard_all : (b : Bounds) (whole : List Item) (old new after : Option (List ℕ))
 heard_all b whole old new after s heard rest none told h = record {
   out = h.sofar ++ bytes_of told.replies;
   kind = serving_end b whole s (h.sofar ++ bytes_of told.replies) (subst (λ (is : List Item). Serving b whole s is (h.sofar ++ bytes_of told.replies)) none (h.serving told.replies told.each));
-  appended = Appends_then old new after h.sofar (bytes_of told.replies) h.appended told.written;
+  appended = Appends-trans old new after h.sofar (bytes_of told.replies) h.appended told.written;
 }
 
 -- what was heard is told, and no items are left; or it is not told

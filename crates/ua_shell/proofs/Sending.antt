@@ -4,9 +4,9 @@ use Rattle.std.proofs.Math.Nat.{min-le_right}
 use Rattle.std.proofs.Math.Seq.{take-append-add}
 use Rattle.std.proofs.lemmas.List.{take-append-le, take_min}
 use Rattle.std.specs.Io.KnownBytes.{Appends}
+use Rattle.std.proofs.KnownBytes.{Appends-trans}
 use Rattle.ua_io.specs.Faults.{AppendsFront}
 use Rattle.ua_shell.specs.Hearing.{bytes_of}
-use Rattle.ua_shell.proofs.Serving.{Appends_then}
 
 pub on_err : {A E : Type 0} {P : Type 0} (r : Result A E) → P → OnErr r P
 on_err (Ok x) p = tt
@@ -32,4 +32,4 @@ front_sent old new after replies i r within is sofar sent =
     let front : take n (r.items ++ behind) ≡ take sent.0 r.items = take-append-le n r.items behind (min-le_right sent.0 (length r.items)) ∙ take_min sent.0 r.items in
     let same : take (length before + n) (bytes_in replies) ≡ before ++ take sent.0 r.items =
     ap (take (length before + n)) (bytes_at replies i r within is) ∙ take-append-add before (r.items ++ behind) n ∙ ap (λ bytes. before ++ bytes) front in
-    (length before + n, subst (Appends old after) (sym same) (Appends_then old new after before (take sent.0 r.items) sofar sent.1))
+    (length before + n, subst (Appends old after) (sym same) (Appends-trans old new after before (take sent.0 r.items) sofar sent.1))

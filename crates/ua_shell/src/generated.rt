@@ -1,6 +1,6 @@
 //! The script that is generated from a number.
 
-ghost use Rattle.std.specs.Prelude.{◌≡◌, ◌≤◌, ◌*◌, codes, IfOk, OnOk};
+ghost use Rattle.std.specs.Prelude.{◌≡◌, ◌≤◌, codes, IfOk, OnOk};
 ghost use Rattle.ua_prod.specs.Draws.{state_after};
 ghost use Rattle.ua_script.specs.Grammar.{forms_built, IsWellFormed};
 ghost use Rattle.ua_words.specs.declared.words.TheConstants.{SEED};

@@ -3,9 +3,9 @@ use Rattle.std.proofs.Common.{◌≡◌, ℕ, suc, ◌+◌, ◌<◌, List, [], �
 use Rattle.std.specs.Prelude.{Contains, Result, Ok, Err}
 use Rattle.std.specs.List.{AllByRecursion}
 use Rattle.std.proofs.Math.Seq.{drop-cons}
-use Rattle.std.proofs.lemmas.List.{take-append-drop, map-append, take_more}
+use Rattle.std.proofs.lemmas.List.{take-append-drop, map-append, take_more, get_or_default}
 use Rattle.ua_table.specs.Algebras.{FiniteAlgebra}
-use Rattle.ua_table.proofs.Lists.{all_append, any_default}
+use Rattle.ua_table.proofs.Lists.{all_append}
 use Rattle.ua_close.specs.declared.close.CloseError.{CloseError}
 use Rattle.ua_close.specs.declared.close.CloseError.TheVariants.{Wide, OutOfMemory}
 use Rattle.ua_part.specs.Partitions.{Partition}
@@ -20,8 +20,8 @@ pub cover_is : (a : FiniteAlgebra) (list : List Partition) (pairs : List (ℕ ×
 cover_is a list pairs i j all covers c =
     let h = (covers.all i j).0 c in
     record {
-      lower = (all.all (at list i)).0 (i, h.0, any_default list i (at list i) [] h.0);
-      upper = (all.all (at list j)).0 (j, h.1, any_default list j (at list j) [] h.1);
+      lower = (all.all (at list i)).0 (i, h.0, get_or_default list i (at list i) [] h.0);
+      upper = (all.all (at list j)).0 (j, h.1, get_or_default list j (at list j) [] h.1);
       below = h.2.below;
       differ = h.2.differ;
       next = λ r cr low high apart. h.2.next r ((all.all r).1 cr) low high apart;
@@ -60,7 +60,7 @@ module _ (a : FiniteAlgebra) (list : List Partition) (covers : List (ℕ × ℕ)
   cover = get_or covers k (0, 0)
 
   contained : Contains covers cover
-  contained = (k, w, any_default covers k cover (0, 0) w)
+  contained = (k, w, get_or_default covers k cover (0, 0) w)
 
   pub lower_within : cover.0 < length list
   lower_within = ((are.all cover.0 cover.1).0 contained).0
@@ -69,10 +69,10 @@ module _ (a : FiniteAlgebra) (list : List Partition) (covers : List (ℕ × ℕ)
   upper_within = ((are.all cover.0 cover.1).0 contained).1
 
   pub lower_read : (p : Partition) → p ≡ get_or list cover.0 p → p ≡ at list cover.0
-  lower_read p read = read ∙ any_default list cover.0 p [] lower_within
+  lower_read p read = read ∙ get_or_default list cover.0 p [] lower_within
 
   pub upper_read : (q : Partition) → q ≡ get_or list cover.1 q → q ≡ at list cover.1
-  upper_read q read = read ∙ any_default list cover.1 q [] upper_within
+  upper_read q read = read ∙ get_or_default list cover.1 q [] upper_within
 
   pub cover_read : (p q : Partition) → p ≡ get_or list cover.0 p → q ≡ get_or list cover.1 q → IsCover a p q
   cover_read p q p_is q_is = subst (λ r. IsCover a r q) (sym (lower_read p p_is)) (subst (IsCover a (at list cover.0)) (sym (upper_read q q_is)) (cover_is a list covers cover.0 cover.1 all are contained))

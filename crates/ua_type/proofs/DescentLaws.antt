@@ -4,9 +4,11 @@ use Rattle.std.specs.Prelude.{Contains, IsTrue, ◌↔◌, slice_index, slice_in
 use Rattle.std.specs.List.{AllByRecursion}
 use Rattle.std.specs.Option.{IsSomeAnd}
 use Rattle.std.proofs.lemmas.Bool.{cases_lt}
+use Rattle.std.proofs.lemmas.List.{get_or_default}
+use Rattle.std.proofs.lemmas.Option.{get_or_from_slice_get}
 use Rattle.ua_table.specs.Algebras.{Vector, FiniteAlgebra, IsAlgebra}
 use Rattle.ua_table.specs.Listings.{Row, vectors_of}
-use Rattle.ua_table.proofs.Lists.{any_default, get_or-slice_get, Contains-slice_get, all_append, all_weaker}
+use Rattle.ua_table.proofs.Lists.{Contains-slice_get, all_append, all_weaker}
 use Rattle.ua_table.proofs.ListingLaws.{closed_has_no_more}
 use Rattle.ua_type.specs.declared.known.SubtracePair.{SubtracePair}
 use Rattle.ua_type.specs.declared.descents.Descent.{Descent}
@@ -75,7 +77,7 @@ module _ (b : FiniteAlgebra) (budget : ℕ) where
         (λ less. before j less)
         (λ more.
         let is : i ≡ j = omega (arith, more, w) in
-        let here = get_or-slice_get (vectors_of d.list) i row [] at in
+        let here = get_or_from_slice_get (vectors_of d.list) i row [] at in
         subst (λ k. GoesBack b (slice_index_or (vectors_of d.list) k []) d.pair) is (subst (λ v. GoesBack b v d.pair) (sym here) back))
         (cases_lt j i)
 
@@ -88,7 +90,7 @@ module _ (b : FiniteAlgebra) (budget : ℕ) where
   all_back d n h all back c e g apart =
       let vs = vectors_of d.list in
       let in_it = (h.closed.exact (c ∷ e ∷ [])).1 g in
-      let at : slice_index_or vs in_it.0 [] ≡ c ∷ e ∷ [] = any_default vs in_it.0 [] (c ∷ e ∷ []) in_it.1 ∙ in_it.2 in
+      let at : slice_index_or vs in_it.0 [] ≡ c ∷ e ∷ [] = get_or_default vs in_it.0 [] (c ∷ e ∷ []) in_it.1 ∙ in_it.2 in
       let low = in_it.1 in
       subst (λ v. GoesBack b v d.pair) at (back in_it.0 (omega (arith, low, all))) apart
 

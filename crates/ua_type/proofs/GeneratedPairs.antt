@@ -1,15 +1,15 @@
 -- What pairs generate: themselves, the constants, and what the pairs that they generate generate.
-use Rattle.std.proofs.Common.{◌≡◌, ℕ, suc, List, [], ◌∷◌, length, replicate, refl, sym, ap, ◌∙◌, subst, arith, Some, length-append}
+use Rattle.std.proofs.Common.{◌≡◌, ℕ, List, [], ◌∷◌, length, replicate, refl, sym, ap, ◌∙◌, subst, arith, Some, length-append}
 use Rattle.std.specs.Prelude.{Contains, slice_index, slice_get}
 use Rattle.std.specs.List.{AllByRecursion, AllZip, range_with_len}
-use Rattle.std.proofs.lemmas.List.{length-map}
+use Rattle.std.proofs.lemmas.List.{length-map, get_or_default}
 use Rattle.std.proofs.lemmas.List.Elements.{All-from_recursion, Contains-append_left, Contains-append_right}
 use Rattle.ua_table.specs.Algebras.{Vector, FiniteAlgebra, Product, arities_of, arities, column}
-use Rattle.ua_table.specs.Terms.{Tree, Generator, Application, Trees, none, more, count_of, IsTerm, AreTerms, term_value, term_values, eval}
+use Rattle.ua_table.specs.Terms.{Tree, Generator, Application, Trees, none, more, IsTerm, AreTerms, term_value, term_values, eval}
 use Rattle.ua_table.specs.Generated.{Sg}
-use Rattle.ua_table.proofs.Lists.{any_default, Contains-head, all_append, all_from_contains, all_map, all_weaker}
+use Rattle.ua_table.proofs.Lists.{Contains-head, all_append, all_from_contains, all_map, all_weaker}
 use Rattle.ua_table.proofs.Choices.{range_low}
-use Rattle.ua_table.proofs.GeneratedLaws.{generator_in, result_in}
+use Rattle.ua_table.proofs.GeneratedLaws.{generator_in, result_in, length-term_values}
 use Rattle.ua_table.proofs.TermLaws.{value_is_eval}
 use Rattle.ua_part.specs.Partitions.{Partition, SameBlock}
 use Rattle.ua_part.proofs.PartitionLaws.{same_itself}
@@ -21,11 +21,7 @@ use Rattle.ua_type.specs.Trials.{HasMorePairs}
 -- ---- generated vectors
 
 pub member_in : (p : Product) (gens : List Vector) (v : Vector) → Contains gens v → Sg p gens v
-member_in p gens v c = subst (Sg p gens) (any_default gens c.0 [] v c.1 ∙ c.2) (generator_in p gens c.0 c.1)
-
-length-term_values : (p : Product) (gens : List Vector) (ts : Trees) → length (term_values p gens ts) ≡ count_of ts
-length-term_values p gens none = refl
-length-term_values p gens (more t ts) = ap suc (length-term_values p gens ts)
+member_in p gens v c = subst (Sg p gens) (get_or_default gens c.0 [] v c.1 ∙ c.2) (generator_in p gens c.0 c.1)
 
 -- what generated vectors generate is generated
 module _ (p : Product) (gens others : List Vector) (holds : AllByRecursion (Sg p gens) others) where

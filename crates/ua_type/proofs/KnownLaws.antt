@@ -5,9 +5,10 @@ use Rattle.std.specs.List.{AllByRecursion}
 use Rattle.std.specs.Option.{IsSomeAnd}
 use Rattle.std.specs.HashSet.{contains}
 use Rattle.std.proofs.lemmas.Bool.{cases_lt, eq-eqb}
+use Rattle.std.proofs.lemmas.List.{get_or_default}
 use Rattle.ua_table.specs.Algebras.{Vector, FiniteAlgebra}
 use Rattle.ua_table.specs.Listings.{Row, vectors_of}
-use Rattle.ua_table.proofs.Lists.{any_default, all_at}
+use Rattle.ua_table.proofs.Lists.{all_at}
 use Rattle.ua_table.proofs.ListingLaws.{closed_has_no_more}
 use Rattle.ua_part.specs.Labels.{same_labels}
 use Rattle.ua_part.specs.Partitions.{Partition, SameBlock}
@@ -250,7 +251,7 @@ pub met_all : (old new : Option SubtracePair) (vs : List Vector) (n : ℕ) → l
 met_all old new vs n all h = record {
   comes = h.comes;
   none_before = λ c d there apart.
-      let at : slice_index_or vs there.0 [] ≡ c ∷ d ∷ [] = any_default vs there.0 [] (c ∷ d ∷ []) there.1 ∙ there.2 in
+      let at : slice_index_or vs there.0 [] ≡ c ∷ d ∷ [] = get_or_default vs there.0 [] (c ∷ d ∷ []) there.1 ∙ there.2 in
       let low = there.1 in
       subst (λ (v : Vector). slice_index v 0 ≢ slice_index v 1 → IsSomeAnd new (λ m. ¬ IsBefore (slice_index v 0) (slice_index v 1) m.low m.high)) at (h.none_before there.0 (omega (arith, low, all))) apart;
   old_not_before = h.old_not_before;

@@ -4,6 +4,7 @@ use Rattle.std.specs.Prelude.{slice_index}
 use Rattle.std.specs.List.{AllByRecursion, range_with_len}
 use Rattle.std.proofs.lemmas.List.{length-map, get_or-map, ext_get_or}
 use Rattle.std.proofs.lemmas.List.FromFn.{length-map-range_with_len, get_or-map-range_with_len}
+use Rattle.std.proofs.lemmas.Simd.{map-map}
 use Rattle.ua_table.specs.Algebras.{Operation, FiniteAlgebra, IsAlgebra, IsOperation, arities_of, value_at, numeral}
 use Rattle.ua_table.proofs.ApplyLemmas.{value-below, numeral-below}
 use Rattle.ua_table.proofs.Lists.{found, mapped_at}
@@ -15,7 +16,7 @@ use Rattle.ua_prod.specs.Constructions.{value_of, tuples_among, blocks_below, re
 use Rattle.ua_prod.proofs.BlockNumbers.{some_blocks, all_numbers}
 use Rattle.ua_prod.proofs.ClashLaws.{arity_is, size_is, value_is}
 use Rattle.ua_prod.proofs.RenumberingLaws.{all_mapped, read_below}
-use Rattle.ua_prod.proofs.TupleLaws.{count_tuples, tuples_mapped, map_map}
+use Rattle.ua_prod.proofs.TupleLaws.{count_tuples, tuples_mapped}
 use Rattle.ua_term.specs.Assignments.{IsAssignment}
 use Rattle.ua_term.proofs.AssignmentLaws.{assignment_stands, assignment_below, length_assignments}
 use Rattle.ua_type.specs.Quotients.{quotient_by, leader_of, image_of}
@@ -43,7 +44,7 @@ tuple_at members xs h =
     ∙ ap (map (slice_index members)) (assignment_stands n (length xs) xs assigned)
 
 pub same_arities : (members numbers : List ℕ) (os : List Operation) → map (λ (o : Operation). o.arity) (map (renumbered members numbers) os) ≡ map (λ (o : Operation). o.arity) os
-same_arities members numbers os = map_map (λ (o : Operation). o.arity) (renumbered members numbers) os
+same_arities members numbers os = map-map (λ (o : Operation). o.arity) (renumbered members numbers) os
 
 module _ (a : FiniteAlgebra) (p : Partition) (alg : IsAlgebra a) (cp : IsCongruence a p) where
   abbrev numbers : List ℕ

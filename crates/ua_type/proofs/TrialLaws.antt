@@ -17,14 +17,12 @@ use Rattle.ua_close.specs.declared.reaches.Reach.{Reach}
 use Rattle.ua_close.specs.declared.reaches.Reach.TheVariants as reaches
 use Rattle.ua_work.specs.declared.goals.Goal.TheVariants.{Target}
 use Rattle.ua_close.specs.Permitted.{MayClose, MayReach}
-use Rattle.ua_part.specs.Partitions.{Partition, SameBlock}
 use Rattle.ua_close.proofs.KindLaws.{members_vectors}
 use Rattle.ua_table.specs.declared.limits.TheConstants.{CELLS}
 use Rattle.ua_type.specs.Subtraces.{pair_generators, Generates}
 use Rattle.ua_type.specs.Trials.{HasMorePairs, ArePairsNarrow, ArePairsWide}
-use Rattle.ua_type.specs.declared.trials.Trial.{Trial}
-use Rattle.ua_type.specs.declared.trials.Trial.TheVariants.{Found, Vain, Beyond}
-use Rattle.ua_type.specs.Outcomes.{GoesBack, MayTry, MayTryRelated}
+use Rattle.ua_type.specs.declared.trials.Trial.TheVariants.{Beyond}
+use Rattle.ua_type.specs.Outcomes.{GoesBack, MayTry}
 use Rattle.ua_type.specs.Descents.{IsLacking}
 use Rattle.ua_type.proofs.GeneratedPairs.{generates_itself, no_more_pairs, same_count}
 use Rattle.ua_type.proofs.PairLaws.{square-IsProduct, pair_vectors, ArePair, pair_from}

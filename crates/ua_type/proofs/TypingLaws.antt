@@ -1,8 +1,8 @@
 -- What is told in a quotient is told of the cover.
 use Rattle.std.proofs.Common.{◌≡◌, inl, inr, ℕ, ◌<◌, List, length, get_or, sym, ap, ◌∙◌, subst, arith, Some}
 use Rattle.std.specs.Prelude.{slice_index, Option, None, Result, Ok, Err}
+use Rattle.std.proofs.lemmas.List.{get_or_default}
 use Rattle.ua_table.specs.Algebras.{FiniteAlgebra}
-use Rattle.ua_table.proofs.Lists.{any_default}
 use Rattle.ua_close.specs.declared.close.CloseError.{CloseError}
 use Rattle.ua_close.specs.declared.close.CloseError.TheVariants.{Wide, OutOfMemory}
 use Rattle.ua_part.specs.Partitions.{Partition}
@@ -30,7 +30,7 @@ module _ (a : FiniteAlgebra) (alpha beta : Partition) (budget : ℕ) (made : Quo
   typed x y r h = subst (λ b. MayHaveType b budget x y r) is.algebra_is h
 
   leader_read : (k leader : ℕ) → k < length made.leaders.items → leader ≡ get_or made.leaders.items k leader → leader ≡ leader_of alpha k
-  leader_read k leader w at = at ∙ any_default made.leaders.items k leader 0 w ∙ ap (λ (ls : List ℕ). slice_index ls k) is.leaders_are
+  leader_read k leader w at = at ∙ get_or_default made.leaders.items k leader 0 w ∙ ap (λ (ls : List ℕ). slice_index ls k) is.leaders_are
 
   pub pair_low : (pair : SubtracePair) → IsFound made.algebra made.theta budget pair → pair.low < made.algebra.size
   pair_low pair h = let l = h.first.subtrace.related.left in let n = is.congruence.size in omega (arith, l, n)

@@ -1,6 +1,6 @@
 //! The type of a subtrace, by the squares that it generates.
 
-ghost use Rattle.std.specs.Prelude.{◌≡◌, ℕ, ◌<◌, ◌≤◌, ◌↔◌, [], ◌∷◌, Contains, IsTrue, replicate};
+ghost use Rattle.std.specs.Prelude.{ℕ, ◌<◌, ◌≤◌, ◌↔◌, [], ◌∷◌, Contains, IsTrue, replicate};
 ghost use Rattle.ua_table.specs.declared.limits.TheConstants.{SIZE};
 ghost use Rattle.ua_table.specs.Listings.{vectors_of, IsClosedListing};
 ghost use Rattle.ua_type.specs.Subtraces.{Generates};

@@ -2,10 +2,10 @@ use Rattle.std.proofs.Common.{◌≡◌, ◌+◌, ◌<◌, List, [], ◌∷◌, 
 use Rattle.std.specs.List.{AllByRecursion}
 use Rattle.std.proofs.lemmas.List.{take_all}
 use Rattle.ua_table.specs.Algebras.{Vector}
+use Rattle.ua_table.proofs.Lists.{all_get_or}
 use Rattle.ua_operands.specs.declared.written.Items.{Items}
 use Rattle.ua_reply.specs.Checks.{Passes}
 use Rattle.ua_reply.specs.Operands.{vectors_of, vector_in}
-use Rattle.ua_reply.proofs.CheckLaws.{holds_at}
 use Rattle.ua_answer_conditions.proofs.WrittenTables.{vectors_pass, point_is, points_are}
 use Rattle.ua_answer_conditions.proofs.clone.vectors_of.Goals as goal
 
@@ -25,7 +25,7 @@ vector-requires-in-loop-v c =
     let k = c.args.k in
     let v = c.v-item.result in
     let all = (vectors_pass b k [] (c.args.first.now ∷ c.args.others.now) c.requires.checks).1 in
-    record { passed = subst (λ (u : Items). Passes (vector_in b (k + 1) u)) (sym c.v-item.is) (holds_at (λ u. Passes (vector_in b (k + 1) u)) c.args.others.now c.loop-v.v-index v all c.loop-v-test.true) }
+    record { passed = subst (λ (u : Items). Passes (vector_in b (k + 1) u)) (sym c.v-item.is) (all_get_or (λ u. Passes (vector_in b (k + 1) u)) c.args.others.now c.loop-v.v-index v c.loop-v-test.true all) }
 
 pub add-requires-in-loop-v-clause-width : goal.add-requires-in-loop-v-clause-width
 add-requires-in-loop-v-clause-width c =
@@ -33,7 +33,7 @@ add-requires-in-loop-v-clause-width c =
     let k = c.args.k in
     let v = c.v-item.result in
     let all = (vectors_pass b k [] (c.args.first.now ∷ c.args.others.now) c.requires.checks).1 in
-    let p = subst (λ (u : Items). Passes (vector_in b (k + 1) u)) (sym c.v-item.is) (holds_at (λ u. Passes (vector_in b (k + 1) u)) c.args.others.now c.loop-v.v-index v all c.loop-v-test.true) in
+    let p = subst (λ (u : Items). Passes (vector_in b (k + 1) u)) (sym c.v-item.is) (all_get_or (λ u. Passes (vector_in b (k + 1) u)) c.args.others.now c.loop-v.v-index v c.loop-v-test.true all) in
     ap length (c.deref-in-loop-v.ensures.value ∙ c.in_ok-row-2.ensures.values) ∙ (point_is b k v p).0 ∙ sym c.loop-v.invariant.width
 
 pub returns-clause-table : goal.returns-clause-table

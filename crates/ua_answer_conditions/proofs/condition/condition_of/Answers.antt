@@ -1,8 +1,8 @@
 use Rattle.std.proofs.Common.{◌≡◌, ◌<◌, ◌≤◌, get_or, map, subst, sym, ap, ◌∙◌, arith}
 use Rattle.std.specs.List.{AllByRecursion}
 use Rattle.std.proofs.lemmas.List.{take_all}
+use Rattle.ua_table.proofs.Lists.{all_get_or}
 use Rattle.ua_identity.specs.Conditions.{IsCondition}
-use Rattle.ua_reply.proofs.CheckLaws.{holds_at}
 use Rattle.ua_answer_conditions.specs.ConditionCommand.{numbers_in, variables_in, identity_of}
 use Rattle.ua_answer_conditions.proofs.WrittenConditions.{all_named, few_places, is_condition}
 use Rattle.ua_answer_conditions.proofs.condition.condition_of.Goals as goal
@@ -13,7 +13,7 @@ identity_of-requires-clause-named c =
     let i = c.identity-item.result in
     subst (λ i. AllByRecursion (λ v. v < c.variables_in-variables.result) (numbers_in i)) (sym c.identity-item.is)
     (subst (λ n. AllByRecursion (λ v. v < n) (numbers_in (get_or is c.loop-identity.identity-index i))) (sym c.variables_in-variables.ensures.variables)
-    (holds_at (λ i. AllByRecursion (λ v. v < variables_in is) (numbers_in i)) is c.loop-identity.identity-index i (all_named is) c.loop-identity-test.true))
+    (all_get_or (λ i. AllByRecursion (λ v. v < variables_in is) (numbers_in i)) is c.loop-identity.identity-index i c.loop-identity-test.true (all_named is)))
 
 pub overflow_cast-arity : goal.overflow_cast-arity
 overflow_cast-arity c =

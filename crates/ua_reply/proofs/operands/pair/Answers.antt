@@ -1,4 +1,4 @@
-use Rattle.std.proofs.Common.{◌≡◌, List, length, map, slice_index, sym, ap, ◌∙◌, subst, arith}
+use Rattle.std.proofs.Common.{List, length, map, slice_index, sym, ap, ◌∙◌, subst, arith}
 use Rattle.ua_operands.specs.declared.written.Entry.{Entry}
 use Rattle.ua_reply.specs.Checks.{Passes}
 use Rattle.ua_reply.specs.Operands.{value_of, element_in, elements_in}

@@ -1,7 +1,7 @@
-use Rattle.std.proofs.Common.{◌≡◌, ℕ, List, Err, false, true, ap, sym, ◌∙◌, subst}
+use Rattle.std.proofs.Common.{◌≡◌, ℕ, List, Err, ap, sym, ◌∙◌, subst}
 use Rattle.std.specs.Prelude.{Some}
 use Rattle.ua_part.specs.Blocks.{AreBlocks, members_of, first_beyond}
-use Rattle.ua_reply.specs.Parts.{blocks_of, are_blocks}
+use Rattle.ua_reply.specs.Parts.{blocks_of}
 use Rattle.ua_reply.proofs.PartLaws.{blocks_there, blocks_false, blocks_beyond}
 use Rattle.ua_reply.proofs.parts.is_partition.Goals as goal
 

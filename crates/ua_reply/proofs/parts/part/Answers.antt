@@ -1,9 +1,9 @@
-use Rattle.std.proofs.Common.{◌≡◌, ℕ, List, Err, false, true, ap, sym, ◌∙◌, subst}
+use Rattle.std.proofs.Common.{◌≡◌, ℕ, List, Err, ap, sym, ◌∙◌, subst}
 use Rattle.std.specs.Prelude.{Some}
 use Rattle.std.proofs.lemmas.Bool.{false≢true}
 use Rattle.ua_table.specs.Algebras.{FiniteAlgebra}
-use Rattle.ua_part.specs.Blocks.{AreBlocks, HasBlocks, members_of, first_beyond}
-use Rattle.ua_reply.specs.Parts.{blocks_of, are_blocks, part_in}
+use Rattle.ua_part.specs.Blocks.{AreBlocks, members_of, first_beyond}
+use Rattle.ua_reply.specs.Parts.{blocks_of}
 use Rattle.ua_reply.proofs.PartLaws.{blocks_true, blocks_beyond, part_blocks}
 use Rattle.ua_reply.proofs.parts.part.Goals as goal
 

@@ -3,8 +3,9 @@ use denote.Param.Send.{sendable, arg_sync, param_sync}
 use denote.Exit.{no}
 use mir.Syntax.{named}
 use Rattle.ua_table.proofs.Lists.{all_weaker}
+use Rattle.ua_table.proofs.Results.{IfOk-both}
 use Rattle.ua_jobs.specs.Harvests.{IsAnswer, numbered}
-use Rattle.ua_jobs.proofs.OrderLaws.{answer_each, of_both}
+use Rattle.ua_jobs.proofs.OrderLaws.{answer_each}
 use Rattle.ua_reply.specs.Sessions.{bounds_of}
 use Rattle.ua_shell.specs.declared.hearing.Heard.{Heard}
 use Rattle.ua_shell.specs.Hearing.{Tells}
@@ -25,7 +26,7 @@ returns g c =
     let b = bounds_of c.args.run.now.budget c.args.run.now.workers in
     let hs = c.args.heard.now in
     let permits : Heard → Vec ℕ Global → Type 0 = λ h v. Tells s b h v.items in
-    of_both c.batch_with.result _ _ _
+    IfOk-both c.batch_with.result _ _ _
     (λ outs count answers. each_text s b hs outs.items
     (answer_each permits hs outs.items (all_weaker _ (λ a. IsAnswer permits hs a.0 a.1) (λ a gives. gives) (numbered 0 outs.items) answers) count))
     c.batch_with.ensures.count c.batch_with.ensures.answers

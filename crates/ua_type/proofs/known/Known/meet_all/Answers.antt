@@ -1,8 +1,9 @@
 use Rattle.std.proofs.Common.{◌≡◌, [], sym, subst, ◌∙◌, arith}
 use Rattle.std.specs.Prelude.{Contains, slice_index, slice_index_or}
 use Rattle.std.proofs.lemmas.List.{length-map}
+use Rattle.std.proofs.lemmas.Option.{get_or_from_slice_get}
 use Rattle.ua_table.specs.Listings.{Row, vectors_of}
-use Rattle.ua_table.proofs.Lists.{Contains-slice_get, get_or-slice_get}
+use Rattle.ua_table.proofs.Lists.{Contains-slice_get}
 use Rattle.ua_type.specs.declared.known.SubtracePair.{SubtracePair}
 use Rattle.ua_type.specs.Known.{IsPairOf}
 use Rattle.ua_type.proofs.KnownLaws.{two, met_same, met_more, met_all}
@@ -13,7 +14,7 @@ pub loop-i-preserved : goal.loop-i-preserved
 loop-i-preserved c =
     let vs = vectors_of c.args.list.now in
     let row = c.row-row.result.now in
-    let here = get_or-slice_get vs c.loop-i.i row [] c.row-row.ensures in
+    let here = get_or_from_slice_get vs c.loop-i.i row [] c.row-row.ensures in
     let there = Contains-slice_get vs c.loop-i.i row c.row-row.ensures in
     let is = two row (c.requires.pairs row there) in
     elim c.if-low-high.branch [
