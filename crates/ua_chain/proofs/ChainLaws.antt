@@ -13,12 +13,12 @@ use Rattle.ua_table.proofs.Lists.{Contains-map, Contains-map_from, Contains-flat
 use Rattle.ua_table.proofs.FrameLemmas.{arities_of_power}
 use Rattle.std.proofs.lemmas.List.Elements.{All-from_recursion, Contains-push, Contains-append_left}
 use Rattle.ua_term.specs.Assignments.{IsAssignment, assignments}
-use Rattle.ua_term.proofs.AssignmentLaws.{assignment_from, assignment_in}
+use Rattle.ua_term.proofs.AssignmentLaws.{assignment_from, assignment_in, maps_agree}
 use Rattle.ua_identity.specs.Identities.{VariablePattern, TermIdentity, filled, Satisfies}
 use Rattle.ua_identity.specs.Chains.{ChainKind, IsPlace, IsOwn, IsChain, chain_length, IsLeastChain}
 use Rattle.ua_identity.specs.Kinds.{IsKind, IsOwnIdentity, IsPatternOf, AreApart}
 use Rattle.ua_identity.specs.Patterns.{fillings, all_fillings, vector_of, place_vector, power, generators}
-use Rattle.ua_identity.proofs.PatternLaws.{AreFilled, value_is_vector, maps_agree, agree_maps}
+use Rattle.ua_identity.proofs.PatternLaws.{AreFilled, value_is_vector, agree_maps}
 
 -- ---- terms and members
 

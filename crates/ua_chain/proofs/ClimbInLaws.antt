@@ -20,6 +20,7 @@ use Rattle.ua_walk.specs.declared.ladders.Climb.{Climb}
 use Rattle.ua_walk.specs.Sequences.{BeginsWith, EndsWith}
 use Rattle.ua_walk.specs.Ladders.{LinkLists, IsAllowed, IsLeastClimb, HasNoClimb}
 use Rattle.ua_walk.specs.Climbs.{TellsClimb}
+use Rattle.ua_walk.proofs.ClimbLaws.{marked_low}
 use Rattle.ua_identity.specs.Identities.{VariablePattern, TermIdentity, Satisfies}
 use Rattle.ua_table.proofs.GeneratedLaws.{generator_in}
 use Rattle.ua_table.proofs.FrameLemmas.{arities_of_power}
@@ -160,9 +161,6 @@ serial_for a kind p gens list c h = subst (λ (q : Product). IsSerialListing q (
 
 pub row_within : (list : List Row) (i : ℕ) (v : Vector) → slice_get (vectors_of list) i ≡ Some v → i < length list
 row_within list i v e = let l = slice_get_within (vectors_of list) i v e in let n = length-map list (λ (r : Row). r.vector) in omega (arith, l, n)
-
-marked_low : (marks : List Bool) (i : ℕ) → slice_index_or marks i false ≡ true → i < length marks
-marked_low marks i h = ⊎_elim (λ low. low) (λ past. absurd (false≢true (sym (get_or_past marks i false past) ∙ h))) (cases_lt i (length marks))
 
 -- the rows of a climb are rows
 allowed_below : (allowed : List Bool) (rows : List ℕ) (n : ℕ) → length allowed ≡ n → AllByRecursion (IsAllowed allowed) rows → AllByRecursion (λ i. i < n) rows

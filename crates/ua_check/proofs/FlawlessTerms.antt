@@ -17,7 +17,7 @@ use Rattle.ua_table.proofs.Lists.{found, All-slice_get}
 use Rattle.ua_table.proofs.RefusalLemmas.{passed, refusal_if-false}
 use Rattle.ua_term.specs.Steps.{AreSteps}
 use Rattle.ua_term.specs.Assignments.{assignments}
-use Rattle.ua_term.proofs.AssignmentLaws.{assignment_from}
+use Rattle.ua_term.proofs.AssignmentLaws.{assignment_from, read_all}
 use Rattle.ua_walk.specs.Sequences.{Alternates, BeginsWith, EndsWith}
 use Rattle.ua_identity.specs.Identities.{TermIdentity, at_pattern, Satisfies}
 use Rattle.ua_identity.specs.Conditions.{Meets}
@@ -38,7 +38,6 @@ use Rattle.ua_check.specs.Conditions.{condition_of, has_places, is_no_condition,
 use Rattle.ua_check.specs.Chains.{kind_of, chain_width, place_identity, satisfies, satisfies_all, is_fit, link_at, is_unlinked, are_linked, is_in_chain, links_flaw, term_flaw, is_without_term, chain_lines, chain_flaw}
 use Rattle.ua_flaws.proofs.FirstLaws.{none_of}
 use Rattle.ua_flaws.proofs.PassLaws.{is_equal, no_line, no_option, none_bad, none_found}
-use Rattle.ua_check.proofs.SatisfyLaws.{read_all}
 use Rattle.ua_check.proofs.ChainLaws.{IsLinked}
 use Rattle.ua_check.proofs.ReachedRows.{where_so}
 

@@ -15,13 +15,13 @@ use Rattle.ua_table.specs.Generated.{Sg}
 use Rattle.ua_table.proofs.Lists.{found, all_at, Contains-flat_map_from, Contains-map_from}
 use Rattle.ua_table.proofs.FrameLemmas.{arities_of_power}
 use Rattle.ua_term.specs.Assignments.{IsAssignment, assignments}
-use Rattle.ua_term.proofs.AssignmentLaws.{assignment_from}
+use Rattle.ua_term.proofs.AssignmentLaws.{assignment_from, maps_agree}
 use Rattle.ua_walk.specs.Sequences.{Alternates, EndsWith}
 use Rattle.ua_identity.specs.Identities.{VariablePattern, xyx, xxy, xyy, filled}
 use Rattle.ua_identity.specs.Chains.{AreLinked, IsOwn, IsPlace}
 use Rattle.ua_identity.specs.Kinds.{IsPatternOf}
 use Rattle.ua_identity.specs.Patterns.{fillings, all_fillings, vector_of, place_vector, power, generators}
-use Rattle.ua_identity.proofs.PatternLaws.{maps_agree, part_is, parts_from_linked, part_from_satisfied}
+use Rattle.ua_identity.proofs.PatternLaws.{part_is, parts_from_linked, part_from_satisfied}
 use Rattle.ua_cert.specs.declared.certs.ChainName.{ChainName}
 use Rattle.ua_cert.specs.declared.certs.ChainName.TheVariants.{Jonsson, Hm}
 use Rattle.ua_flaws.specs.declared.flaws.ListName.TheVariants.{Rows}

@@ -10,7 +10,7 @@ use Rattle.ua_table.specs.Algebras.{FiniteAlgebra}
 use Rattle.ua_table.specs.Terms.{Tree, eval}
 use Rattle.ua_table.specs.Refusals.{first_refusal}
 use Rattle.ua_term.specs.Assignments.{assignments}
-use Rattle.ua_term.proofs.AssignmentLaws.{assignment_in}
+use Rattle.ua_term.proofs.AssignmentLaws.{assignment_in, read_all}
 use Rattle.ua_identity.specs.Identities.{TermIdentity, at_pattern, Satisfies}
 use Rattle.ua_identity.specs.Chains.{Link, AreLinked, IsPlace}
 use Rattle.ua_flaws.specs.declared.flaws.Flaw.TheVariants as flaw
@@ -47,12 +47,6 @@ pub linked : (a : FiniteAlgebra) (l : Link) (d e : Tree) → are_linked a l d e 
 linked a l d e test xs h =
     equal (at_pattern a l.pattern d xs) (at_pattern a l.next e xs)
     (not_false _ (find_none (is_unlinked a l d e) (assignments a.size l.pattern.variables) xs (none_is (find (is_unlinked a l d e) (assignments a.size l.pattern.variables)) test) (assignment_in a.size l.pattern.variables xs h)))
-
--- the entries of a list at its places are the list
-pub read_all : (xs : List ℕ) (n : ℕ) → length xs ≡ n → map (slice_index xs) (range_with_len 0 n) ≡ xs
-read_all xs n long =
-    let count = length-map-range_with_len (slice_index xs) 0 n in
-    ext_get_or 0 (map (slice_index xs) (range_with_len 0 n)) xs (count ∙ sym long) (λ i l. get_or-map-range_with_len (slice_index xs) 0 n i i 0 (omega (arith, l, count)) (omega arith))
 
 pub place : (a : FiniteAlgebra) (places j : ℕ) (t : Tree) → satisfies a (place_identity places j) t ≡ true → IsPlace a places j t
 place a places j t e xs h =

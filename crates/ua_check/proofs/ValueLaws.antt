@@ -12,20 +12,10 @@ use Rattle.ua_table.specs.Terms.{Tree, Generator, eval, eval_all}
 use Rattle.ua_table.specs.Origins.{IsOrigin}
 use Rattle.ua_table.proofs.Lists.{all_push}
 use Rattle.ua_term.specs.Steps.{AreSteps, terms_at, term_after, terms_from, unfolded}
-use Rattle.ua_term.proofs.StepLaws.{step_at}
+use Rattle.ua_term.proofs.StepLaws.{step_at, unfolded_more, length_from}
 use Rattle.ua_term.proofs.TreeLemmas.{operation_facts}
 use Rattle.ua_flaws.specs.Steps.{written_term}
 use Rattle.ua_check.specs.Equations.{element_of}
-
--- ---- the terms of steps, one more
-
-terms_more : (ks : List ℕ) (terms : List Tree) (steps : List Origin) (o : Origin) → terms_from ks terms (steps ++ o ∷ []) ≡ terms_from ks terms steps ++ term_after ks (terms_from ks terms steps) o ∷ []
-terms_more ks terms [] o = refl
-terms_more ks terms (q ∷ steps) o = terms_more ks (terms ++ term_after ks terms q ∷ []) steps o
-
-terms_count : (ks : List ℕ) (terms : List Tree) (steps : List Origin) → length (terms_from ks terms steps) ≡ length terms + length steps
-terms_count ks terms [] = omega arith
-terms_count ks terms (o ∷ steps) = let n = length-append terms (term_after ks terms o ∷ []) in let m = terms_count ks (terms ++ term_after ks terms o ∷ []) steps in omega (arith, n, m)
 
 -- ---- their values
 
@@ -49,20 +39,20 @@ module _ (a : FiniteAlgebra) (xs : List ℕ) where
   value_more gens steps i o values v are l at room known e =
       let ks = arities_of a in
       let ts = unfolded ks (take i steps) in
-      let count : i ≡ length ts = (let m = terms_count ks [] (take i steps) in let k = length-take-le i steps (omega (arith, l)) in omega (arith, m, k)) in
+      let count : i ≡ length ts = (let m = length_from ks [] (take i steps) in let k = length-take-le i steps (omega (arith, l)) in omega (arith, m, k)) in
       let one : IsOrigin ks gens i o = subst (IsOrigin ks gens i) (sym at) (step_at ks gens steps i o are l) in
       let v_is : v ≡ eval a xs (term_after ks ts o) = e ∙ ap (λ vs. element_of a xs vs o) known ∙ element_after gens i ts o count one in
       let steps_more : take (i + 1) steps ≡ take i steps ++ o ∷ [] = take_more steps i o l ∙ ap (λ (w : Origin). take i steps ++ w ∷ []) (sym at) in
       take_more_set values i v room
       ∙ ap (λ vs. vs ++ v ∷ []) known
       ∙ ap (λ w. map (eval a xs) ts ++ w ∷ []) v_is
-      ∙ sym (ap (λ (os : List Origin). map (eval a xs) (unfolded ks os)) steps_more ∙ ap (map (eval a xs)) (terms_more ks [] (take i steps) o) ∙ map-append (eval a xs) ts (term_after ks ts o ∷ []))
+      ∙ sym (ap (λ (os : List Origin). map (eval a xs) (unfolded ks os)) steps_more ∙ ap (map (eval a xs)) (unfolded_more ks [] (take i steps) o) ∙ map-append (eval a xs) ts (term_after ks ts o ∷ []))
 
   -- the last value is that of the term that the steps write
   pub value_last : (steps : List Origin) (n : ℕ) (values : List ℕ) → 0 < length steps → length steps ≡ n → take n steps ≡ steps → Valued steps n values → get_or values (n - 1) 0 ≡ eval a xs (written_term (arities_of a) steps)
   value_last steps n values some e whole known =
       let ks = arities_of a in
-      let count = terms_count ks [] steps in
+      let count = length_from ks [] steps in
       sym (get_or-take n values (n - 1) 0 (omega (arith, some, e)))
       ∙ ap (λ vs. get_or vs (n - 1) 0) (known ∙ ap (λ (os : List Origin). map (eval a xs) (unfolded ks os)) whole)
       ∙ ap (λ m. get_or (map (eval a xs) (unfolded ks steps)) (m - 1) 0) (sym e)

@@ -6,6 +6,7 @@ use Rattle.std.proofs.lemmas.Bool.{cases_lt}
 use Rattle.std.proofs.lemmas.List.{ext_get_or, get_or-map, get_or_append_left, get_or-append_right, get_or-replicate, length-append, length-map, length-replicate}
 use Rattle.std.proofs.lemmas.List.Elements.{All-from_recursion}
 use Rattle.std.proofs.lemmas.List.FromFn.{get_or-map-range_with_len, get_or-range_with_len, length-map-range_with_len}
+use Rattle.ua_term.proofs.AssignmentLaws.{maps_agree}
 use Rattle.ua_table.specs.Algebras.{Vector, FiniteAlgebra, IsVector, arities_of, arities, column, value_at}
 use Rattle.ua_table.specs.Generated.{Sg}
 use Rattle.ua_table.specs.Terms.{Tree, Generator, Application, Trees, none, more, IsTerm, AreTerms, term_value, term_values, eval, eval_all}
@@ -14,7 +15,7 @@ use Rattle.ua_table.proofs.Choices.{range_low}
 use Rattle.ua_table.proofs.FrameLemmas.{arities_of_power, in_power}
 use Rattle.ua_table.proofs.Lists.{all_append, all_at, all_from_contains, all_map, all_weaker, slice_get-replicate}
 use Rattle.ua_table.proofs.TermLaws.{value_is_eval}
-use Rattle.ua_identity.proofs.PatternLaws.{maps_agree, agree_maps}
+use Rattle.ua_identity.proofs.PatternLaws.{agree_maps}
 use Rattle.ua_clone.specs.declared.kinds.CloneKind.{CloneKind}
 use Rattle.ua_clone.specs.declared.kinds.CloneKind.TheVariants.{TermOps, Polynomials}
 use Rattle.ua_clone.specs.Points.{Point, IsPoint}

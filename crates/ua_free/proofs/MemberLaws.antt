@@ -13,7 +13,7 @@ use Rattle.ua_table.proofs.Choices.{range_low}
 use Rattle.ua_table.proofs.FrameLemmas.{arities_of_power, in_power}
 use Rattle.ua_table.proofs.Lists.{Contains-head, Contains-tail, all_at, all_map, all_from_contains}
 use Rattle.ua_term.specs.Assignments.{assignments, projection, projections, power_of_assignments, term_operation}
-use Rattle.ua_term.proofs.AssignmentLaws.{length_assignments, assignment_in, assignment_from, value_is_operation}
+use Rattle.ua_term.proofs.AssignmentLaws.{length_assignments, assignment_in, assignment_from, value_is_operation, maps_agree}
 use Rattle.ua_free.specs.Identities.{AgreeAt, Holds}
 use Rattle.ua_free.specs.TermOperations.{IsTermOperation}
 
@@ -58,10 +58,6 @@ module _ (a : FiniteAlgebra) (k : ℕ) (some : 0 < a.size) where
       record { term = h.term; is_term = subst (λ (X : Type 0). X) (sym (same_terms h.term)) h.is_term; value = value_is_operation a k h.term h.is_term ∙ sym h.values }
 
 -- ---- identities by the values of both sides
-
-maps_agree : {X Y : Type 0} (f g : X → Y) (xs : List X) → ((x : X) → Contains xs x → f x ≡ g x) → map f xs ≡ map g xs
-maps_agree f g [] h = refl
-maps_agree f g (x ∷ xs) h = (λ i. h x (Contains-head x xs) i ∷ maps_agree f g xs (λ y c. h y (Contains-tail x y xs c)) i)
 
 agree_maps : {X Y : Type 0} (f g : X → Y) (xs : List X) → map f xs ≡ map g xs → AllByRecursion (λ x. f x ≡ g x) xs
 agree_maps f g [] e = tt
