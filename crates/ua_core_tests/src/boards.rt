@@ -86,6 +86,21 @@ fn two_seats_in_turn(rt: HostRuntime) -> Result<(), Fail> {
     Ok(())
 }
 
+/// What a seat sees where another has put a record since it was made.
+fn told_of_a_look(alloc: Global) -> Result<Option<Origin>, Fail> {
+    let (board, mut first) = start(alloc)?;
+    let mut second = board.split(&mut first);
+    board.put(&mut first, FIRST);
+    Ok(board.look(&mut second))
+}
+
+#[test]
+fn a_record_is_seen(rt: HostRuntime) -> Result<(), Fail> {
+    let seen = told_of_a_look(rt.alloc())?;
+    assert!(rt; seen == Some(FIRST));
+    Ok(())
+}
+
 fn shared<T: Sync>() {}
 
 fn handed_over<T: Send>() {}

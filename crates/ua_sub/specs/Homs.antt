@@ -40,7 +40,7 @@ pub record IsClash (p : Product) (gens : List Vector) (x y z : ℕ) (first secon
   pub first_steps : AreStepsTo p gens (two (x, y)) first
   pub second_steps : AreStepsTo p gens (two (x, z)) second
 
--- one pair more than the budget, of which no two clash
+-- a listing of one pair more than the budget, no two of which clash
 pub record IsExceedingGraph (p : Product) (gens : List Vector) (b : ℕ) (rows : List Row) : Type 0 where
   pub listing : IsExceedingListing p gens b rows
   pub graph : ¬ IsTrue (has_clash (vectors_of rows))
