@@ -69,6 +69,6 @@ MaySift b budget known old new (Ok answer) = IsSiftedTo b budget known old new a
 MaySift b budget known old new (Err e) = ArePairsWide b budget e
 
 -- what is known stays right; pairs that are too wide are refused
-abbrev pub MayDescend : FiniteAlgebra → ℕ → ℕ × ℕ → Known → Known → Result (Unit {0}) CloseError → Type 0
-MayDescend b budget pair old new (Ok _) = IsKept b budget pair.0 pair.1 old new
-MayDescend b budget pair old new (Err e) = ArePairsWide b budget e
+abbrev pub MaySettle : FiniteAlgebra → ℕ → ℕ × ℕ → Known → Known → Result (Unit {0}) CloseError → Type 0
+MaySettle b budget pair old new (Ok _) = IsKept b budget pair.0 pair.1 old new
+MaySettle b budget pair old new (Err e) = ArePairsWide b budget e

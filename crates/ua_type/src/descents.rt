@@ -4,7 +4,7 @@
 ghost use Rattle.std.specs.Prelude.{◌≡◌, ◌<◌, ◌++◌, [], ◌∷◌, length, slice_index, OnOk, IfOk};
 ghost use Rattle.ua_type.specs.Trials.{HasMorePairs, ArePairsNarrow};
 ghost use Rattle.ua_type.specs.Known.{IsRight};
-ghost use Rattle.ua_type.specs.Descents.{MayAsk, IsDescent, MaySift, MayDescend};
+ghost use Rattle.ua_type.specs.Descents.{MayAsk, IsDescent, MaySift, MaySettle};
 
 use crate::known::Known;
 use crate::pairs::{is_same, sought};
@@ -160,7 +160,7 @@ pub fn descend<R: Threads + Sync, G: Gate>(
     requires narrow { ArePairsNarrow b.now run.now.budget }
     requires right { IsRight b.now run.now.budget known.old }
     requires descent { IsDescent b.now run.now.budget descent }
-    ensures { MayDescend b.now run.now.budget descent.pair known.old known.new result }
+    ensures { MaySettle b.now run.now.budget descent.pair known.old known.new result }
 {
     // What this call ensures says that the algebra is one.
     let _size = b.size();
