@@ -18,7 +18,7 @@ use Rattle.ua_identity.specs.Patterns.{all_fillings, vector_of, generators}
 use Rattle.ua_chain.specs.Answers.{term_of, AreTermSteps}
 use Rattle.ua_chain.specs.Charts.{IsRowOf}
 use Rattle.ua_identity.proofs.PatternLaws.{value_is_vector}
-use Rattle.ua_chain.proofs.ChainLaws.{generator_count, all_filled}
+use Rattle.ua_identity.proofs.ChainLaws.{generator_count, all_filled}
 use Rattle.ua_chain.specs.Closures.{IsClosureOf, AreMarkedNumbers}
 
 -- ---- steps of a row

@@ -5,9 +5,9 @@ use Rattle.ua_table.specs.Listings.{Row, IsClosedListing}
 use Rattle.ua_table.specs.Orders.{IsSerialListing}
 use Rattle.ua_close.specs.declared.close.Closure.TheVariants as closures
 use Rattle.ua_close.specs.Permitted.{MayClose}
-use Rattle.ua_identity.specs.Chains.{ChainKind}
+use Rattle.ua_identity.specs.Chains.{ChainKind, power_of, generators_of}
 use Rattle.ua_chain.specs.declared.chains.Chain.{Chain}
-use Rattle.ua_chain.specs.Answers.{power_of, generators_of, TellsChain, IsSerialChain}
+use Rattle.ua_chain.specs.Answers.{TellsChain, IsSerialChain}
 use Rattle.ua_chain.specs.Permitted.{MayChain}
 
 pub may_tell : (a : FiniteAlgebra) (kind : ChainKind) (p : Product) (gens : List Vector) (b w : ℕ) (rows : List Row) (chain : Chain) → p ≡ power_of a kind → gens ≡ generators_of a kind → MayClose p gens b w (Ok (closures.Closed rows)) → ((c : ℕ) → IsClosedListing p gens c rows → TellsChain a kind c chain) → ((c : ℕ) → IsClosedListing p gens c rows → IsSerialListing p gens rows → IsSerialChain a kind c chain) → MayChain a kind b w (Ok chain)

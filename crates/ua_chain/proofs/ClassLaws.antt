@@ -11,7 +11,7 @@ use Rattle.ua_table.specs.Algebras.{Vector}
 use Rattle.ua_table.proofs.Lists.{found}
 use Rattle.ua_rows.specs.RowLists.{IsRowList}
 use Rattle.ua_walk.specs.Ladders.{LinkLists, AreLinks}
-use Rattle.ua_chain.specs.declared.classes.Part.{Part}
+use Rattle.ua_identity.specs.declared.kinds.Part.{Part}
 use Rattle.ua_chain.specs.Classes.{entries_at, AreClasses, AreLinksBy}
 
 -- the class of one row more

@@ -1,13 +1,13 @@
 -- Chains from the search over rows.
-use Rattle.std.proofs.Common.{◌≡◌, ℕ, zero, suc, ◌+◌, ◌-◌, ◌<◌, Bool, true, false, List, [], ◌∷◌, length, map, refl, sym, ap, ◌∙◌, subst, arith, Some, Result, Ok, Err, ⊎_elim, inl, inr}
-use Rattle.std.specs.Prelude.{◌↔◌, Contains, slice_index, slice_index_or, slice_get, IfOk}
+use Rattle.std.proofs.Common.{◌≡◌, ℕ, zero, suc, ◌+◌, ◌-◌, ◌<◌, Bool, List, [], ◌∷◌, length, map, refl, sym, ap, ◌∙◌, subst, arith, Some, Result, Ok, Err, ⊎_elim, inl, inr}
+use Rattle.std.specs.Prelude.{◌↔◌, Contains, slice_index, slice_get, IfOk}
 use Rattle.std.specs.declared.alloc.AllocError.{AllocError}
 use Rattle.std.specs.List.{AllByRecursion, AllZip, range_with_len}
 use Rattle.std.proofs.lemmas.List.Elements.{All-from_recursion}
 use Rattle.std.proofs.lemmas.List.FromFn.{length-range_with_len, get_or-range_with_len}
-use Rattle.std.proofs.lemmas.List.{length-map, get_or_past}
+use Rattle.std.proofs.lemmas.List.{length-map}
 use Rattle.std.proofs.lemmas.Option.{slice_get_within, get_or_from_slice_get, slice_get-get_or, same_Some}
-use Rattle.std.proofs.lemmas.Bool.{cases_lt, cases_eq, false≢true}
+use Rattle.std.proofs.lemmas.Bool.{cases_lt, cases_eq}
 use Rattle.ua_table.specs.declared.origins.Origin.TheVariants.{Gen}
 use Rattle.ua_table.specs.Algebras.{Vector, FiniteAlgebra, Product, arities, arities_of, IsIncreasing}
 use Rattle.ua_table.specs.Terms.{Generator}
@@ -24,17 +24,17 @@ use Rattle.ua_walk.proofs.ClimbLaws.{marked_low}
 use Rattle.ua_identity.specs.Identities.{VariablePattern, TermIdentity, Satisfies}
 use Rattle.ua_table.proofs.GeneratedLaws.{generator_in}
 use Rattle.ua_table.proofs.FrameLemmas.{arities_of_power}
-use Rattle.ua_identity.specs.Chains.{Link, ChainKind}
+use Rattle.ua_identity.specs.Chains.{Link, ChainKind, power_of, generators_of}
 use Rattle.ua_identity.specs.Kinds.{IsKind}
 use Rattle.ua_identity.specs.Patterns.{all_fillings, vector_of, place_vector}
 use Rattle.ua_chain.specs.Charts.{IsRowOf, IsChart}
-use Rattle.ua_chain.proofs.ChainLaws.{generator_count, first_is_own}
+use Rattle.ua_identity.proofs.ChainLaws.{generator_count, first_is_own}
 use Rattle.ua_chain.proofs.ChartLaws.{least_chain, no_chain, evens_reached, odds_reached, end_is_first}
-use Rattle.ua_chain.specs.declared.kinds.PatternPair.{PatternPair}
-use Rattle.ua_chain.specs.KindTables.{link_of, pattern_at}
+use Rattle.ua_identity.specs.declared.kinds.PatternPair.{PatternPair}
+use Rattle.ua_identity.specs.KindTables.{link_of, pattern_at}
 use Rattle.ua_chain.specs.RowsOf.{AreOwnRows, AreLinksAt, HaveWidth}
 use Rattle.ua_chain.specs.ClimbsIn.{IsClimbIn}
-use Rattle.ua_chain.specs.Answers.{power_of, generators_of, term_of, AreTermSteps, IsGeneratorStep, AreChainSteps, HasNoChain, AreStepsOfRow, AreSerialTerms}
+use Rattle.ua_chain.specs.Answers.{term_of, AreTermSteps, IsGeneratorStep, AreChainSteps, TellsNoChain, AreStepsOfRow, AreSerialTerms}
 use Rattle.ua_chain.specs.Closures.{IsClosureOf, AreStepsAt, AreEvenNumbers, AreOddNumbers, generator_step}
 use Rattle.ua_close.specs.Needed.{AreStepsFor}
 use Rattle.ua_chain.proofs.RowLaws.{chart_from, have_width, own_both}
@@ -276,7 +276,7 @@ module _ (a : FiniteAlgebra) (kind : ChainKind) (p : Product) (gens : List Vecto
     terms = all_from_places (AreStepsOfRow (arities_of a) list) steps (each_serial serial);
   }
 
-pub no_answer : (a : FiniteAlgebra) (kind : ChainKind) (b : ℕ) (list : List Row) (allowed : List Bool) (even odd : LinkLists) (start end : ℕ) (at_even at_odd : List Bool) (evens odds : List ℕ) → IsKind kind → 0 < length (all_fillings a.size kind.patterns) → IsClosedListing (power_of a kind) (generators_of a kind) b list → IsChart a kind (vectors_of list) allowed even odd → IsRowOf a kind (vectors_of list) (Generator 0) start → IsRowOf a kind (vectors_of list) (Generator kind.end) end → HasNoClimb allowed even odd start end at_even at_odd → AreEvenNumbers kind.by_parity at_even at_odd evens → AreOddNumbers kind.by_parity at_odd odds → HasNoChain a kind b list evens odds
+pub no_answer : (a : FiniteAlgebra) (kind : ChainKind) (b : ℕ) (list : List Row) (allowed : List Bool) (even odd : LinkLists) (start end : ℕ) (at_even at_odd : List Bool) (evens odds : List ℕ) → IsKind kind → 0 < length (all_fillings a.size kind.patterns) → IsClosedListing (power_of a kind) (generators_of a kind) b list → IsChart a kind (vectors_of list) allowed even odd → IsRowOf a kind (vectors_of list) (Generator 0) start → IsRowOf a kind (vectors_of list) (Generator kind.end) end → HasNoClimb allowed even odd start end at_even at_odd → AreEvenNumbers kind.by_parity at_even at_odd evens → AreOddNumbers kind.by_parity at_odd odds → TellsNoChain a kind b list evens odds
 no_answer a kind b list allowed even odd start end at_even at_odd evens odds k wide closed chart rs re h he ho =
     let vs = vectors_of list in
     let even_long : length at_even ≡ length vs = h.even_count ∙ chart.count in

@@ -1,7 +1,4 @@
-pub mod KindLaws
 pub mod ZipLaws
-pub mod PartLaws
-pub mod ChainLaws
 pub mod ChartLaws
 pub mod VectorLaws
 pub mod ClassLaws

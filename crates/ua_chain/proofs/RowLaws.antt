@@ -1,5 +1,5 @@
 -- Rows by their parts, and the chart that they make.
-use Rattle.std.proofs.Common.{◌≡◌, ℕ, suc, ◌+◌, ◌-◌, ◌<◌, ◌≤◌, Bool, List, [], ◌∷◌, length, map, take, drop, refl, sym, ap, ◌∙◌, subst, arith, Some, None, Option, Result, Ok, Err, Vec}
+use Rattle.std.proofs.Common.{◌≡◌, ℕ, suc, ◌<◌, ◌≤◌, Bool, List, [], ◌∷◌, length, map, refl, sym, ap, ◌∙◌, subst, arith, Some, None, Option, Result, Ok, Err, Vec}
 use Rattle.std.specs.Prelude.{◌↔◌, Contains, slice_index, slice_get, IfOk}
 use Rattle.std.specs.declared.alloc.Global.{Global}
 use Rattle.std.specs.declared.alloc.AllocError.{AllocError}
@@ -17,36 +17,21 @@ use Rattle.ua_table.specs.Generated.{Sg}
 use Rattle.ua_walk.specs.Ladders.{LinkLists, Joins, IsAllowed}
 use Rattle.ua_term.specs.Assignments.{projection}
 use Rattle.ua_identity.specs.Identities.{VariablePattern, TermIdentity, Satisfies}
-use Rattle.ua_identity.specs.Chains.{ChainKind, Link, AreLinked}
+use Rattle.ua_identity.specs.Chains.{ChainKind, Link, AreLinked, power_of, generators_of}
 use Rattle.ua_identity.specs.Kinds.{IsKind}
 use Rattle.ua_identity.specs.Patterns.{fillings, all_fillings, vector_of}
 use Rattle.ua_chain.specs.Charts.{IsRowOf, IsChart}
 use Rattle.ua_identity.proofs.PatternLaws.{part_is, linked_from_parts, parts_from_linked, satisfied_from_part, part_from_satisfied}
-use Rattle.ua_chain.proofs.PartLaws.{start_more, start_below}
-use Rattle.ua_chain.proofs.ChainLaws.{term_of_member}
-use Rattle.ua_chain.specs.Answers.{power_of, generators_of}
-use Rattle.ua_chain.specs.declared.classes.Part.{Part}
-use Rattle.ua_chain.specs.declared.kinds.PatternPair.{PatternPair}
+use Rattle.ua_identity.proofs.KindLaws.{part_within, entries_are}
+use Rattle.ua_identity.proofs.ChainLaws.{term_of_member}
+use Rattle.ua_identity.specs.declared.kinds.Part.{Part}
+use Rattle.ua_identity.specs.declared.kinds.PatternPair.{PatternPair}
 use Rattle.ua_chain.specs.Classes.{entries_at, AreLinksBy}
-use Rattle.ua_chain.specs.KindTables.{pattern_at, own_of, link_of, blank}
-use Rattle.ua_chain.specs.PartsOf.{IsPartOf}
+use Rattle.ua_identity.specs.KindTables.{pattern_at, own_of, link_of, blank}
+use Rattle.ua_identity.specs.KindTables.{IsPartOf}
 use Rattle.ua_chain.specs.RowsOf.{part_at, HasOwnAt, AreOwnRows, AreLinksAt, HaveWidth}
 
--- the coordinates of a pattern are among all, and as many as its fillings
-pub part_within : (n : ℕ) (ps : List VariablePattern) (m : ℕ) (p : Part) → m < length ps → IsPartOf n ps m p → (p.from ≤ p.to) × (p.to ≤ length (all_fillings n ps)) × (p.to - p.from ≡ length (fillings n (pattern_at ps m)))
-part_within n ps m p l h =
-    let from = h.from_is in
-    let to = h.to_is in
-    let more = start_more n ps m blank l in
-    let below = start_below n ps (m + 1) in
-    (omega (arith, from, to, more), omega (arith, to, below), omega (arith, from, to, more))
-
--- the entries at a pattern's coordinates are the vector's part there
-pub entries_are : (n : ℕ) (ps : List VariablePattern) (m : ℕ) (p : Part) (v : Vector) → m < length ps → IsPartOf n ps m p → entries_at p v ≡ part_at n ps m v
-entries_are n ps m p v l h =
-    ap (λ k. take k (drop p.from v)) (part_within n ps m p l h).2 ∙ ap (λ k. take (length (fillings n (pattern_at ps m))) (drop k v)) h.from_is
-
--- and among the entries of each vector
+-- the coordinates of a pattern are among the entries of each vector
 pub part_in_all : (n : ℕ) (ps : List VariablePattern) (m : ℕ) (p : Part) (vs : List Vector) → m < length ps → IsPartOf n ps m p → HaveWidth n ps vs → AllByRecursion (λ (v : Vector). p.to ≤ length v) vs
 part_in_all n ps m p vs l h w =
     let within = (part_within n ps m p l h).1 in

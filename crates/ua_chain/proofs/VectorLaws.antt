@@ -7,12 +7,12 @@ use Rattle.ua_table.specs.Algebras.{Vector, FiniteAlgebra, Product, IsVector}
 use Rattle.ua_table.proofs.Choices.{range_low}
 use Rattle.ua_table.proofs.Lists.{Contains-head, Contains-tail, all_from_contains, all_map}
 use Rattle.ua_term.specs.Assignments.{IsAssignment}
-use Rattle.ua_identity.specs.Chains.{ChainKind}
+use Rattle.ua_identity.specs.Chains.{ChainKind, power_of, generators_of}
 use Rattle.ua_identity.specs.Kinds.{IsKind}
 use Rattle.ua_identity.specs.Patterns.{all_fillings, place_vector}
-use Rattle.ua_chain.specs.Answers.{power_of, generators_of}
 use Rattle.ua_chain.specs.Closures.{IsClosureOf}
-use Rattle.ua_chain.proofs.ChainLaws.{fillings_assign, generator_count, some_fillings}
+use Rattle.ua_identity.proofs.KindLaws.{some_fillings}
+use Rattle.ua_identity.proofs.ChainLaws.{fillings_assign, generator_count}
 
 -- what stands at a place is an element
 place_fits : (a : FiniteAlgebra) (places j : ℕ) (fs : List (List ℕ)) → j < places → ((xs : List ℕ) → Contains fs xs → IsAssignment a.size places xs) → AllZip (λ (b : FiniteAlgebra) x. x < b.size) (replicate (length fs) a) (place_vector fs j)

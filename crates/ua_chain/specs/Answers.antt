@@ -2,7 +2,7 @@
 use Rattle.std.specs.Prelude.{◌≡◌, ◌↔◌, ℕ, ◌-◌, ◌<◌, Bool, true, false, List, [], ◌∷◌, length, map, slice_get, slice_index, Some, Contains}
 use Rattle.std.specs.List.{AllByRecursion}
 use Rattle.ua_table.specs.declared.origins.Origin.TheVariants.{Gen}
-use Rattle.ua_table.specs.Algebras.{Vector, FiniteAlgebra, Product, arities_of}
+use Rattle.ua_table.specs.Algebras.{Vector, FiniteAlgebra, arities_of}
 use Rattle.ua_table.specs.Generated.{HasMoreThan}
 use Rattle.ua_table.specs.Terms.{Tree}
 use Rattle.ua_table.specs.Listings.{Row, vectors_of, IsClosedListing, IsExceedingListing}
@@ -10,18 +10,9 @@ use Rattle.ua_table.specs.Orders.{IsSerialListing}
 use Rattle.ua_term.specs.Steps.{StepList, AreSteps, step_term}
 use Rattle.ua_close.specs.Needed.{AreStepsFor}
 use Rattle.ua_walk.specs.Sequences.{BeginsWith, EndsWith}
-use Rattle.ua_identity.specs.Chains.{ChainKind, IsChain, IsLeastChain, IsReached}
-use Rattle.ua_identity.specs.Patterns as patterns
+use Rattle.ua_identity.specs.Chains.{ChainKind, IsChain, IsLeastChain, power_of, generators_of, IsReached}
 use Rattle.ua_chain.specs.declared.chains.Chain.{Chain}
 use Rattle.ua_chain.specs.declared.chains.Chain.TheVariants.{Yes, No, Exceeds}
-
--- the power in which the vectors of the terms lie, on the patterns of the kind
-abbrev pub power_of : FiniteAlgebra → ChainKind → Product
-power_of a kind = patterns.power a kind.patterns
-
--- the vectors of its places, which generate those of the terms
-abbrev pub generators_of : FiniteAlgebra → ChainKind → List Vector
-generators_of a kind = patterns.generators a kind.patterns kind.places
 
 -- ---- a chain
 
@@ -56,7 +47,7 @@ pub record AreReached (a : FiniteAlgebra) (kind : ChainKind) (even : Bool) (vect
   pub within : AllByRecursion (λ i. i < length vectors) positions
 
 -- there is no chain, the list is closed, and the rows that beginnings reach are told
-pub record HasNoChain (a : FiniteAlgebra) (kind : ChainKind) (b : ℕ) (list : List Row) (even odd : List ℕ) : Type 0 where
+pub record TellsNoChain (a : FiniteAlgebra) (kind : ChainKind) (b : ℕ) (list : List Row) (even odd : List ℕ) : Type 0 where
   pub none : (terms : List Tree) → ¬ IsChain a kind terms
   pub closed : IsClosedListing (power_of a kind) (generators_of a kind) b list
   pub evens : AreReached a kind true (vectors_of list) even
@@ -71,7 +62,7 @@ HasMoreVectors a kind b = HasMoreThan (power_of a kind) (generators_of a kind) b
 -- a least chain, or the closed listing where there is none; or one more row than the budget, where there are more
 abbrev pub TellsChain : FiniteAlgebra → ChainKind → ℕ → Chain → Type 0
 TellsChain a kind b (Yes steps) = AreChainSteps a kind steps.items × ¬ HasMoreVectors a kind b
-TellsChain a kind b (No list even odd) = HasNoChain a kind b list even.items odd.items
+TellsChain a kind b (No list even odd) = TellsNoChain a kind b list even.items odd.items
 TellsChain a kind b (Exceeds list) = IsExceedingListing (power_of a kind) (generators_of a kind) b list
 
 -- ---- the answer of one worker

@@ -4,9 +4,8 @@ use Rattle.ua_table.specs.Algebras.{Vector, FiniteAlgebra, arities_of}
 use Rattle.ua_table.specs.Terms.{Tree, IsTerm}
 use Rattle.ua_table.specs.Generated.{Sg}
 use Rattle.ua_walk.specs.Ladders.{LinkLists, Joins, IsAllowed}
-use Rattle.ua_identity.specs.Chains.{ChainKind, AreLinked, IsOwn}
+use Rattle.ua_identity.specs.Chains.{ChainKind, AreLinked, IsOwn, power_of, generators_of}
 use Rattle.ua_identity.specs.Patterns.{vector_of}
-use Rattle.ua_chain.specs.Answers.{power_of, generators_of}
 
 -- row i is the vector of the term
 pub record IsRowOf (a : FiniteAlgebra) (kind : ChainKind) (vectors : List Vector) (t : Tree) (i : ℕ) : Type 0 where

@@ -5,8 +5,8 @@ use Rattle.ua_walk.specs.declared.ladders.Climb.{Climb}
 use Rattle.ua_walk.specs.Ladders.{LinkLists}
 use Rattle.ua_walk.specs.Climbs.{TellsClimb}
 use Rattle.ua_identity.specs.Chains.{ChainKind}
-use Rattle.ua_chain.specs.declared.kinds.PatternPair.{PatternPair}
-use Rattle.ua_chain.specs.KindTables.{link_of}
+use Rattle.ua_identity.specs.declared.kinds.PatternPair.{PatternPair}
+use Rattle.ua_identity.specs.KindTables.{link_of}
 use Rattle.ua_chain.specs.RowsOf.{AreOwnRows, AreLinksAt}
 
 -- the answer of a search over the rows that have what each term of the kind has, with the links of the kind

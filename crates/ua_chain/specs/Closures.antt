@@ -6,10 +6,9 @@ use Rattle.ua_table.specs.Listings.{Row, vectors_of}
 use Rattle.ua_term.specs.Steps.{StepList}
 use Rattle.ua_close.specs.Memberships.{AreStepsTo}
 use Rattle.ua_close.specs.Needed.{AreStepsFor}
-use Rattle.ua_identity.specs.Chains.{ChainKind}
+use Rattle.ua_identity.specs.Chains.{ChainKind, power_of, generators_of}
 use Rattle.ua_identity.specs.Kinds.{IsKind}
 use Rattle.ua_identity.specs.Patterns.{all_fillings}
-use Rattle.ua_chain.specs.Answers.{power_of, generators_of}
 
 -- the product and the generators are those of the kind's terms over the algebra
 pub record IsClosureOf (a : FiniteAlgebra) (kind : ChainKind) (p : Product) (gens : List Vector) : Type 0 where

@@ -3,7 +3,5 @@ pub mod Answers
 pub mod Permitted
 pub mod Closures
 pub mod Classes
-pub mod KindTables
-pub mod PartsOf
 pub mod RowsOf
 pub mod ClimbsIn

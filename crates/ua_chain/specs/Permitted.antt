@@ -3,9 +3,9 @@ use Rattle.std.specs.Prelude.{◌≡◌, ℕ, Result, Ok, Err}
 use Rattle.ua_table.specs.Algebras.{FiniteAlgebra}
 use Rattle.ua_close.specs.declared.close.CloseError.{CloseError}
 use Rattle.ua_close.specs.Answers.{IsWide, IsCause}
-use Rattle.ua_identity.specs.Chains.{ChainKind}
+use Rattle.ua_identity.specs.Chains.{ChainKind, power_of, generators_of}
 use Rattle.ua_chain.specs.declared.chains.Chain.{Chain}
-use Rattle.ua_chain.specs.Answers.{power_of, generators_of, TellsChain, IsSerialChain}
+use Rattle.ua_chain.specs.Answers.{TellsChain, IsSerialChain}
 
 -- a least chain, or that there is none, or that the terms have more vectors than the budget; serial with one worker; vectors that are too wide to be closed are refused
 abbrev pub MayChain : FiniteAlgebra → ChainKind → ℕ → ℕ → Result Chain CloseError → Type 0

@@ -8,8 +8,8 @@ use Rattle.ua_identity.specs.Identities.{VariablePattern}
 use Rattle.ua_identity.specs.Chains.{ChainKind}
 use Rattle.ua_term.specs.Assignments.{projection}
 use Rattle.ua_identity.specs.Patterns.{all_fillings, part_of}
-use Rattle.ua_chain.specs.declared.kinds.PatternPair.{PatternPair}
-use Rattle.ua_chain.specs.KindTables.{pattern_at, own_of}
+use Rattle.ua_identity.specs.declared.kinds.PatternPair.{PatternPair}
+use Rattle.ua_identity.specs.KindTables.{pattern_at, own_of}
 
 -- the part of a vector at pattern m
 abbrev pub part_at : ℕ → List VariablePattern → ℕ → Vector → Vector

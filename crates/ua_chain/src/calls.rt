@@ -4,11 +4,11 @@ ghost use Rattle.ua_identity.specs.Kinds as kinds;
 ghost use Rattle.ua_chain.specs.Permitted.{MayChain};
 
 use crate::chains::{Chain, chain_in};
-use crate::kinds::Kind;
 use crate::vectors::generators;
 use std::alloc::Global;
 use std::thread::Threads;
 use ua_close::{CloseError, Closure, Gate, Run, close_set};
+use ua_identity::Kind;
 use ua_table::Algebra;
 
 /// A chain of least length of this kind, over all lists of terms. It closes the vectors of the terms on the

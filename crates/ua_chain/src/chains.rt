@@ -6,13 +6,14 @@ ghost use Rattle.ua_table.specs.declared.limits.TheConstants.{BUDGET};
 ghost use Rattle.ua_table.specs.Listings.{IsListing, IsClosedListing};
 ghost use Rattle.ua_table.specs.Orders.{IsSerialListing};
 ghost use Rattle.ua_term.specs.Steps.{StepList};
-ghost use Rattle.ua_chain.specs.Answers.{power_of, generators_of, TellsChain, IsSerialChain};
-ghost use Rattle.ua_chain.specs.Closures.{AreRowSteps, AreStepsAt, AreMarkedNumbers, AreEvenNumbers, AreOddNumbers, generator_step};
+ghost use Rattle.ua_chain.specs.Answers.{TellsChain, IsSerialChain};
+ghost use Rattle.ua_chain.specs.Closures.{AreStepsAt, AreMarkedNumbers, AreEvenNumbers, AreOddNumbers, generator_step};
+ghost use Rattle.ua_identity.specs.Chains.{power_of, generators_of};
 
 use crate::climbs::{climb_in, either};
-use crate::kinds::Kind;
 use std::alloc::{AllocError, Global};
 use ua_close::{Listing, steps_for};
+use ua_identity::Kind;
 use ua_table::{Algebra, Frame, Origin, Vectors};
 use ua_term::Steps;
 use ua_walk::Climb;
@@ -53,21 +54,6 @@ fn generator_steps(
     Ok(steps)
 }
 
-/// The steps of a row.
-fn row_steps(
-    alloc: Global,
-    frame: &Frame,
-    gens: &Vectors,
-    list: &Listing,
-    row: u32,
-) -> Result<Steps, AllocError>
-    requires row { row < length list.now }
-    requires listing { IsListing frame.now gens.now.items list.now }
-    ensures { IfOk result (AreRowSteps frame.now gens.now.items list.now row) }
-{
-    steps_for(alloc, frame, gens, list, row)
-}
-
 /// The steps of term k of a chain whose rows are these: the first is generator 0, and the last the last
 /// generator.
 fn term_steps(
@@ -89,7 +75,7 @@ fn term_steps(
     } else if k + 1 == rows.len() {
         generator_steps(alloc, frame, gens, gens.len() - 1)
     } else {
-        row_steps(alloc, frame, gens, list, rows[k])
+        steps_for(alloc, frame, gens, list, rows[k])
     }
 }
 

@@ -8,10 +8,10 @@ ghost use Rattle.ua_identity.specs.Patterns.{all_fillings};
 ghost use Rattle.ua_chain.specs.RowsOf.{AreOwnRows, HaveWidth};
 ghost use Rattle.ua_chain.specs.ClimbsIn.{IsClimbIn};
 
-use crate::kinds::Kind;
 use crate::rows::{links_at, own_rows};
 use std::alloc::{AllocError, Global};
 use ua_close::Listing;
+use ua_identity::Kind;
 use ua_walk::{Climb, least_climb};
 
 /// A least climb over the rows from the start to the end, or the rows that climbs lead to.

@@ -6,11 +6,10 @@ mod calls;
 mod chains;
 mod classes;
 mod climbs;
-mod kinds;
 pub mod laws;
 mod rows;
 mod vectors;
 
 pub use calls::{day, hagemann_mitschke, jonsson, least_chain};
 pub use chains::Chain;
-pub use kinds::Kind;
+pub use ua_identity::Kind;

@@ -8,14 +8,13 @@ ghost use Rattle.ua_walk.specs.Ladders.{IsAllowed};
 ghost use Rattle.ua_table.specs.declared.limits.TheConstants.{SIZE, WIDTH};
 ghost use Rattle.ua_identity.specs.Patterns.{all_fillings};
 ghost use Rattle.ua_chain.specs.Classes.{entries_at};
-ghost use Rattle.ua_chain.specs.KindTables.{pattern_at};
+ghost use Rattle.ua_identity.specs.KindTables.{pattern_at};
 ghost use Rattle.ua_chain.specs.RowsOf.{AreOwnRows, AreLinksAt, HaveWidth};
 
-use crate::classes::{Part, links_by};
-use crate::kinds::{Kind, PatternPair};
-use crate::vectors::{own_values, part};
+use crate::classes::links_by;
 use std::alloc::{AllocError, Global};
 use ua_close::Listing;
+use ua_identity::{Kind, Part, PatternPair};
 use ua_table::Elem;
 use ua_walk::Links;
 
@@ -55,8 +54,8 @@ pub(crate) fn own_rows(
     match kind.own() {
         None => vec![in alloc; true; list.len() as usize],
         Some(m) => {
-            let values = own_values(alloc, size, kind, m)?;
-            rows_with(alloc, list, part(size, kind, m), values.as_slice())
+            let values = kind.own_values(alloc, size)?;
+            rows_with(alloc, list, kind.part(size, m), values.as_slice())
         }
     }
 }
@@ -78,7 +77,7 @@ pub(crate) fn links_at(
     requires room { length list.now + length list.now < u32.MAX }
     ensures { IfOk result (AreLinksAt size kind.now.patterns pair (vectors_of list.now)) }
 {
-    let first = part(size, kind, pair.first);
-    let second = part(size, kind, pair.second);
+    let first = kind.part(size, pair.first);
+    let second = kind.part(size, pair.second);
     links_by(alloc, list, first, second)
 }

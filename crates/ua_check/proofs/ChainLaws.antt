@@ -25,7 +25,7 @@ use Rattle.ua_flaws.specs.Firsts.{first_bad}
 use Rattle.ua_flaws.specs.Steps.{origin_of, origins_of, written_term, last_term}
 use Rattle.ua_flaws.specs.Flaws.{steps_flaw}
 use Rattle.ua_flaws.specs.Laws.{StepsAreSteps, LastIsTerm}
-use Rattle.ua_check.specs.Chains.{kind_of, chain_width, WritesChain, place_identity, satisfies, satisfies_all, is_fit, link_at, are_linked, is_in_chain, links_flaw, term_flaw, terms_flaw, is_without_term, AreTermSteps, chain_lines, chain_flaw}
+use Rattle.ua_check.specs.Chains.{kind_of, chain_width, WritesChain, place_identity, satisfies, satisfies_all, is_fit, link_at, are_linked, is_in_chain, links_flaw, term_flaw, terms_flaw, is_without_term, AreStepsWithin, chain_lines, chain_flaw}
 use Rattle.ua_flaws.proofs.FirstLaws.{both, some_length, refusal_none, option_none, first_none, none_of, alone, each_good}
 use Rattle.ua_check.proofs.SatisfyLaws.{satisfied_all, linked, place}
 
@@ -131,7 +131,7 @@ written_all term a places n (steps ∷ terms) some none =
 
 -- steps without a flaw, of which there are some, and at most so many
 terms_written : StepsAreSteps → (a : FiniteAlgebra) (most n : ℕ) (terms : List (List CertStep)) → list_any (λ (steps : List CertStep). length steps == 0) terms ≡ false → AllByRecursion (λ (steps : List CertStep). length steps ≤ most) terms → first_refusal (map (term_flaw a 3) (enumerate_from n terms)) ≡ None
-    → AllByRecursion (AreTermSteps a most) (map (origins_of a) terms)
+    → AllByRecursion (AreStepsWithin a most) (map (origins_of a) terms)
 terms_written are a most n [] some few none = tt
 terms_written are a most n (steps ∷ terms) some few none =
     let s = or_parts (length steps == 0) (list_any (λ (steps : List CertStep). length steps == 0) terms) some in
@@ -141,7 +141,7 @@ terms_written are a most n (steps ∷ terms) some few none =
     let low = few.0 in
     (record { some = omega (arith, long, count); few = omega (arith, low, count); steps = are a 3 (Some n) steps h.0 }, terms_written are a most (n + 1) terms s.1 few.1 h.1)
 
-pub are_term_steps : StepsAreSteps → (a : FiniteAlgebra) (most : ℕ) (terms : List (List CertStep)) → is_without_term terms ≡ false → AllByRecursion (λ (steps : List CertStep). length steps ≤ most) terms → terms_flaw a 3 terms ≡ None → AllByRecursion (AreTermSteps a most) (map (origins_of a) terms)
+pub are_term_steps : StepsAreSteps → (a : FiniteAlgebra) (most : ℕ) (terms : List (List CertStep)) → is_without_term terms ≡ false → AllByRecursion (λ (steps : List CertStep). length steps ≤ most) terms → terms_flaw a 3 terms ≡ None → AllByRecursion (AreStepsWithin a most) (map (origins_of a) terms)
 are_term_steps are a most terms some few none = terms_written are a most 0 terms (or_parts (length terms == 0) (list_any (λ (steps : List CertStep). length steps == 0) terms) some).1 few none
 
 pub three_places : (name : ChainName) → (kind_of name).places ≡ 3
@@ -149,30 +149,30 @@ three_places Jonsson = refl
 three_places Hm = refl
 
 -- the vectors of the terms are not too wide
-pub chain_narrow : (a : FiniteAlgebra) (name : ChainName) (w : ℕ) → w ≤ WIDTH → w ≡ length (all_fillings a.size (kind_of name).patterns) → nat_lt WIDTH (chain_width a name) ≡ false
-chain_narrow a name w low e = below (chain_width a name) (length-replicate (length (all_fillings a.size (kind_of name).patterns)) a ∙ sym e)
+pub chain_narrow : (a : FiniteAlgebra) (kind : ChainKind) (w : ℕ) → w ≤ WIDTH → w ≡ length (all_fillings a.size kind.patterns) → nat_lt WIDTH (chain_width a kind) ≡ false
+chain_narrow a kind w low e = below (chain_width a kind) (length-replicate (length (all_fillings a.size kind.patterns)) a ∙ sym e)
   where
     below : (n : ℕ) → n ≡ w → nat_lt WIDTH n ≡ false
     below n same = grind (arith, nat_tests)
 
 -- what is left where the terms have steps
-pub chain_told : (a : FiniteAlgebra) (name : ChainName) (terms : List (List CertStep)) (list : List (List Origin)) → (nat_lt WIDTH (chain_width a name) || is_without_term terms) ≡ false → terms_flaw a 3 terms ≡ None → list ≡ map (origins_of a) terms
-    → links_flaw a (kind_of name) (map (written_term (arities_of a)) list) ≡ chain_flaw a name terms
-chain_told a name terms list fits fine read =
+pub chain_told : (a : FiniteAlgebra) (kind : ChainKind) (terms : List (List CertStep)) (list : List (List Origin)) → kind.places ≡ 3 → (nat_lt WIDTH (chain_width a kind) || is_without_term terms) ≡ false → terms_flaw a 3 terms ≡ None → list ≡ map (origins_of a) terms
+    → links_flaw a kind (map (written_term (arities_of a)) list) ≡ first_refusal (chain_lines a kind terms)
+chain_told a kind terms list three fits fine read =
     let trees : map (written_term (arities_of a)) list ≡ map (last_term a) terms = ap (map (written_term (arities_of a))) read ∙ map-map (written_term (arities_of a)) (origins_of a) terms in
-    let steps : terms_flaw a (kind_of name).places terms ≡ None = ap (λ n. terms_flaw a n terms) (three_places name) ∙ fine in
-    let links = links_flaw a (kind_of name) (map (last_term a) terms) in
-    ap (links_flaw a (kind_of name)) trees
+    let steps : terms_flaw a kind.places terms ≡ None = ap (λ n. terms_flaw a n terms) three ∙ fine in
+    let links = links_flaw a kind (map (last_term a) terms) in
+    ap (links_flaw a kind) trees
     ∙ alone links
     ∙ sym (passed _ (links ∷ []) steps)
-    ∙ sym (passed _ (terms_flaw a (kind_of name).places terms ∷ links ∷ []) (ap (λ b. refusal_if b flaw.Width) fits))
+    ∙ sym (passed _ (terms_flaw a kind.places terms ∷ links ∷ []) (ap (λ b. refusal_if b flaw.Width) fits))
 
 pub chain_holds : LastIsTerm → (a : FiniteAlgebra) (name : ChainName) (terms : List (List CertStep)) → chain_flaw a name terms ≡ None → WritesChain a name terms
 chain_holds term a name terms none =
     let kind = kind_of name in
     let trees = map (last_term a) terms in
-    let l = none_of (chain_lines a name terms) none in
-    let shape = or_parts (nat_lt WIDTH (chain_width a name)) (is_without_term terms) (refusal_none (nat_lt WIDTH (chain_width a name) || is_without_term terms) flaw.Width l.0) in
+    let l = none_of (chain_lines a (kind_of name) terms) none in
+    let shape = or_parts (nat_lt WIDTH (chain_width a (kind_of name))) (is_without_term terms) (refusal_none (nat_lt WIDTH (chain_width a (kind_of name)) || is_without_term terms) flaw.Width l.0) in
     let some = or_parts (length terms == 0) (list_any (λ (steps : List CertStep). length steps == 0) terms) shape.1 in
     let long = some_length (length terms) some.0 in
     let count = length-map terms (last_term a) in

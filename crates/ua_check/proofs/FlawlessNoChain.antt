@@ -1,28 +1,21 @@
 -- Rows that are closed, with the positions of those that beginnings of chains reach where there is no chain, have no flaw.
 use Rattle.std.proofs.Common.{◌≡◌, ℕ, ◌+◌, ◌<◌, ◌≤◌, Bool, true, false, not, ◌&&◌, ◌||◌, Some, None, List, [], ◌∷◌, ◌++◌, length, refl, sym, ap, ◌∙◌, subst, arith}
-use Rattle.std.specs.Prelude.{slice_get, slice_index, slice_index_or, nat_lt, replicate}
+use Rattle.std.specs.Prelude.{slice_get, slice_index_or, nat_lt, replicate}
 use Rattle.std.specs.List.{AllByRecursion}
 use Rattle.std.proofs.lemmas.Bool.Decides.{nat_tests}
 use Rattle.std.proofs.lemmas.List.{length-replicate}
-use Rattle.std.proofs.lemmas.List.FromFn.{length-map-range_with_len}
-use Rattle.std.proofs.lemmas.List.Elements.{All-from_recursion}
 use Rattle.std.proofs.lemmas.Bool.{and_from}
 use Rattle.std.proofs.lemmas.Option.{get_or_from_slice_get}
 use Rattle.ua_table.specs.declared.limits.TheConstants.{WIDTH}
 use Rattle.ua_table.specs.Algebras.{Vector, FiniteAlgebra, IsVector, arities_of, IsIncreasing}
-use Rattle.ua_table.specs.Terms.{Tree, Generator, IsTerm, eval}
+use Rattle.ua_table.specs.Terms.{Tree, Generator, IsTerm}
 use Rattle.ua_table.specs.Generated.{Sg}
 use Rattle.ua_table.specs.Refusals.{refusal_if}
 use Rattle.ua_table.proofs.Lists.{found, Contains-slice_get, all_at}
 use Rattle.ua_table.proofs.RefusalLemmas.{refusal_if-false}
-use Rattle.ua_table.proofs.FrameLemmas.{arities_of_power}
-use Rattle.ua_term.specs.Assignments.{IsAssignment}
 use Rattle.ua_walk.specs.Sequences.{Alternates, EndsWith, ends_even}
-use Rattle.ua_identity.specs.Identities.{VariablePattern, xxy}
-use Rattle.ua_identity.specs.Chains.{AreLinked, IsOwn, IsPlace, IsBeginning, IsChain, is_among_even, IsReached}
-use Rattle.ua_identity.specs.Patterns.{all_fillings, vector_of, place_vector, part_of}
-use Rattle.ua_identity.specs.Kinds.{alike}
-use Rattle.ua_identity.proofs.PatternLaws.{part_is, linked_from_parts}
+use Rattle.ua_identity.specs.Chains.{AreLinked, IsOwn, IsPlace, IsBeginning, IsChain, is_among_even, IsReached, generators_of}
+use Rattle.ua_identity.specs.Patterns.{all_fillings, vector_of}
 use Rattle.ua_cert.specs.declared.certs.ChainName.{ChainName}
 use Rattle.ua_cert.specs.declared.certs.ChainName.TheVariants.{Jonsson, Hm}
 use Rattle.ua_flaws.specs.declared.flaws.ListName.TheVariants.{Rows}
@@ -34,33 +27,16 @@ use Rattle.ua_check.specs.Answers.{AreThose}
 use Rattle.ua_flaws.specs.Flaws.{vectors_flaw, closed_flaw}
 use Rattle.ua_flaws.specs.Laws.{VectorsAreFlawless, ExactIsFlawless}
 use Rattle.ua_check.specs.Chains.{kind_of, chain_width, HasNoChain}
-use Rattle.ua_check.specs.Reached.{even_parts, odd_parts, leads, is_own_row, holds_position, odd_positions, positions_flaw, parity_flaw, is_led_to, is_started, is_followed, is_not_end, places_of, place_of, row_flaw, reached_lines, no_chain_lines, no_chain_flaw}
+use Rattle.ua_check.specs.Reached.{leads, is_own_row, holds_position, odd_positions, positions_flaw, parity_flaw, is_led_to, is_started, is_followed, is_not_end, place_of, row_flaw, reached_lines, no_chain_lines, no_chain_flaw}
 use Rattle.ua_flaws.proofs.FirstLaws.{same_is}
 use Rattle.ua_flaws.proofs.PassLaws.{no_line, no_option, none_bad}
-use Rattle.ua_check.proofs.NoChainLaws.{VectorLaw, three_long, vec}
-use Rattle.ua_check.proofs.ReachedLaws.{some_wide}
-use Rattle.ua_check.proofs.ReachedRows.{is_held, held_is, no_position_flaw, no_parity_flaw, ends_other, linked_even, linked_odd, leads_even, leads_odd, first_vector, own_term, led_from, where_so, or_not, not_held, start_reached, goes_on}
-use Rattle.ua_check.proofs.ChainLaws.{three_places}
+use Rattle.ua_check.proofs.NoChainLaws.{vec, end_is}
+use Rattle.ua_identity.proofs.KindLaws.{some_fillings}
+use Rattle.ua_identity.proofs.ChainLaws.{term_of_member, place_has_vector, ends_at_first, end_is_own}
+use Rattle.ua_check.proofs.ReachedLaws.{is_kind}
+use Rattle.ua_check.proofs.ReachedRows.{is_held, held_is, no_position_flaw, no_parity_flaw, ends_other, linked_even, linked_odd, leads_even, leads_odd, own_term, led_from, where_so, or_not, not_held, start_reached, goes_on}
 
 -- ---- the end
-
--- a term at the places that both vectors share
-same_place : (a : FiniteAlgebra) (name : ChainName) → vec a name (Generator 0) ≡ vec a name (Generator 2) → (ys : List ℕ) → IsAssignment a.size 3 ys → slice_index ys 0 ≡ slice_index ys 2
-unfolding vec
-same_place a name same ys h = here name same
-  where
-    is_two : IsAssignment a.size 2 (slice_index ys 0 ∷ slice_index ys 2 ∷ [])
-    is_two = record {
-      count = refl;
-      elements = (
-        All-from_recursion (λ u. u < a.size) ys h.elements 0 0 (let long = h.count in omega (arith, long)),
-        (All-from_recursion (λ u. u < a.size) ys h.elements 2 0 (let long = h.count in omega (arith, long)), tt),
-      );
-    }
-
-    here : (name : ChainName) → vec a name (Generator 0) ≡ vec a name (Generator 2) → slice_index ys 0 ≡ slice_index ys 2
-    here Jonsson e = linked_from_parts a (alike xxy) (Generator 0) (Generator 2) refl (sym (part_is a.size (kind_of Jonsson).patterns 1 xxy (λ xs. eval a xs (Generator 0)) refl) ∙ ap (part_of a.size (kind_of Jonsson).patterns 1 xxy) e ∙ part_is a.size (kind_of Jonsson).patterns 1 xxy (λ xs. eval a xs (Generator 2)) refl) (slice_index ys 0 ∷ slice_index ys 2 ∷ []) is_two
-    here Hm e = linked_from_parts a (alike xxy) (Generator 0) (Generator 2) refl (sym (part_is a.size (kind_of Hm).patterns 0 xxy (λ xs. eval a xs (Generator 0)) refl) ∙ ap (part_of a.size (kind_of Hm).patterns 0 xxy) e ∙ part_is a.size (kind_of Hm).patterns 0 xxy (λ xs. eval a xs (Generator 2)) refl) (slice_index ys 0 ∷ slice_index ys 2 ∷ []) is_two
 
 -- the list with another last element
 with_last : {X : Type 0} → X → List X → List X
@@ -90,73 +66,44 @@ link_with_last E O L g (x ∷ y ∷ z ∷ rest) over back l h = (h.0, link_with_
 
 module _ (a : FiniteAlgebra) (name : ChainName) where
   -- a term whose vector is that of the last place, in the place of the last of a beginning
-  end_over : (d e : Tree) → vec a name e ≡ vec a name (Generator 2) → AreLinked a (kind_of name).even d e → AreLinked a (kind_of name).even d (Generator 2)
-  end_over d e same h = linked_even a name d (Generator 2) (subst (λ v. leads a.size name (even_parts name) (vec a name d) v ≡ true) same (leads_even a name d e h))
+  end_over : (d e : Tree) → vec a name e ≡ vec a name (Generator (kind_of name).end) → AreLinked a (kind_of name).even d e → AreLinked a (kind_of name).even d (Generator (kind_of name).end)
+  end_over d e same h = linked_even a name d (Generator (kind_of name).end) (subst (λ v. leads a.size (kind_of name) (kind_of name).even (vec a name d) v ≡ true) same (leads_even a name d e h))
 
-  end_back : (d e : Tree) → vec a name e ≡ vec a name (Generator 2) → AreLinked a (kind_of name).odd d e → AreLinked a (kind_of name).odd d (Generator 2)
-  end_back d e same h = linked_odd a name d (Generator 2) (subst (λ v. leads a.size name (odd_parts name) (vec a name d) v ≡ true) same (leads_odd a name d e h))
-
-  end_own : IsOwn a (kind_of name) (Generator 2)
-  end_own = own name
-    where
-      own : (name : ChainName) → IsOwn a (kind_of name) (Generator 2)
-      own Jonsson = (λ xs h. refl, tt)
-      own Hm = tt
-
-  end_is_place : IsPlace a (kind_of name).places (kind_of name).end (Generator 2)
-  end_is_place = is name
-    where
-      is : (name : ChainName) → IsPlace a (kind_of name).places (kind_of name).end (Generator 2)
-      is Jonsson xs h = refl
-      is Hm xs h = refl
-
-  end_term : IsTerm (arities_of a) (kind_of name).places (Generator 2)
-  end_term = is name
-    where
-      is : (name : ChainName) → IsTerm (arities_of a) (kind_of name).places (Generator 2)
-      is Jonsson = omega arith
-      is Hm = omega arith
+  end_back : (d e : Tree) → vec a name e ≡ vec a name (Generator (kind_of name).end) → AreLinked a (kind_of name).odd d e → AreLinked a (kind_of name).odd d (Generator (kind_of name).end)
+  end_back d e same h = linked_odd a name d (Generator (kind_of name).end) (subst (λ v. leads a.size (kind_of name) (kind_of name).odd (vec a name d) v ≡ true) same (leads_odd a name d e h))
 
   -- one term alone is place 0
-  alone_ends : (name : ChainName) (t : Tree) → IsPlace a (kind_of name).places 0 t → vec a name t ≡ vec a name (Generator 2) → IsPlace a (kind_of name).places (kind_of name).end t
-  alone_ends Jonsson t h same xs g = h xs g ∙ same_place a Jonsson (sym (first_vector a Jonsson t h) ∙ same) xs g
-  alone_ends Hm t h same xs g = h xs g ∙ same_place a Hm (sym (first_vector a Hm t h) ∙ same) xs g
+  alone_ends : (t : Tree) → IsPlace a (kind_of name).places 0 t → vec a name t ≡ vec a name (Generator (kind_of name).end) → IsPlace a (kind_of name).places (kind_of name).end t
+  unfolding vec
+  alone_ends t h same xs g = h xs g ∙ ends_at_first a (kind_of name) (is_kind name) (sym (place_has_vector a (kind_of name) 0 t (is_kind name) h) ∙ same) xs g
 
-  ended : (terms : List Tree) → IsBeginning a (kind_of name) terms → EndsWith (λ t. vec a name t ≡ vec a name (Generator 2)) terms → (ts : List Tree) × IsChain a (kind_of name) ts
+  ended : (terms : List Tree) → IsBeginning a (kind_of name) terms → EndsWith (λ t. vec a name t ≡ vec a name (Generator (kind_of name).end)) terms → (ts : List Tree) × IsChain a (kind_of name) ts
   unfolding with_last
   ended [] b l = absurd l
-  ended (t ∷ []) b l = (t ∷ [], record { beginning = b; last = alone_ends name t b.first l })
+  ended (t ∷ []) b l = (t ∷ [], record { beginning = b; last = alone_ends t b.first l })
   ended (t ∷ u ∷ rest) b l = (
-    with_last (Generator 2) (t ∷ u ∷ rest),
+    with_last (Generator (kind_of name).end) (t ∷ u ∷ rest),
     record {
       beginning = record {
-        terms_are = all_with_last (IsTerm (arities_of a) (kind_of name).places) (Generator 2) (t ∷ u ∷ rest) end_term b.terms_are;
+        terms_are = all_with_last (IsTerm (arities_of a) (kind_of name).places) (Generator (kind_of name).end) (t ∷ u ∷ rest) (is_kind name).end b.terms_are;
         first = b.first;
-        own = all_with_last (IsOwn a (kind_of name)) (Generator 2) (t ∷ u ∷ rest) end_own b.own;
-        linked = link_with_last (AreLinked a (kind_of name).even) (AreLinked a (kind_of name).odd) (λ e. vec a name e ≡ vec a name (Generator 2)) (Generator 2) (t ∷ u ∷ rest) end_over end_back l b.linked;
+        own = all_with_last (IsOwn a (kind_of name)) (Generator (kind_of name).end) (t ∷ u ∷ rest) (end_is_own a (kind_of name) (is_kind name)) b.own;
+        linked = link_with_last (AreLinked a (kind_of name).even) (AreLinked a (kind_of name).odd) (λ e. vec a name e ≡ vec a name (Generator (kind_of name).end)) (Generator (kind_of name).end) (t ∷ u ∷ rest) end_over end_back l b.linked;
       };
-      last = ends_with_last (IsPlace a (kind_of name).places (kind_of name).end) (Generator 2) t (u ∷ rest) end_is_place;
+      last = ends_with_last (IsPlace a (kind_of name).places (kind_of name).end) (Generator (kind_of name).end) t (u ∷ rest) (λ xs h. refl);
     },
   )
 
-  end_vector : place_of a name (kind_of name).end ≡ vec a name (Generator 2)
-  unfolding vec
-  end_vector = is name
-    where
-      is : (name : ChainName) → place_of a name (kind_of name).end ≡ vec a name (Generator 2)
-      is Jonsson = refl
-      is Hm = refl
-
   -- where there is no chain, the end is not reached
-  end_not_reached : (even : Bool) → IsReached a (kind_of name) even (place_of a name (kind_of name).end) → HasNoChain a name → ⊥
+  end_not_reached : (even : Bool) → IsReached a (kind_of name) even (place_of a (kind_of name) (kind_of name).end) → HasNoChain a name → ⊥
   unfolding vec
   end_not_reached even r none =
-      let reaches : EndsWith (λ t. vector_of a (kind_of name).patterns t ≡ vec a name (Generator 2)) r.terms = subst (λ v. EndsWith (λ t. vector_of a (kind_of name).patterns t ≡ v) r.terms) end_vector r.reaches in
+      let reaches : EndsWith (λ t. vector_of a (kind_of name).patterns t ≡ vec a name (Generator (kind_of name).end)) r.terms = subst (λ v. EndsWith (λ t. vector_of a (kind_of name).patterns t ≡ v) r.terms) (sym (end_is a name (Generator (kind_of name).end) (λ xs h. refl))) r.reaches in
       let c = ended r.terms r.beginning reaches in
       none c.0 c.1
 
-module _ (a : FiniteAlgebra) (name : ChainName) (rows : List Vector) (even odd : List ℕ) (law : VectorLaw) (some : 0 < length (all_fillings a.size (kind_of name).patterns))
-    (exact : AreExact a (chain_width a name) (places_of a name) rows) (evens : AreThose a name true rows even) (odds : AreThose a name false rows odd) (none : HasNoChain a name) where
+module _ (a : FiniteAlgebra) (name : ChainName) (rows : List Vector) (even odd : List ℕ) (some : 0 < length (all_fillings a.size (kind_of name).patterns))
+    (exact : AreExact a (chain_width a (kind_of name)) (generators_of a (kind_of name)) rows) (evens : AreThose a name true rows even) (odds : AreThose a name false rows odd) (none : HasNoChain a name) where
   -- the term of a row
   record TermOf (v : Vector) : Type 0 where
     term : Tree
@@ -166,60 +113,53 @@ module _ (a : FiniteAlgebra) (name : ChainName) (rows : List Vector) (even odd :
   term_of : (i : ℕ) (v : Vector) → slice_get rows i ≡ Some v → TermOf v
   unfolding vec
   term_of i v at =
-      let wide = length (all_fillings a.size (kind_of name).patterns) in
-      let gens = places_of a name in
-      let count : length gens ≡ (kind_of name).places = length-map-range_with_len (place_vector (all_fillings a.size (kind_of name).patterns)) 0 (kind_of name).places in
-      let s : Sg (replicate wide a) gens v = subst (λ n. Sg (replicate n a) gens v) (length-replicate wide a) (exact.generated v (Contains-slice_get rows i v at)) in
-      let is : IsTerm (arities_of a) (kind_of name).places s.term = subst (λ n. IsTerm (arities_of a) n s.term) count (subst (λ ks. IsTerm ks (length gens) s.term) (arities_of_power a wide some) s.is_term) in
-      record {
-        term = s.term;
-        is_term = is;
-        vector = sym (law a (kind_of name).patterns (kind_of name).places s.term (subst (λ n. AllByRecursion (λ (p : VariablePattern). length p.places ≡ n) (kind_of name).patterns) (sym (three_places name)) (three_long name)) is) ∙ s.value;
-      }
+      let member = subst (λ n. Sg (replicate n a) (generators_of a (kind_of name)) v) (length-replicate (length (all_fillings a.size (kind_of name).patterns)) a) (exact.generated v (Contains-slice_get rows i v at)) in
+      let t = term_of_member a (kind_of name) v (is_kind name) some member in
+      record { term = t.0; is_term = t.1; vector = t.2 }
 
   -- a row that is reached leads to another, by the link of its side
-  led : (side : Bool) (i : ℕ) (v u : Vector) (at : slice_get rows i ≡ Some v) → is_own_row a.size name v ≡ true → (r : IsReached a (kind_of name) side u) → (ends_even r.terms ≡ true → leads a.size name (even_parts name) u v ≡ true) → (ends_even r.terms ≡ false → leads a.size name (odd_parts name) u v ≡ true)
+  led : (side : Bool) (i : ℕ) (v u : Vector) (at : slice_get rows i ≡ Some v) → is_own_row a.size (kind_of name) v ≡ true → (r : IsReached a (kind_of name) side u) → (ends_even r.terms ≡ true → leads a.size (kind_of name) (kind_of name).even u v ≡ true) → (ends_even r.terms ≡ false → leads a.size (kind_of name) (kind_of name).odd u v ≡ true)
       → IsReached a (kind_of name) (is_among_even (kind_of name) (r.terms ++ (term_of i v at).term ∷ [])) v
   led side i v u at own r over back =
       let t = term_of i v at in
-      let mine = own_term a name t.term (subst (λ z. is_own_row a.size name z ≡ true) (sym t.vector) own) in
+      let mine = own_term a name t.term (subst (λ z. is_own_row a.size (kind_of name) z ≡ true) (sym t.vector) own) in
       subst (IsReached a (kind_of name) (is_among_even (kind_of name) (r.terms ++ t.term ∷ []))) t.vector
       (goes_on a name side u t.term r t.is_term mine
-      (λ e d same. linked_even a name d t.term (subst (λ z. leads a.size name (even_parts name) z (vec a name t.term) ≡ true) (sym same) (subst (λ z. leads a.size name (even_parts name) u z ≡ true) (sym t.vector) (over e))))
-      (λ e d same. linked_odd a name d t.term (subst (λ z. leads a.size name (odd_parts name) z (vec a name t.term) ≡ true) (sym same) (subst (λ z. leads a.size name (odd_parts name) u z ≡ true) (sym t.vector) (back e)))))
+      (λ e d same. linked_even a name d t.term (subst (λ z. leads a.size (kind_of name) (kind_of name).even z (vec a name t.term) ≡ true) (sym same) (subst (λ z. leads a.size (kind_of name) (kind_of name).even u z ≡ true) (sym t.vector) (over e))))
+      (λ e d same. linked_odd a name d t.term (subst (λ z. leads a.size (kind_of name) (kind_of name).odd z (vec a name t.term) ≡ true) (sym same) (subst (λ z. leads a.size (kind_of name) (kind_of name).odd u z ≡ true) (sym t.vector) (back e)))))
 
   row_at : (p : ℕ) → p < length rows → (u : Vector) × (slice_get rows p ≡ Some u)
   row_at p l = found rows p l
 
-  start_fine : (i : ℕ) (v : Vector) → slice_get rows i ≡ Some v → is_started (place_of a name 0) even i v ≡ true
-  start_fine i v at = where_so (is_same v (place_of a name 0)) (holds_position even i) (λ same.
-      is_held even i ((evens.exact i v at).1 (subst (IsReached a (kind_of name) true) (sym (same_is v (place_of a name 0) same)) (start_reached a name))))
+  start_fine : (i : ℕ) (v : Vector) → slice_get rows i ≡ Some v → is_started (place_of a (kind_of name) 0) even i v ≡ true
+  start_fine i v at = where_so (is_same v (place_of a (kind_of name) 0)) (holds_position even i) (λ same.
+      is_held even i ((evens.exact i v at).1 (subst (IsReached a (kind_of name) true) (sym (same_is v (place_of a (kind_of name) 0) same)) (start_reached a name))))
 
-  end_fine : (i : ℕ) (v : Vector) → slice_get rows i ≡ Some v → is_not_end (place_of a name (kind_of name).end) even (odd_positions name even odd) i v ≡ true
-  end_fine i v at = where_so (is_same v (place_of a name (kind_of name).end)) (not (holds_position even i) && not (holds_position (odd_positions name even odd) i)) (λ same.
-      let is = same_is v (place_of a name (kind_of name).end) same in
+  end_fine : (i : ℕ) (v : Vector) → slice_get rows i ≡ Some v → is_not_end (place_of a (kind_of name) (kind_of name).end) even (odd_positions (kind_of name) even odd) i v ≡ true
+  end_fine i v at = where_so (is_same v (place_of a (kind_of name) (kind_of name).end)) (not (holds_position even i) && not (holds_position (odd_positions (kind_of name) even odd) i)) (λ same.
+      let is = same_is v (place_of a (kind_of name) (kind_of name).end) same in
       let no_even : holds_position even i ≡ true → ⊥ = λ h. end_not_reached a name true (subst (IsReached a (kind_of name) true) is ((evens.exact i v at).0 (held_is even i h))) none in
       let no_odd : holds_position odd i ≡ true → ⊥ = λ h. end_not_reached a name false (subst (IsReached a (kind_of name) false) is ((odds.exact i v at).0 (held_is odd i h))) none in
-      and_from (not (holds_position even i)) (not (holds_position (odd_positions name even odd) i)) (not_held (holds_position even i) no_even) (not_held (holds_position (odd_positions name even odd) i) (other name no_even no_odd)))
+      and_from (not (holds_position even i)) (not (holds_position (odd_positions (kind_of name) even odd) i)) (not_held (holds_position even i) no_even) (not_held (holds_position (odd_positions (kind_of name) even odd) i) (other name no_even no_odd)))
     where
-      other : (n : ChainName) → (holds_position even i ≡ true → ⊥) → (holds_position odd i ≡ true → ⊥) → holds_position (odd_positions n even odd) i ≡ true → ⊥
+      other : (n : ChainName) → (holds_position even i ≡ true → ⊥) → (holds_position odd i ≡ true → ⊥) → holds_position (odd_positions (kind_of n) even odd) i ≡ true → ⊥
       other Jonsson e o = o
       other Hm e o = e
 
 -- ---- the rows that are led to
 
 -- those of a kind whose sides are told apart
-module _ (a : FiniteAlgebra) (rows : List Vector) (even odd : List ℕ) (law : VectorLaw) (some : 0 < length (all_fillings a.size (kind_of Jonsson).patterns))
-    (exact : AreExact a (chain_width a Jonsson) (places_of a Jonsson) rows) (evens : AreThose a Jonsson true rows even) (odds : AreThose a Jonsson false rows odd) (none : HasNoChain a Jonsson) where
-  from_even : (i : ℕ) (v : Vector) → slice_get rows i ≡ Some v → is_own_row a.size Jonsson v ≡ true → is_led_to a.size Jonsson (even_parts Jonsson) rows even v ≡ true → holds_position odd i ≡ true
+module _ (a : FiniteAlgebra) (rows : List Vector) (even odd : List ℕ) (some : 0 < length (all_fillings a.size (kind_of Jonsson).patterns))
+    (exact : AreExact a (chain_width a (kind_of Jonsson)) (generators_of a (kind_of Jonsson)) rows) (evens : AreThose a Jonsson true rows even) (odds : AreThose a Jonsson false rows odd) (none : HasNoChain a Jonsson) where
+  from_even : (i : ℕ) (v : Vector) → slice_get rows i ≡ Some v → is_own_row a.size (kind_of Jonsson) v ≡ true → is_led_to a.size (kind_of Jonsson) (kind_of Jonsson).even rows even v ≡ true → holds_position odd i ≡ true
   from_even i v at own h =
-      let q = led_from (λ p. leads a.size Jonsson (even_parts Jonsson) (slice_index_or rows p []) v) even h in
+      let q = led_from (λ p. leads a.size (kind_of Jonsson) (kind_of Jonsson).even (slice_index_or rows p []) v) even h in
       let u = found rows q.0 (all_at (λ p. p < length rows) even q.0 evens.within q.1) in
-      let from : leads a.size Jonsson (even_parts Jonsson) u.0 v ≡ true = ap (λ z. leads a.size Jonsson (even_parts Jonsson) z v) (sym (get_or_from_slice_get rows q.0 u.0 [] u.1)) ∙ q.2 in
+      let from : leads a.size (kind_of Jonsson) (kind_of Jonsson).even u.0 v ≡ true = ap (λ z. leads a.size (kind_of Jonsson) (kind_of Jonsson).even z v) (sym (get_or_from_slice_get rows q.0 u.0 [] u.1)) ∙ q.2 in
       let r = (evens.exact q.0 u.0 u.1).0 q.1 in
       let side : ends_even r.terms ≡ true = left_true (ends_even r.terms) r.parity in
-      let next = led a Jonsson rows even odd law some exact evens odds none true i v u.0 at own r (λ e. from) (λ e. absurd (apart side e)) in
-      let t = (term_of a Jonsson rows even odd law some exact evens odds none i v at).term in
+      let next = led a Jonsson rows even odd some exact evens odds none true i v u.0 at own r (λ e. from) (λ e. absurd (apart side e)) in
+      let t = (term_of a Jonsson rows even odd some exact evens odds none i v at).term in
       let flips : is_among_even (kind_of Jonsson) (r.terms ++ t ∷ []) ≡ false = ap (λ b. b || false) (ends_other r.terms t ∙ ap not side) in
       is_held odd i ((odds.exact i v at).1 (subst (λ b. IsReached a (kind_of Jonsson) b v) flips next))
     where
@@ -230,15 +170,15 @@ module _ (a : FiniteAlgebra) (rows : List Vector) (even odd : List ℕ) (law : V
       apart : {b : Bool} → b ≡ true → b ≡ false → ⊥
       apart e f = cc
 
-  from_odd : (i : ℕ) (v : Vector) → slice_get rows i ≡ Some v → is_own_row a.size Jonsson v ≡ true → is_led_to a.size Jonsson (odd_parts Jonsson) rows odd v ≡ true → holds_position even i ≡ true
+  from_odd : (i : ℕ) (v : Vector) → slice_get rows i ≡ Some v → is_own_row a.size (kind_of Jonsson) v ≡ true → is_led_to a.size (kind_of Jonsson) (kind_of Jonsson).odd rows odd v ≡ true → holds_position even i ≡ true
   from_odd i v at own h =
-      let q = led_from (λ p. leads a.size Jonsson (odd_parts Jonsson) (slice_index_or rows p []) v) odd h in
+      let q = led_from (λ p. leads a.size (kind_of Jonsson) (kind_of Jonsson).odd (slice_index_or rows p []) v) odd h in
       let u = found rows q.0 (all_at (λ p. p < length rows) odd q.0 odds.within q.1) in
-      let from : leads a.size Jonsson (odd_parts Jonsson) u.0 v ≡ true = ap (λ z. leads a.size Jonsson (odd_parts Jonsson) z v) (sym (get_or_from_slice_get rows q.0 u.0 [] u.1)) ∙ q.2 in
+      let from : leads a.size (kind_of Jonsson) (kind_of Jonsson).odd u.0 v ≡ true = ap (λ z. leads a.size (kind_of Jonsson) (kind_of Jonsson).odd z v) (sym (get_or_from_slice_get rows q.0 u.0 [] u.1)) ∙ q.2 in
       let r = (odds.exact q.0 u.0 u.1).0 q.1 in
       let side : ends_even r.terms ≡ false = left_false (ends_even r.terms) r.parity in
-      let next = led a Jonsson rows even odd law some exact evens odds none false i v u.0 at own r (λ e. absurd (apart e side)) (λ e. from) in
-      let t = (term_of a Jonsson rows even odd law some exact evens odds none i v at).term in
+      let next = led a Jonsson rows even odd some exact evens odds none false i v u.0 at own r (λ e. absurd (apart e side)) (λ e. from) in
+      let t = (term_of a Jonsson rows even odd some exact evens odds none i v at).term in
       let flips : is_among_even (kind_of Jonsson) (r.terms ++ t ∷ []) ≡ true = ap (λ b. b || false) (ends_other r.terms t ∙ ap not side) in
       is_held even i ((evens.exact i v at).1 (subst (λ b. IsReached a (kind_of Jonsson) b v) flips next))
     where
@@ -249,62 +189,62 @@ module _ (a : FiniteAlgebra) (rows : List Vector) (even odd : List ℕ) (law : V
       apart : {b : Bool} → b ≡ true → b ≡ false → ⊥
       apart e f = cc
 
-  followed_jonsson : (i : ℕ) (v : Vector) → slice_get rows i ≡ Some v → is_followed a.size Jonsson rows even odd i v ≡ true
-  followed_jonsson i v at = where_so (is_own_row a.size Jonsson v) ((holds_position odd i || not (is_led_to a.size Jonsson (even_parts Jonsson) rows even v)) && (holds_position even i || not (is_led_to a.size Jonsson (odd_parts Jonsson) rows odd v))) (λ own.
-      and_from (holds_position odd i || not (is_led_to a.size Jonsson (even_parts Jonsson) rows even v)) (holds_position even i || not (is_led_to a.size Jonsson (odd_parts Jonsson) rows odd v))
-      (or_not (holds_position odd i) (is_led_to a.size Jonsson (even_parts Jonsson) rows even v) (from_even i v at own))
-      (or_not (holds_position even i) (is_led_to a.size Jonsson (odd_parts Jonsson) rows odd v) (from_odd i v at own)))
+  followed_jonsson : (i : ℕ) (v : Vector) → slice_get rows i ≡ Some v → is_followed a.size (kind_of Jonsson) rows even odd i v ≡ true
+  followed_jonsson i v at = where_so (is_own_row a.size (kind_of Jonsson) v) ((holds_position odd i || not (is_led_to a.size (kind_of Jonsson) (kind_of Jonsson).even rows even v)) && (holds_position even i || not (is_led_to a.size (kind_of Jonsson) (kind_of Jonsson).odd rows odd v))) (λ own.
+      and_from (holds_position odd i || not (is_led_to a.size (kind_of Jonsson) (kind_of Jonsson).even rows even v)) (holds_position even i || not (is_led_to a.size (kind_of Jonsson) (kind_of Jonsson).odd rows odd v))
+      (or_not (holds_position odd i) (is_led_to a.size (kind_of Jonsson) (kind_of Jonsson).even rows even v) (from_even i v at own))
+      (or_not (holds_position even i) (is_led_to a.size (kind_of Jonsson) (kind_of Jonsson).odd rows odd v) (from_odd i v at own)))
 
 -- those of a kind whose sides are not
-module _ (a : FiniteAlgebra) (rows : List Vector) (even odd : List ℕ) (law : VectorLaw) (some : 0 < length (all_fillings a.size (kind_of Hm).patterns))
-    (exact : AreExact a (chain_width a Hm) (places_of a Hm) rows) (evens : AreThose a Hm true rows even) (odds : AreThose a Hm false rows odd) (none : HasNoChain a Hm) where
-  from_any : (i : ℕ) (v : Vector) → slice_get rows i ≡ Some v → is_led_to a.size Hm (even_parts Hm) rows even v ≡ true → holds_position even i ≡ true
+module _ (a : FiniteAlgebra) (rows : List Vector) (even odd : List ℕ) (some : 0 < length (all_fillings a.size (kind_of Hm).patterns))
+    (exact : AreExact a (chain_width a (kind_of Hm)) (generators_of a (kind_of Hm)) rows) (evens : AreThose a Hm true rows even) (odds : AreThose a Hm false rows odd) (none : HasNoChain a Hm) where
+  from_any : (i : ℕ) (v : Vector) → slice_get rows i ≡ Some v → is_led_to a.size (kind_of Hm) (kind_of Hm).even rows even v ≡ true → holds_position even i ≡ true
   from_any i v at h =
-      let q = led_from (λ p. leads a.size Hm (even_parts Hm) (slice_index_or rows p []) v) even h in
+      let q = led_from (λ p. leads a.size (kind_of Hm) (kind_of Hm).even (slice_index_or rows p []) v) even h in
       let u = found rows q.0 (all_at (λ p. p < length rows) even q.0 evens.within q.1) in
-      let from : leads a.size Hm (even_parts Hm) u.0 v ≡ true = ap (λ z. leads a.size Hm (even_parts Hm) z v) (sym (get_or_from_slice_get rows q.0 u.0 [] u.1)) ∙ q.2 in
+      let from : leads a.size (kind_of Hm) (kind_of Hm).even u.0 v ≡ true = ap (λ z. leads a.size (kind_of Hm) (kind_of Hm).even z v) (sym (get_or_from_slice_get rows q.0 u.0 [] u.1)) ∙ q.2 in
       let r = (evens.exact q.0 u.0 u.1).0 q.1 in
-      let next = led a Hm rows even odd law some exact evens odds none true i v u.0 at refl r (λ e. from) (λ e. from) in
-      let t = (term_of a Hm rows even odd law some exact evens odds none i v at).term in
+      let next = led a Hm rows even odd some exact evens odds none true i v u.0 at refl r (λ e. from) (λ e. from) in
+      let t = (term_of a Hm rows even odd some exact evens odds none i v at).term in
       is_held even i ((evens.exact i v at).1 (subst (λ b. IsReached a (kind_of Hm) b v) (always (ends_even (r.terms ++ t ∷ []))) next))
     where
       always : (b : Bool) → (b || true) ≡ true
       always true = refl
       always false = refl
 
-  followed_hm : (i : ℕ) (v : Vector) → slice_get rows i ≡ Some v → is_followed a.size Hm rows even even i v ≡ true
+  followed_hm : (i : ℕ) (v : Vector) → slice_get rows i ≡ Some v → is_followed a.size (kind_of Hm) rows even even i v ≡ true
   followed_hm i v at =
-      and_from (holds_position even i || not (is_led_to a.size Hm (even_parts Hm) rows even v)) (holds_position even i || not (is_led_to a.size Hm (odd_parts Hm) rows even v))
-      (or_not (holds_position even i) (is_led_to a.size Hm (even_parts Hm) rows even v) (from_any i v at))
-      (or_not (holds_position even i) (is_led_to a.size Hm (odd_parts Hm) rows even v) (from_any i v at))
+      and_from (holds_position even i || not (is_led_to a.size (kind_of Hm) (kind_of Hm).even rows even v)) (holds_position even i || not (is_led_to a.size (kind_of Hm) (kind_of Hm).odd rows even v))
+      (or_not (holds_position even i) (is_led_to a.size (kind_of Hm) (kind_of Hm).even rows even v) (from_any i v at))
+      (or_not (holds_position even i) (is_led_to a.size (kind_of Hm) (kind_of Hm).odd rows even v) (from_any i v at))
 
-follows_fine : (a : FiniteAlgebra) (name : ChainName) (rows : List Vector) (even odd : List ℕ) → VectorLaw → 0 < length (all_fillings a.size (kind_of name).patterns) → AreExact a (chain_width a name) (places_of a name) rows → AreThose a name true rows even → AreThose a name false rows odd → HasNoChain a name
-    → (i : ℕ) (v : Vector) → slice_get rows i ≡ Some v → is_followed a.size name rows even (odd_positions name even odd) i v ≡ true
-follows_fine a Jonsson rows even odd law some exact evens odds none i v at = followed_jonsson a rows even odd law some exact evens odds none i v at
-follows_fine a Hm rows even odd law some exact evens odds none i v at = followed_hm a rows even odd law some exact evens odds none i v at
+follows_fine : (a : FiniteAlgebra) (name : ChainName) (rows : List Vector) (even odd : List ℕ) → 0 < length (all_fillings a.size (kind_of name).patterns) → AreExact a (chain_width a (kind_of name)) (generators_of a (kind_of name)) rows → AreThose a name true rows even → AreThose a name false rows odd → HasNoChain a name
+    → (i : ℕ) (v : Vector) → slice_get rows i ≡ Some v → is_followed a.size (kind_of name) rows even (odd_positions (kind_of name) even odd) i v ≡ true
+follows_fine a Jonsson rows even odd some exact evens odds none i v at = followed_jonsson a rows even odd some exact evens odds none i v at
+follows_fine a Hm rows even odd some exact evens odds none i v at = followed_hm a rows even odd some exact evens odds none i v at
 
 -- ---- the whole
 
 each_row : (good : ℕ → Vector → Bool) (rows : List Vector) → ((i : ℕ) (v : Vector) → slice_get rows i ≡ Some v → good i v ≡ true) → row_flaw good rows ≡ None
 each_row good rows h = no_option flaw.Reached (first_bad good 0 rows) (none_bad good 0 rows (λ i v at. (let z : 0 + i ≡ i = omega arith in ap (λ k. good k v) z ∙ h i v at)))
 
-pub flawless_no_chain : (a : FiniteAlgebra) (name : ChainName) (rows : List Vector) (even odd : List ℕ) → VectorLaw → VectorsAreFlawless → ExactIsFlawless → 0 < a.size → chain_width a name ≤ WIDTH → IsIncreasing rows → AllByRecursion (IsVector (power a (chain_width a name))) rows → AreExact a (chain_width a name) (places_of a name) rows
+pub flawless_no_chain : (a : FiniteAlgebra) (name : ChainName) (rows : List Vector) (even odd : List ℕ) → VectorsAreFlawless → ExactIsFlawless → 0 < a.size → chain_width a (kind_of name) ≤ WIDTH → IsIncreasing rows → AllByRecursion (IsVector (power a (chain_width a (kind_of name)))) rows → AreExact a (chain_width a (kind_of name)) (generators_of a (kind_of name)) rows
     → AreThose a name true rows even → AreThose a name false rows odd → HasNoChain a name → no_chain_flaw a name rows even odd ≡ None
-flawless_no_chain a name rows even odd law fine closed size narrow inc vectors exact evens odds none =
-    let some = some_wide a.size name size in
-    no_line (no_chain_lines a name rows even odd) (
-      no_line (refusal_if (nat_lt WIDTH (chain_width a name)) flaw.Width ∷ vectors_flaw a.size (chain_width a name) Rows rows ∷ closed_flaw a (chain_width a name) (places_of a name) rows ∷ []) (
-        refusal_if-false (nat_lt WIDTH (chain_width a name)) flaw.Width (within (chain_width a name) narrow),
-        (fine a (chain_width a name) Rows rows vectors, (closed a (chain_width a name) (places_of a name) rows inc exact, tt)),
+flawless_no_chain a name rows even odd fine closed size narrow inc vectors exact evens odds none =
+    let some = some_fillings a.size (kind_of name) (is_kind name) size in
+    no_line (no_chain_lines a (kind_of name) rows even odd) (
+      no_line (refusal_if (nat_lt WIDTH (chain_width a (kind_of name))) flaw.Width ∷ vectors_flaw a.size (chain_width a (kind_of name)) Rows rows ∷ closed_flaw a (chain_width a (kind_of name)) (generators_of a (kind_of name)) rows ∷ []) (
+        refusal_if-false (nat_lt WIDTH (chain_width a (kind_of name))) flaw.Width (within (chain_width a (kind_of name)) narrow),
+        (fine a (chain_width a (kind_of name)) Rows rows vectors, (closed a (chain_width a (kind_of name)) (generators_of a (kind_of name)) rows inc exact, tt)),
       ),
       (
-        no_line (positions_flaw (length rows) even ∷ positions_flaw (length rows) odd ∷ parity_flaw name odd ∷ []) (no_position_flaw a name true rows even evens, (no_position_flaw a name false rows odd odds, (no_parity_flaw a name rows odd odds, tt))),
+        no_line (positions_flaw (length rows) even ∷ positions_flaw (length rows) odd ∷ parity_flaw (kind_of name) odd ∷ []) (no_position_flaw a name true rows even evens, (no_position_flaw a name false rows odd odds, (no_parity_flaw a name rows odd odds, tt))),
         (
-          no_line (reached_lines a.size name (place_of a name 0) (place_of a name (kind_of name).end) rows even (odd_positions name even odd)) (
-            each_row (is_started (place_of a name 0) even) rows (start_fine a name rows even odd law some exact evens odds none),
+          no_line (reached_lines a.size (kind_of name) (place_of a (kind_of name) 0) (place_of a (kind_of name) (kind_of name).end) rows even (odd_positions (kind_of name) even odd)) (
+            each_row (is_started (place_of a (kind_of name) 0) even) rows (start_fine a name rows even odd some exact evens odds none),
             (
-              each_row (is_followed a.size name rows even (odd_positions name even odd)) rows (follows_fine a name rows even odd law some exact evens odds none),
-              (each_row (is_not_end (place_of a name (kind_of name).end) even (odd_positions name even odd)) rows (end_fine a name rows even odd law some exact evens odds none), tt),
+              each_row (is_followed a.size (kind_of name) rows even (odd_positions (kind_of name) even odd)) rows (follows_fine a name rows even odd some exact evens odds none),
+              (each_row (is_not_end (place_of a (kind_of name) (kind_of name).end) even (odd_positions (kind_of name) even odd)) rows (end_fine a name rows even odd some exact evens odds none), tt),
             ),
           ),
           tt,

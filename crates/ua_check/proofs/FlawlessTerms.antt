@@ -196,14 +196,14 @@ module _ (a : FiniteAlgebra) (kind : ChainKind) (terms : List Tree) (chain : IsC
   no_link_flaw : links_flaw a kind terms ≡ None
   no_link_flaw = no_option flaw.Link (first_bad (is_in_chain a kind terms) 0 terms) (none_bad (is_in_chain a kind terms) 0 terms (λ i t at. (let z : 0 + i ≡ i = omega arith in ap (λ k. is_in_chain a kind terms k t) z ∙ in_chain i t at)))
 
-pub flawless_chain : WrittenIsFlawless → WrittenIsRead → (a : FiniteAlgebra) → IsAlgebraTable a → (name : ChainName) (lists : List (List Origin)) → chain_width a name ≤ WIDTH → AllByRecursion (λ (os : List Origin). 0 < length os) lists → AllByRecursion (AreSteps (arities_of a) (kind_of name).places) lists
+pub flawless_chain : WrittenIsFlawless → WrittenIsRead → (a : FiniteAlgebra) → IsAlgebraTable a → (name : ChainName) (lists : List (List Origin)) → chain_width a (kind_of name) ≤ WIDTH → AllByRecursion (λ (os : List Origin). 0 < length os) lists → AllByRecursion (AreSteps (arities_of a) (kind_of name).places) lists
     → IsChain a (kind_of name) (map (written_term (arities_of a)) lists) → chain_flaw a name (map (written_steps a) lists) ≡ None
 flawless_chain fine read a table name lists narrow some steps chain =
     let terms : List (List CertStep) = map (written_steps a) lists in
     let count : length terms ≡ length lists = length-map lists (written_steps a) in
     let is = terms_written read a table (kind_of name).places lists steps in
-    no_line (chain_lines a name terms) (
-      refusal_if-false (nat_lt WIDTH (chain_width a name) || is_without_term terms) flaw.Width (or_from (nat_lt WIDTH (chain_width a name)) (is_without_term terms) (within (chain_width a name) narrow)
+    no_line (chain_lines a (kind_of name) terms) (
+      refusal_if-false (nat_lt WIDTH (chain_width a (kind_of name)) || is_without_term terms) flaw.Width (or_from (nat_lt WIDTH (chain_width a (kind_of name))) (is_without_term terms) (within (chain_width a (kind_of name)) narrow)
           (or_from (length terms == 0) (list_any (λ (steps : List CertStep). length steps == 0) terms) (nonempty lists chain) (none_empty a lists some))),
       (
         no_term_flaw fine a table (kind_of name).places 0 lists steps,

@@ -20,9 +20,11 @@ use Rattle.ua_flaws.specs.declared.flaws.Flaw.TheVariants as flaw
 use Rattle.ua_flaws.specs.Firsts.{first_bad}
 use Rattle.ua_check.specs.Answers.{AreThose}
 use Rattle.ua_check.specs.Chains.{kind_of}
-use Rattle.ua_check.specs.Reached.{even_parts, odd_parts, leads, is_own_row, holds_position, is_position, positions_flaw, parity_flaw, place_of}
-use Rattle.ua_flaws.proofs.FirstLaws.{same_is}
+use Rattle.ua_check.specs.Reached.{leads, is_own_row, holds_position, is_position, positions_flaw, parity_flaw, place_of}
+use Rattle.ua_flaws.proofs.FirstLaws.{same_is, both}
 use Rattle.ua_flaws.proofs.PassLaws.{is_below, no_option, none_bad}
+use Rattle.ua_identity.proofs.ChainLaws.{first_is_own}
+use Rattle.ua_check.proofs.ReachedLaws.{is_kind}
 use Rattle.ua_check.proofs.NoChainLaws.{vec, even_leads, odd_leads, start_is}
 
 -- ---- positions
@@ -70,7 +72,7 @@ no_odd a rows (p ∷ ps) h =
     never true e = cc
     never false e = cc
 
-pub no_parity_flaw : (a : FiniteAlgebra) (name : ChainName) (rows : List Vector) (odd : List ℕ) → AreThose a name false rows odd → parity_flaw name odd ≡ None
+pub no_parity_flaw : (a : FiniteAlgebra) (name : ChainName) (rows : List Vector) (odd : List ℕ) → AreThose a name false rows odd → parity_flaw (kind_of name) odd ≡ None
 no_parity_flaw a Jonsson rows odd h = refl
 no_parity_flaw a Hm rows odd h = refusal_if-false (not (length odd == 0)) (flaw.Reached (slice_index odd 0)) (ap not (no_odd a rows odd h))
 
@@ -114,31 +116,27 @@ module _ (a : FiniteAlgebra) (name : ChainName) where
 
 -- ---- rows by their parts
 
-pub linked_even : (a : FiniteAlgebra) (name : ChainName) (d e : Tree) → leads a.size name (even_parts name) (vec a name d) (vec a name e) ≡ true → AreLinked a (kind_of name).even d e
+pub linked_even : (a : FiniteAlgebra) (name : ChainName) (d e : Tree) → leads a.size (kind_of name) (kind_of name).even (vec a name d) (vec a name e) ≡ true → AreLinked a (kind_of name).even d e
 unfolding vec
 linked_even a Jonsson d e h = linked_from_parts a (kind_of Jonsson).even d e refl (sym (part_is a.size (kind_of Jonsson).patterns 1 xxy (λ xs. eval a xs d) refl) ∙ same_is _ _ h ∙ part_is a.size (kind_of Jonsson).patterns 1 xxy (λ xs. eval a xs e) refl)
 linked_even a Hm d e h = linked_from_parts a (kind_of Hm).even d e refl (sym (part_is a.size (kind_of Hm).patterns 0 xxy (λ xs. eval a xs d) refl) ∙ same_is _ _ h ∙ part_is a.size (kind_of Hm).patterns 1 xyy (λ xs. eval a xs e) refl)
 
-pub linked_odd : (a : FiniteAlgebra) (name : ChainName) (d e : Tree) → leads a.size name (odd_parts name) (vec a name d) (vec a name e) ≡ true → AreLinked a (kind_of name).odd d e
+pub linked_odd : (a : FiniteAlgebra) (name : ChainName) (d e : Tree) → leads a.size (kind_of name) (kind_of name).odd (vec a name d) (vec a name e) ≡ true → AreLinked a (kind_of name).odd d e
 unfolding vec
 linked_odd a Jonsson d e h = linked_from_parts a (kind_of Jonsson).odd d e refl (sym (part_is a.size (kind_of Jonsson).patterns 2 xyy (λ xs. eval a xs d) refl) ∙ same_is _ _ h ∙ part_is a.size (kind_of Jonsson).patterns 2 xyy (λ xs. eval a xs e) refl)
 linked_odd a Hm d e h = linked_from_parts a (kind_of Hm).odd d e refl (sym (part_is a.size (kind_of Hm).patterns 0 xxy (λ xs. eval a xs d) refl) ∙ same_is _ _ h ∙ part_is a.size (kind_of Hm).patterns 1 xyy (λ xs. eval a xs e) refl)
 
-pub leads_even : (a : FiniteAlgebra) (name : ChainName) (d e : Tree) → AreLinked a (kind_of name).even d e → leads a.size name (even_parts name) (vec a name d) (vec a name e) ≡ true
+pub leads_even : (a : FiniteAlgebra) (name : ChainName) (d e : Tree) → AreLinked a (kind_of name).even d e → leads a.size (kind_of name) (kind_of name).even (vec a name d) (vec a name e) ≡ true
 unfolding vec
 leads_even a name d e h = even_leads a name d e h
 
-pub leads_odd : (a : FiniteAlgebra) (name : ChainName) (d e : Tree) → AreLinked a (kind_of name).odd d e → leads a.size name (odd_parts name) (vec a name d) (vec a name e) ≡ true
+pub leads_odd : (a : FiniteAlgebra) (name : ChainName) (d e : Tree) → AreLinked a (kind_of name).odd d e → leads a.size (kind_of name) (kind_of name).odd (vec a name d) (vec a name e) ≡ true
 unfolding vec
 leads_odd a name d e h = odd_leads a name d e h
 
--- the vector of a term that is place 0
-pub first_vector : (a : FiniteAlgebra) (name : ChainName) (t : Tree) → IsPlace a (kind_of name).places 0 t → vec a name t ≡ vec a name (Generator 0)
-first_vector a name t h = start_is a name t h ∙ sym (start_is a name (Generator 0) (λ xs g. refl))
-
-pub own_term : (a : FiniteAlgebra) (name : ChainName) (t : Tree) → is_own_row a.size name (vec a name t) ≡ true → IsOwn a (kind_of name) t
+pub own_term : (a : FiniteAlgebra) (name : ChainName) (t : Tree) → is_own_row a.size (kind_of name) (vec a name t) ≡ true → IsOwn a (kind_of name) t
 unfolding vec
-own_term a Jonsson t h = (satisfied_from_part a (record { pattern = xyx; value = 0 }) t (sym (part_is a.size (kind_of Jonsson).patterns 0 xyx (λ xs. eval a xs t) refl) ∙ same_is _ _ h), tt)
+own_term a Jonsson t h = (satisfied_from_part a (record { pattern = xyx; value = 0 }) t (sym (part_is a.size (kind_of Jonsson).patterns 0 xyx (λ xs. eval a xs t) refl) ∙ same_is _ _ (both _ true h).0), tt)
 own_term a Hm t h = tt
 
 -- some position leads there
@@ -166,16 +164,13 @@ not_held false h = refl
 
 -- ---- the start
 
-pub start_reached : (a : FiniteAlgebra) (name : ChainName) → IsReached a (kind_of name) true (place_of a name 0)
-start_reached a Jonsson = record {
-  terms = Generator 0 ∷ [];
-  beginning = record { terms_are = (omega arith, tt); first = λ xs h. refl; own = ((λ xs h. refl, tt), tt); linked = tt };
-  parity = refl;
-  reaches = refl;
-}
-start_reached a Hm = record {
-  terms = Generator 0 ∷ [];
-  beginning = record { terms_are = (omega arith, tt); first = λ xs h. refl; own = (tt, tt); linked = tt };
-  parity = refl;
-  reaches = refl;
-}
+pub start_reached : (a : FiniteAlgebra) (name : ChainName) → IsReached a (kind_of name) true (place_of a (kind_of name) 0)
+unfolding vec
+start_reached a name =
+    let k = is_kind name in
+    record {
+      terms = Generator 0 ∷ [];
+      beginning = record { terms_are = ((let end = k.end in omega arith), tt); first = λ xs h. refl; own = (first_is_own a (kind_of name) k, tt); linked = tt };
+      parity = refl;
+      reaches = start_is a name (Generator 0) (λ xs h. refl);
+    }

@@ -1,11 +1,9 @@
 -- Where no assignment fails, the identity or the link holds at all of them.
-use Rattle.std.proofs.Common.{◌≡◌, ℕ, ◌+◌, true, Option, Some, None, List, [], ◌∷◌, length, map, refl, sym, ap, ◌∙◌, arith}
+use Rattle.std.proofs.Common.{◌≡◌, ℕ, ◌+◌, true, Option, Some, None, List, [], ◌∷◌, map, refl, sym, ap, ◌∙◌, arith}
 use Rattle.std.specs.Prelude.{slice_index, find, ◌==◌}
-use Rattle.std.specs.List.{AllByRecursion, enumerate_from, range_with_len}
+use Rattle.std.specs.List.{AllByRecursion, enumerate_from}
 use Rattle.std.specs.Option.{is_none}
 use Rattle.std.proofs.lemmas.Bool.Decides.{nat_tests}
-use Rattle.std.proofs.lemmas.List.{ext_get_or}
-use Rattle.std.proofs.lemmas.List.FromFn.{length-map-range_with_len, get_or-map-range_with_len}
 use Rattle.ua_table.specs.Algebras.{FiniteAlgebra}
 use Rattle.ua_table.specs.Terms.{Tree, eval}
 use Rattle.ua_table.specs.Refusals.{first_refusal}

@@ -2,7 +2,7 @@
 use Rattle.std.proofs.Common.{◌≡◌, ℕ, ◌+◌, ◌-◌, ◌<◌, ◌≤◌, Some, List, [], ◌∷◌, ◌++◌, length, map, take, set, get_or, refl, sym, ap, subst, ◌∙◌, arith}
 use Rattle.std.specs.Prelude.{slice_index, slice_get}
 use Rattle.std.specs.List.{AllByRecursion}
-use Rattle.std.proofs.lemmas.List.{length-append, map-append, get_or-map, get_or-take, take_all, take_more_set, length-take-le, take_more}
+use Rattle.std.proofs.lemmas.List.{map-append, get_or-map, get_or-take, take_all, take_more_set, length-take-le, take_more}
 use Rattle.std.proofs.lemmas.List.Elements.{All-from_recursion}
 use Rattle.ua_table.specs.declared.origins.Origin.{Origin}
 use Rattle.ua_table.specs.declared.origins.Origin.TheVariants.{Gen, Op}
@@ -11,7 +11,7 @@ use Rattle.ua_table.specs.Tables.{IsAlgebraTable}
 use Rattle.ua_table.specs.Terms.{Tree, Generator, eval, eval_all}
 use Rattle.ua_table.specs.Origins.{IsOrigin}
 use Rattle.ua_table.proofs.Lists.{all_push}
-use Rattle.ua_term.specs.Steps.{AreSteps, terms_at, term_after, terms_from, unfolded}
+use Rattle.ua_term.specs.Steps.{AreSteps, terms_at, term_after, unfolded}
 use Rattle.ua_term.proofs.StepLaws.{step_at, unfolded_more, length_from}
 use Rattle.ua_term.proofs.TreeLemmas.{operation_facts}
 use Rattle.ua_flaws.specs.Steps.{written_term}

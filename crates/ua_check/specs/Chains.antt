@@ -10,9 +10,8 @@ use Rattle.ua_table.specs.Refusals.{refusal_if, first_refusal}
 use Rattle.ua_term.specs.Steps.{AreSteps}
 use Rattle.ua_term.specs.Assignments.{assignments}
 use Rattle.ua_identity.specs.Identities.{TermIdentity, at_pattern}
-use Rattle.ua_identity.specs.Chains.{Link, ChainKind, IsChain}
+use Rattle.ua_identity.specs.Chains.{Link, ChainKind, IsChain, power_of}
 use Rattle.ua_identity.specs.Kinds.{jonsson, hagemann_mitschke}
-use Rattle.ua_identity.specs.Patterns.{power}
 use Rattle.ua_cert.specs.declared.certs.CertStep.{CertStep}
 use Rattle.ua_cert.specs.declared.certs.ChainName.{ChainName}
 use Rattle.ua_cert.specs.declared.certs.ChainName.TheVariants.{Jonsson, Hm}
@@ -29,8 +28,8 @@ kind_of Jonsson = jonsson
 kind_of Hm = hagemann_mitschke
 
 -- how many coordinates the vectors of its terms have
-abbrev pub chain_width : FiniteAlgebra → ChainName → ℕ
-chain_width a name = length (power a (kind_of name).patterns)
+abbrev pub chain_width : FiniteAlgebra → ChainKind → ℕ
+chain_width a kind = length (power_of a kind)
 
 -- ---- what they say
 
@@ -84,7 +83,7 @@ abbrev pub links_flaw : FiniteAlgebra → ChainKind → List Tree → Option Fla
 links_flaw a kind terms = option_map flaw.Link (first_bad (is_in_chain a kind terms) 0 terms)
 
 -- the steps of a term of three places, of which there are some, and at most so many
-pub record AreTermSteps (a : FiniteAlgebra) (most : ℕ) (list : List Origin) : Type 0 where
+pub record AreStepsWithin (a : FiniteAlgebra) (most : ℕ) (list : List Origin) : Type 0 where
   pub some : 0 < length list
   pub few : length list ≤ most
   pub steps : AreSteps (arities_of a) 3 list
@@ -102,13 +101,13 @@ abbrev pub is_without_term : List (List CertStep) → Bool
 is_without_term terms = (length terms == 0) || list_any (λ (steps : List CertStep). length steps == 0) terms
 
 -- the lines on a certificate that terms are a chain
-abbrev pub chain_lines : FiniteAlgebra → ChainName → List (List CertStep) → List (Option Flaw)
-chain_lines a name terms =
-    refusal_if (nat_lt WIDTH (chain_width a name) || is_without_term terms) flaw.Width
-    ∷ terms_flaw a (kind_of name).places terms
-    ∷ links_flaw a (kind_of name) (map (last_term a) terms)
+abbrev pub chain_lines : FiniteAlgebra → ChainKind → List (List CertStep) → List (Option Flaw)
+chain_lines a kind terms =
+    refusal_if (nat_lt WIDTH (chain_width a kind) || is_without_term terms) flaw.Width
+    ∷ terms_flaw a kind.places terms
+    ∷ links_flaw a kind (map (last_term a) terms)
     ∷ []
 
 -- the first flaw of a certificate that terms are a chain
 abbrev pub chain_flaw : FiniteAlgebra → ChainName → List (List CertStep) → Option Flaw
-chain_flaw a name terms = first_refusal (chain_lines a name terms)
+chain_flaw a name terms = first_refusal (chain_lines a (kind_of name) terms)

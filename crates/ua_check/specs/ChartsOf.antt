@@ -4,19 +4,18 @@ use Rattle.std.specs.List.{AllByRecursion}
 use Rattle.ua_table.specs.declared.limits.TheConstants.{SIZE, WIDTH}
 use Rattle.ua_table.specs.Algebras.{Vector}
 use Rattle.ua_term.specs.Assignments.{projection}
+use Rattle.ua_identity.specs.Identities.{TermIdentity}
 use Rattle.ua_identity.specs.Patterns.{all_fillings}
 use Rattle.ua_check.specs.declared.charts.Chart.{Chart}
 use Rattle.ua_check.specs.declared.positions.Positions.{Positions}
-use Rattle.ua_check.specs.Chains.{kind_of}
 use Rattle.ua_check.specs.Reached.{holds_position}
 
--- the patterns are those of the chains, and the rows have a coordinate for each of their assignments
+-- the rows have a coordinate for each assignment of the kind's patterns, and what each term has by itself is told
 pub record IsChartOf (c : Chart) : Type 0 where
   pub some : 0 < c.size
   pub small : c.size ≤ SIZE
-  pub patterns : c.patterns.now ≡ (kind_of c.name).patterns
-  pub own : c.own.now ≡ projection c.size 2 0
-  pub width : c.rows.now.width ≡ length (all_fillings c.size (kind_of c.name).patterns)
+  pub own : AllByRecursion (λ (i : TermIdentity). c.own.now ≡ projection c.size i.pattern.variables i.value) c.kind.now.own
+  pub width : c.rows.now.width ≡ length (all_fillings c.size c.kind.now.patterns)
   pub narrow : c.rows.now.width ≤ WIDTH
 
 -- the positions are those of rows, and the marks are theirs

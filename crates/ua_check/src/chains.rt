@@ -3,22 +3,36 @@
 ghost use Rattle.std.specs.Prelude.{◌≡◌, ◌<◌, ◌≤◌, ◌^◌, ◌==◌, length, map, slice_index_or, List, [], ◌∷◌, ◌++◌, IsOk, IfOk, OnOk};
 ghost use Rattle.std.specs.List.{AllByRecursion, list_any};
 ghost use Rattle.ua_table.specs.Algebras.{arities_of};
+ghost use Rattle.ua_table.specs.Refusals.{first_refusal};
 ghost use Rattle.ua_term.specs.Steps.{AreSteps};
+ghost use Rattle.ua_identity.specs.KindTables.{link_of};
 ghost use Rattle.ua_cert.specs.declared.certs.CertStep.{CertStep};
 ghost use Rattle.ua_flaws.specs.Steps.{written_term, origins_of};
 ghost use Rattle.ua_flaws.specs.Flaws.{Tells};
 ghost use Rattle.ua_check.specs.Chains as chains;
 
 use crate::equations::{Side, first_failure, identity_failure};
-use crate::patterns::{XXY, XYX, XYY, XYZ, patterns};
 use std::alloc::{AllocError, Global};
 use ua_cert::{CertStep, ChainName};
 use ua_flaws::laws::written;
 use ua_flaws::steps::read_steps;
 use ua_flaws::{CheckError, Flaw};
-use ua_identity::width_of;
+use ua_identity::{Kind, PatternPair, width_of};
 use ua_table::limits::WIDTH;
 use ua_table::{Algebra, Elem, Listed, Origin};
+
+/// (x,y,z).
+const XYZ: [u8; 3] = [0, 1, 2];
+
+/// The kind of chain of this name.
+pub(crate) fn named(alloc: Global, name: ChainName) -> Result<Kind, AllocError>
+    ensures { IfOk result (λ kind. kind ≡ chains.kind_of name) }
+{
+    match name {
+        ChainName::Jonsson => Kind::jonsson(alloc),
+        ChainName::Hm => Kind::hagemann_mitschke(alloc),
+    }
+}
 
 /// Whether the term that the steps write is always what stands at this of its three places.
 fn is_place(a: &Algebra, steps: &[Origin], place: u8, values: &mut [Elem]) -> bool
@@ -32,110 +46,121 @@ fn is_place(a: &Algebra, steps: &[Origin], place: u8, values: &mut [Elem]) -> bo
 }
 
 /// Whether the term that the steps write satisfies what each term of a chain does.
-fn is_own(a: &Algebra, name: ChainName, steps: &[Origin], values: &mut [Elem]) -> bool
+fn is_own(a: &Algebra, kind: &Kind, steps: &[Origin], values: &mut [Elem]) -> bool
+    requires three { kind.now.places ≡ 3 }
     requires some { 0 < length steps.now }
     requires steps { AreSteps (arities_of a.now) 3 steps.now }
     requires room { length steps.now ≤ length values.old }
-    ensures { result ≡ chains.satisfies_all a.now (chains.kind_of name).own (written_term (arities_of a.now) steps.now) }
+    ensures { result ≡ chains.satisfies_all a.now kind.now.own (written_term (arities_of a.now) steps.now) }
 {
-    match name {
-        ChainName::Jonsson => identity_failure(a, steps, 2, &XYX, 0, values).is_none(),
-        ChainName::Hm => true,
+    match kind.own() {
+        Some(m) => {
+            let pattern = &kind.patterns()[m];
+            let variables = pattern.variables();
+            let value = pattern.variable(0);
+            identity_failure(a, steps, variables, pattern.places(), value, values).is_none()
+        }
+        None => true,
     }
 }
 
 /// Whether term i of so many is as it should be by itself.
 fn is_fit(
     a: &Algebra,
-    name: ChainName,
+    kind: &Kind,
     steps: &[Origin],
     i: usize,
     count: usize,
     values: &mut [Elem],
 ) -> bool
+    requires three { kind.now.places ≡ 3 }
     requires some { 0 < length steps.now }
     requires steps { AreSteps (arities_of a.now) 3 steps.now }
     requires place { i < count }
     requires room { length steps.now ≤ length values.old }
-    ensures { result ≡ chains.is_fit a.now (chains.kind_of name) count i (written_term (arities_of a.now) steps.now) }
+    ensures { result ≡ chains.is_fit a.now kind.now count i (written_term (arities_of a.now) steps.now) }
 {
-    is_own(a, name, steps, values)
+    is_own(a, kind, steps, values)
         && (i != 0 || is_place(a, steps, 0, values))
-        && (i + 1 != count || is_place(a, steps, 2, values))
+        && (i + 1 != count || is_place(a, steps, kind.places() - 1, values))
 }
 
-/// How a term at an index is linked to the next: what stands at the places of the one, and of the other.
-fn link_at(name: ChainName, i: usize) -> ([u8; 3], [u8; 3])
-    ensures first { result.0 ≡ (chains.link_at (chains.kind_of name) i).pattern.places }
-    ensures next { result.1 ≡ (chains.link_at (chains.kind_of name) i).next.places }
+/// The patterns of the link behind term i.
+fn link_at(kind: &Kind, i: usize) -> PatternPair
+    ensures link { chains.link_at kind.now i ≡ link_of kind.now.patterns result }
+    ensures first { result.first < length kind.now.patterns }
+    ensures second { result.second < length kind.now.patterns }
 {
-    match name {
-        ChainName::Jonsson => { if i % 2 == 0 { (XXY, XXY) } else { (XYY, XYY) } }
-        ChainName::Hm => (XXY, XYY),
-    }
+    if i % 2 == 0 { kind.even() } else { kind.odd() }
 }
 
 /// Whether the term at an index is linked to the next.
 fn are_linked(
     a: &Algebra,
-    name: ChainName,
+    kind: &Kind,
     steps: &[Origin],
     next: &[Origin],
     i: usize,
     values: &mut [Elem],
 ) -> bool
+    requires three { kind.now.places ≡ 3 }
     requires some { 0 < length steps.now }
     requires steps { AreSteps (arities_of a.now) 3 steps.now }
     requires room { length steps.now ≤ length values.old }
     requires next_some { 0 < length next.now }
     requires next_steps { AreSteps (arities_of a.now) 3 next.now }
     requires next_room { length next.now ≤ length values.old }
-    ensures { result ≡ chains.are_linked a.now (chains.link_at (chains.kind_of name) i) (written_term (arities_of a.now) steps.now) (written_term (arities_of a.now) next.now) }
+    ensures { result ≡ chains.are_linked a.now (chains.link_at kind.now i) (written_term (arities_of a.now) steps.now) (written_term (arities_of a.now) next.now) }
 {
-    let (first, second) = link_at(name, i);
+    let link = link_at(kind, i);
+    let first = &kind.patterns()[link.first];
+    let second = &kind.patterns()[link.second];
     let left = Side {
         steps,
-        places: &first,
+        places: first.places(),
     };
     let right = Side {
         steps: next,
-        places: &second,
+        places: second.places(),
     };
-    first_failure(a, &left, &right, 2, [0; 4], 0, values).is_none()
+    let variables = usize::from(first.variables());
+    first_failure(a, &left, &right, variables, [0; 4], 0, values).is_none()
 }
 
 /// Whether term i is as it should be by itself, and is linked to the next.
 fn is_in_chain(
     a: &Algebra,
-    name: ChainName,
+    kind: &Kind,
     terms: &[Listed<Origin>],
     i: usize,
     values: &mut [Elem],
 ) -> bool
+    requires three { kind.now.places ≡ 3 }
     requires place { i < length terms.now }
-    requires terms { AllByRecursion (chains.AreTermSteps a.now (length values.old)) terms.now }
-    ensures { result ≡ chains.is_in_chain a.now (chains.kind_of name) (map (written_term (arities_of a.now)) terms.now) i (written_term (arities_of a.now) (slice_index_or terms.now i [])) }
+    requires terms { AllByRecursion (chains.AreStepsWithin a.now (length values.old)) terms.now }
+    ensures { result ≡ chains.is_in_chain a.now kind.now (map (written_term (arities_of a.now)) terms.now) i (written_term (arities_of a.now) (slice_index_or terms.now i [])) }
 {
     let steps = terms[i].as_slice();
-    if !is_fit(a, name, steps, i, terms.len(), values) {
+    if !is_fit(a, kind, steps, i, terms.len(), values) {
         return false;
     }
-    i + 1 == terms.len() || are_linked(a, name, steps, terms[i + 1].as_slice(), i, values)
+    i + 1 == terms.len() || are_linked(a, kind, steps, terms[i + 1].as_slice(), i, values)
 }
 
 /// The first term that is not as it should be, by itself or with the next.
 fn links(
     a: &Algebra,
-    name: ChainName,
+    kind: &Kind,
     terms: &[Listed<Origin>],
     values: &mut [Elem],
 ) -> Result<(), CheckError>
+    requires three { kind.now.places ≡ 3 }
     requires few { length terms.now < 2 ^ 32 }
-    requires terms { AllByRecursion (chains.AreTermSteps a.now (length values.old)) terms.now }
-    ensures { Tells (chains.links_flaw a.now (chains.kind_of name) (map (written_term (arities_of a.now)) terms.now)) result }
+    requires terms { AllByRecursion (chains.AreStepsWithin a.now (length values.old)) terms.now }
+    ensures { Tells (chains.links_flaw a.now kind.now (map (written_term (arities_of a.now)) terms.now)) result }
 {
     for i in 0..terms.len() {
-        if !is_in_chain(a, name, terms, i, values) {
+        if !is_in_chain(a, kind, terms, i, values) {
             return Err(CheckError::Flaw(Flaw::Link(i as u32)));
         }
     }
@@ -198,21 +223,22 @@ fn is_without_term(terms: &[Listed<CertStep>]) -> bool
 fn chain_flaws(
     alloc: Global,
     a: &Algebra,
-    name: ChainName,
+    kind: &Kind,
     terms: &[Listed<CertStep>],
 ) -> Result<(), CheckError>
+    requires three { kind.now.places ≡ 3 }
     requires few { length terms.now < 2 ^ 32 }
     requires each { AllByRecursion (λ (steps : List CertStep). length steps < 2 ^ 32) terms.now }
-    ensures { Tells (chains.chain_flaw a.now name terms.now) result }
+    ensures { Tells (first_refusal (chains.chain_lines a.now kind.now terms.now)) result }
 {
     written();
-    let patterns = patterns(alloc, name)?;
-    if width_of(a.size(), patterns.as_slice()) > u128::from(WIDTH) || is_without_term(terms) {
+    let patterns = kind.patterns();
+    if width_of(a.size(), patterns) > u128::from(WIDTH) || is_without_term(terms) {
         return Err(CheckError::Flaw(Flaw::Width));
     }
     let list = read_terms(alloc, a, terms)?;
     let mut values = vec![in alloc; 0; most_steps(terms)]?;
-    links(a, name, list.as_slice(), values.as_mut_slice())
+    links(a, kind, list.as_slice(), values.as_mut_slice())
 }
 
 /// Checks a certificate that terms are a chain.
@@ -228,5 +254,6 @@ pub(crate) fn chain(
     ensures holds { IsOk result → chains.WritesChain a.now name terms.now }
 {
     written();
-    chain_flaws(alloc, a, name, terms)
+    let kind = named(alloc, name)?;
+    chain_flaws(alloc, a, &kind, terms)
 }

@@ -1,21 +1,20 @@
 //! The rows of a certificate that there is no chain, by their parts at the patterns.
 
-ghost use Rattle.std.specs.Prelude.{◌≡◌, ◌<◌, ◌*◌, length};
+ghost use Rattle.std.specs.Prelude.{◌≡◌, ◌<◌, length};
 ghost use Rattle.std.specs.List.{AllByRecursion};
+ghost use Rattle.ua_identity.specs.KindTables.{pattern_at, link_of};
 ghost use Rattle.ua_check.specs.Reached as reached;
 ghost use Rattle.ua_check.specs.ChartsOf.{IsChartOf, row_at};
 
-use ua_cert::ChainName;
-use ua_identity::{Pattern, start_of};
+use ua_identity::{Kind, PatternPair};
 use ua_rows::Rows;
 use ua_table::Elem;
 
-/// The rows, with the patterns of the chains, and what each term has at the first of them by itself.
+/// The rows, on the patterns of a kind of chain, and what each term has by itself.
 #[derive(Clone, Copy)]
 pub(crate) struct Chart<'a> {
-    pub(crate) name: ChainName,
+    pub(crate) kind: &'a Kind,
     pub(crate) size: u32,
-    pub(crate) patterns: &'a [Pattern],
     pub(crate) own: &'a [Elem],
     pub(crate) rows: &'a Rows,
 }
@@ -24,45 +23,47 @@ pub(crate) struct Chart<'a> {
 fn part<'a>(chart: &Chart<'a>, i: u32, m: usize) -> &'a [Elem]
     requires chart { IsChartOf chart.now }
     requires row { i < length chart.now.rows.now.items }
-    requires pattern { m < length chart.now.patterns.now }
-    ensures { result.now ≡ reached.part chart.now.size chart.now.name m (row_at chart.now i) }
+    requires pattern { m < length chart.now.kind.now.patterns }
+    ensures { result.now ≡ reached.part chart.now.size chart.now.kind.now (pattern_at chart.now.kind.now.patterns m) (row_at chart.now i) }
 {
-    let from = start_of(chart.size, chart.patterns, m);
-    chart.rows.part(i, from, from + chart.size * chart.size)
+    // What this call ensures is that the patterns differ.
+    let _patterns = chart.kind.patterns();
+    let part = chart.kind.part(chart.size, m);
+    chart.rows.part(i, part.from, part.to)
 }
 
 /// Whether a row with the entries of row j at a part may follow row i.
-fn leads(chart: &Chart, link: (usize, usize), i: u32, j: u32) -> bool
+fn leads(chart: &Chart, link: PatternPair, i: u32, j: u32) -> bool
     requires chart { IsChartOf chart.now }
     requires row { i < length chart.now.rows.now.items }
     requires next { j < length chart.now.rows.now.items }
-    requires from { link.0 < length chart.now.patterns.now }
-    requires to { link.1 < length chart.now.patterns.now }
-    ensures { result ≡ reached.leads chart.now.size chart.now.name link (row_at chart.now i) (row_at chart.now j) }
+    requires first { link.first < length chart.now.kind.now.patterns }
+    requires second { link.second < length chart.now.kind.now.patterns }
+    ensures { result ≡ reached.leads chart.now.size chart.now.kind.now (link_of chart.now.kind.now.patterns link) (row_at chart.now i) (row_at chart.now j) }
 {
-    part(chart, i, link.0) == part(chart, j, link.1)
+    part(chart, i, link.first) == part(chart, j, link.second)
 }
 
 /// Whether row i has what each term has by itself.
 pub(crate) fn is_own(chart: &Chart, i: u32) -> bool
     requires chart { IsChartOf chart.now }
     requires row { i < length chart.now.rows.now.items }
-    ensures { result ≡ reached.is_own_row chart.now.size chart.now.name (row_at chart.now i) }
+    ensures { result ≡ reached.is_own_row chart.now.size chart.now.kind.now (row_at chart.now i) }
 {
-    match chart.name {
-        ChainName::Jonsson => part(chart, i, 0) == chart.own,
-        ChainName::Hm => true,
+    match chart.kind.own() {
+        Some(m) => part(chart, i, m) == chart.own,
+        None => true,
     }
 }
 
 /// Whether some row at one of the positions leads to row i.
-pub(crate) fn is_led_to(chart: &Chart, link: (usize, usize), positions: &[u32], i: u32) -> bool
+pub(crate) fn is_led_to(chart: &Chart, link: PatternPair, positions: &[u32], i: u32) -> bool
     requires chart { IsChartOf chart.now }
     requires row { i < length chart.now.rows.now.items }
     requires positions { AllByRecursion (λ p. p < length chart.now.rows.now.items) positions.now }
-    requires from { link.0 < length chart.now.patterns.now }
-    requires to { link.1 < length chart.now.patterns.now }
-    ensures { result ≡ reached.is_led_to chart.now.size chart.now.name link chart.now.rows.now.items positions.now (row_at chart.now i) }
+    requires first { link.first < length chart.now.kind.now.patterns }
+    requires second { link.second < length chart.now.kind.now.patterns }
+    ensures { result ≡ reached.is_led_to chart.now.size chart.now.kind.now (link_of chart.now.kind.now.patterns link) chart.now.rows.now.items positions.now (row_at chart.now i) }
 {
     for p in positions {
         if leads(chart, link, *p, i) {

@@ -8,7 +8,6 @@ mod conditions;
 mod equations;
 pub mod laws;
 mod no_chains;
-mod patterns;
 mod positions;
 mod reached;
 mod values;

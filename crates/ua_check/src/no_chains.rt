@@ -2,17 +2,17 @@
 
 ghost use Rattle.std.specs.Prelude.{◌≡◌, ◌<◌, ◌≤◌, ◌^◌, [], ◌∷◌, length, IsOk, IfOk};
 ghost use Rattle.std.specs.List.{AllByRecursion};
-ghost use Rattle.ua_table.specs.declared.limits.TheConstants.{SIZE, WIDTH};
+ghost use Rattle.ua_table.specs.declared.limits.TheConstants.{WIDTH};
 ghost use Rattle.ua_table.specs.Refusals.{first_refusal};
-ghost use Rattle.ua_term.specs.Assignments.{projection};
 ghost use Rattle.ua_identity.specs.Patterns.{all_fillings};
+ghost use Rattle.ua_identity.specs.Chains.{generators_of};
 ghost use Rattle.ua_flaws.specs.Flaws.{Tells};
-ghost use Rattle.ua_check.specs.Chains.{kind_of, HasNoChain};
+ghost use Rattle.ua_check.specs.Chains.{HasNoChain};
 ghost use Rattle.ua_check.specs.Reached as reached;
 ghost use Rattle.ua_check.specs.ChartsOf.{IsChartOf};
 
+use crate::chains::named;
 use crate::charts::Chart;
-use crate::patterns::patterns;
 use crate::positions::Positions;
 use crate::reached::{ended, followed, marks, odd_positions, parity, positions, started};
 use std::alloc::{AllocError, Global};
@@ -21,7 +21,7 @@ use ua_flaws::laws::generated;
 use ua_flaws::outside::closed_rows;
 use ua_flaws::vectors::vectors;
 use ua_flaws::{CheckError, Flaw, ListName};
-use ua_identity::{Pattern, append_values, laws, place_vectors, width_of};
+use ua_identity::{Kind, place_vectors, width_of};
 use ua_rows::Rows;
 use ua_table::limits::WIDTH;
 use ua_table::{Algebra, Elem, Frame, Listed, Vectors};
@@ -30,19 +30,18 @@ use ua_table::{Algebra, Elem, Frame, Listed, Vectors};
 fn rows_and_places(
     alloc: Global,
     a: &Algebra,
-    name: ChainName,
-    patterns: &[Pattern],
+    kind: &Kind,
     rows: &[Listed<u32>],
 ) -> Result<(Rows, Vectors), CheckError>
-    requires patterns { patterns.now ≡ (kind_of name).patterns }
-    requires few { length rows.now < 2 ^ 32 }
-    ensures told { Tells (reached.rows_flaw a.now name rows.now) result }
+    requires { length rows.now < 2 ^ 32 }
+    ensures told { Tells (reached.rows_flaw a.now kind.now rows.now) result }
     ensures rows { IfOk result (λ made. made.0.items ≡ rows.now) }
-    ensures width { IfOk result (λ made. made.0.width ≡ length (all_fillings a.now.size (kind_of name).patterns)) }
+    ensures width { IfOk result (λ made. made.0.width ≡ length (all_fillings a.now.size kind.now.patterns)) }
     ensures narrow { IfOk result (λ made. made.0.width ≤ WIDTH) }
-    ensures places { IfOk result (λ made. made.1.items ≡ reached.places_of a.now name) }
+    ensures places { IfOk result (λ made. made.1.items ≡ generators_of a.now kind.now) }
 {
     let size = a.size();
+    let patterns = kind.patterns();
     let width = width_of(size, patterns);
     if width > u128::from(WIDTH) {
         return Err(CheckError::Flaw(Flaw::Width));
@@ -52,34 +51,23 @@ fn rows_and_places(
     let Ok(frame) = Frame::power(a, width) else {
         unreachable!()
     };
-    let places = place_vectors(alloc, size, patterns, 3, width)?;
+    let places = place_vectors(alloc, size, patterns, kind.places(), width)?;
     let list = closed_rows(alloc, a, &frame, &places, rows)?;
     Ok((list, places))
 }
 
 /// The first position that is out of range, not above the one before it, or on a side that the kind does not
 /// have.
-fn sides(name: ChainName, rows: &Rows, even: &[u32], odd: &[u32]) -> Result<(), CheckError>
-    ensures told { Tells (reached.sides_flaw name (length rows.now.items) even.now odd.now) result }
+fn sides(kind: &Kind, rows: &Rows, even: &[u32], odd: &[u32]) -> Result<(), CheckError>
+    ensures told { Tells (reached.sides_flaw kind.now (length rows.now.items) even.now odd.now) result }
     ensures even { IsOk result → AllByRecursion (λ p. p < length rows.now.items) even.now }
     ensures odd { IsOk result → AllByRecursion (λ p. p < length rows.now.items) odd.now }
 {
     let n = rows.len();
     positions(n, even)?;
     positions(n, odd)?;
-    parity(name, odd)?;
+    parity(kind, odd)?;
     Ok(())
-}
-
-/// What each term of a chain of Jónsson has by itself.
-fn own_values(alloc: Global, size: u32) -> Result<Vec<Elem>, AllocError>
-    requires some { 0 < size }
-    requires small { size ≤ SIZE }
-    ensures { IfOk result (λ values. values.items ≡ projection size 2 0) }
-{
-    let mut values = Vec::new(alloc);
-    append_values(&mut values, size, 2, 0)?;
-    Ok(values)
 }
 
 /// The first flaw of what is reached: the start is missing, then a row that one that is reached leads to, or
@@ -95,7 +83,7 @@ fn reached(
     requires chart { IsChartOf chart.now }
     requires even { AllByRecursion (λ p. p < length chart.now.rows.now.items) even.now }
     requires odd { AllByRecursion (λ p. p < length chart.now.rows.now.items) odd.now }
-    ensures { Tells (first_refusal (reached.reached_lines chart.now.size chart.now.name start.now end.now chart.now.rows.now.items even.now odd.now)) result }
+    ensures { Tells (first_refusal (reached.reached_lines chart.now.size chart.now.kind.now start.now end.now chart.now.rows.now.items even.now odd.now)) result }
 {
     let n = chart.rows.len();
     let even_marks = marks(alloc, n, even)?;
@@ -118,30 +106,29 @@ fn reached(
 fn positions_flaws(
     alloc: Global,
     a: &Algebra,
-    name: ChainName,
-    patterns: &[Pattern],
+    kind: &Kind,
     rows: &Rows,
     places: &Vectors,
     even: &[u32],
     odd: &[u32],
 ) -> Result<(), CheckError>
-    requires patterns { patterns.now ≡ (kind_of name).patterns }
-    requires width { rows.now.width ≡ length (all_fillings a.now.size (kind_of name).patterns) }
+    requires width { rows.now.width ≡ length (all_fillings a.now.size kind.now.patterns) }
     requires narrow { rows.now.width ≤ WIDTH }
-    requires places { places.now.items ≡ reached.places_of a.now name }
-    ensures { Tells (first_refusal (reached.sides_flaw name (length rows.now.items) even.now odd.now ∷ reached.reached_flaw a.now name rows.now.items even.now (reached.odd_positions name even.now odd.now) ∷ [])) result }
+    requires places { places.now.items ≡ generators_of a.now kind.now }
+    ensures { Tells (first_refusal (reached.sides_flaw kind.now (length rows.now.items) even.now odd.now ∷ reached.reached_flaw a.now kind.now rows.now.items even.now (reached.odd_positions kind.now even.now odd.now) ∷ [])) result }
 {
-    sides(name, rows, even, odd)?;
-    let own = own_values(alloc, a.size())?;
+    sides(kind, rows, even, odd)?;
+    let size = a.size();
+    let own = kind.own_values(alloc, size)?;
     let chart = Chart {
-        name,
-        size: a.size(),
-        patterns,
+        kind,
+        size,
         own: own.as_slice(),
         rows,
     };
-    let odd = odd_positions(name, even, odd);
-    reached(alloc, &chart, places.get(0), places.get(2), even, odd)
+    let odd = odd_positions(kind, even, odd);
+    let end = u32::from(kind.places() - 1);
+    reached(alloc, &chart, places.get(0), places.get(end), even, odd)
 }
 
 /// The first flaw of a certificate that there is no chain.
@@ -156,18 +143,9 @@ fn no_chain_flaws(
     requires { length rows.now < 2 ^ 32 }
     ensures { Tells (reached.no_chain_flaw a.now name rows.now even.now odd.now) result }
 {
-    let patterns = patterns(alloc, name)?;
-    let (list, places) = rows_and_places(alloc, a, name, patterns.as_slice(), rows)?;
-    positions_flaws(
-        alloc,
-        a,
-        name,
-        patterns.as_slice(),
-        &list,
-        &places,
-        even,
-        odd,
-    )
+    let kind = named(alloc, name)?;
+    let (list, places) = rows_and_places(alloc, a, &kind, rows)?;
+    positions_flaws(alloc, a, &kind, &list, &places, even, odd)
 }
 
 /// Checks a certificate that there is no chain.
@@ -184,7 +162,6 @@ pub(crate) fn no_chain(
     ensures holds { IsOk result → HasNoChain a.now name }
 {
     generated();
-    laws::patterns();
     // What this call ensures is that the algebra has an element.
     let _size = a.size();
     no_chain_flaws(alloc, a, name, rows, even, odd)

@@ -9,8 +9,8 @@ ghost use Rattle.ua_check.specs.ChartsOf.{IsChartOf, AreMarks, row_at};
 use crate::charts::{Chart, is_led_to, is_own};
 use crate::positions::Positions;
 use std::alloc::{AllocError, Global};
-use ua_cert::ChainName;
 use ua_flaws::Flaw;
+use ua_identity::Kind;
 use ua_rows::Rows;
 use ua_table::Elem;
 
@@ -36,16 +36,13 @@ pub(crate) fn positions(n: u32, list: &[u32]) -> Result<(), Flaw>
 }
 
 /// The first position told to be reached at an odd index, where these are not told apart.
-pub(crate) fn parity(name: ChainName, odd: &[u32]) -> Result<(), Flaw>
-    ensures { result_err result ≡ reached.parity_flaw name odd.now }
+pub(crate) fn parity(kind: &Kind, odd: &[u32]) -> Result<(), Flaw>
+    ensures { result_err result ≡ reached.parity_flaw kind.now odd.now }
 {
-    match name {
-        ChainName::Jonsson => Ok(()),
-        ChainName::Hm => match odd.first() {
-            None => Ok(()),
-            Some(position) => Err(Flaw::Reached(*position)),
-        },
+    if kind.by_parity() || odd.is_empty() {
+        return Ok(());
     }
+    Err(Flaw::Reached(odd[0]))
 }
 
 /// Which of n positions the list holds.
@@ -62,33 +59,10 @@ pub(crate) fn marks(alloc: Global, n: u32, positions: &[u32]) -> Result<Vec<bool
 }
 
 /// The positions at odd indices, where these are told apart from the others.
-pub(crate) fn odd_positions<'a>(name: ChainName, even: &'a [u32], odd: &'a [u32]) -> &'a [u32]
-    ensures { result.now ≡ reached.odd_positions name even.now odd.now }
+pub(crate) fn odd_positions<'a>(kind: &Kind, even: &'a [u32], odd: &'a [u32]) -> &'a [u32]
+    ensures { result.now ≡ reached.odd_positions kind.now even.now odd.now }
 {
-    match name {
-        ChainName::Jonsson => odd,
-        ChainName::Hm => even,
-    }
-}
-
-/// The patterns of the links from even indices on.
-fn even_parts(name: ChainName) -> (usize, usize)
-    ensures { result ≡ reached.even_parts name }
-{
-    match name {
-        ChainName::Jonsson => (1, 1),
-        ChainName::Hm => (0, 1),
-    }
-}
-
-/// The patterns of the links from odd indices on.
-fn odd_parts(name: ChainName) -> (usize, usize)
-    ensures { result ≡ reached.odd_parts name }
-{
-    match name {
-        ChainName::Jonsson => (2, 2),
-        ChainName::Hm => (0, 1),
-    }
+    if kind.by_parity() { odd } else { even }
 }
 
 /// Whether row i is not the start, or stands among those at even indices.
@@ -107,15 +81,15 @@ fn is_followed(chart: &Chart, even: &Positions, odd: &Positions, i: u32) -> bool
     requires row { i < length chart.now.rows.now.items }
     requires even { AreMarks (length chart.now.rows.now.items) even.now }
     requires odd { AreMarks (length chart.now.rows.now.items) odd.now }
-    ensures { result ≡ reached.is_followed chart.now.size chart.now.name chart.now.rows.now.items even.now.list.now odd.now.list.now i (row_at chart.now i) }
+    ensures { result ≡ reached.is_followed chart.now.size chart.now.kind.now chart.now.rows.now.items even.now.list.now odd.now.list.now i (row_at chart.now i) }
 {
     if !is_own(chart, i) {
         return true;
     }
-    let even_parts = even_parts(chart.name);
-    let odd_parts = odd_parts(chart.name);
-    (odd.marks[i as usize] || !is_led_to(chart, even_parts, even.list, i))
-        && (even.marks[i as usize] || !is_led_to(chart, odd_parts, odd.list, i))
+    let even_link = chart.kind.even();
+    let odd_link = chart.kind.odd();
+    (odd.marks[i as usize] || !is_led_to(chart, even_link, even.list, i))
+        && (even.marks[i as usize] || !is_led_to(chart, odd_link, odd.list, i))
 }
 
 /// Whether row i is not the end, or is not reached.
@@ -146,7 +120,7 @@ pub(crate) fn followed(chart: &Chart, even: &Positions, odd: &Positions) -> Resu
     requires chart { IsChartOf chart.now }
     requires even { AreMarks (length chart.now.rows.now.items) even.now }
     requires odd { AreMarks (length chart.now.rows.now.items) odd.now }
-    ensures { result_err result ≡ reached.row_flaw (reached.is_followed chart.now.size chart.now.name chart.now.rows.now.items even.now.list.now odd.now.list.now) chart.now.rows.now.items }
+    ensures { result_err result ≡ reached.row_flaw (reached.is_followed chart.now.size chart.now.kind.now chart.now.rows.now.items even.now.list.now odd.now.list.now) chart.now.rows.now.items }
 {
     for i in 0..chart.rows.len() {
         if !is_followed(chart, even, odd, i) {

@@ -38,16 +38,16 @@ pub length_fillings : (n : ℕ) (p : VariablePattern) → length (fillings n p) 
 length_fillings n p = length-map (assignments n p.variables) (filled p) ∙ length_assignments n p.variables
 
 -- over some pattern there is some filling
-some_fillings : (n : ℕ) (ps : List VariablePattern) → 0 < n → 0 < length ps → 0 < length (all_fillings n ps)
-some_fillings n [] some l = absurd (omega (arith, l))
-some_fillings n (p ∷ ps) some l =
+pub patterns_wide : (n : ℕ) (ps : List VariablePattern) → 0 < n → 0 < length ps → 0 < length (all_fillings n ps)
+patterns_wide n [] some l = absurd (omega (arith, l))
+patterns_wide n (p ∷ ps) some l =
     let one = length_fillings n p in
     let low : 0 < n ^ p.variables = one-le-pow p.variables n some in
     let both = length-append (fillings n p) (all_fillings n ps) in
     omega (arith, one, low, both)
 
 pub power_wide : (a : FiniteAlgebra) (ps : List VariablePattern) → 0 < a.size → 0 < length ps → 0 < length (power a ps)
-power_wide a ps some l = let wide = some_fillings a.size ps some l in let long = length-replicate (length (all_fillings a.size ps)) a in omega (arith, wide, long)
+power_wide a ps some l = let wide = patterns_wide a.size ps some l in let long = length-replicate (length (all_fillings a.size ps)) a in omega (arith, wide, long)
 
 -- as many fillings more as there are assignments
 pub width_more : (n : ℕ) (ps : List VariablePattern) (i : ℕ) (p : VariablePattern) → i < length ps → p ≡ get_or ps i p → length (all_fillings n (take (i + 1) ps)) ≡ length (all_fillings n (take i ps)) + n ^ p.variables

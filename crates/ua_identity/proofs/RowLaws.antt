@@ -1,46 +1,43 @@
--- The vectors of a condition, one identity after another.
-use Rattle.std.proofs.Common.{◌≡◌, ℕ, zero, suc, ◌+◌, ◌^◌, ◌<◌, ◌≤◌, List, [], ◌∷◌, ◌++◌, length, take, get_or, refl, sym, ap, ◌∙◌, arith}
+-- The vectors of patterns, one after another.
+use Rattle.std.proofs.Common.{◌≡◌, ℕ, zero, suc, ◌+◌, ◌^◌, ◌<◌, ◌≤◌, List, [], ◌∷◌, ◌++◌, length, map, take, get_or, refl, sym, ap, ◌∙◌, subst, arith}
 use Rattle.std.specs.Prelude.{slice_index}
-use Rattle.std.proofs.lemmas.List.{length-map, get_or-map, take_all}
-use Rattle.ua_table.specs.Algebras.{FiniteAlgebra}
+use Rattle.std.specs.List.{AllByRecursion}
+use Rattle.std.proofs.lemmas.List.{length-map, get_or-map}
+use Rattle.std.proofs.lemmas.List.Elements.{All-from_recursion}
 use Rattle.ua_term.specs.Assignments.{projection}
-use Rattle.ua_identity.specs.Identities.{VariablePattern, TermIdentity}
-use Rattle.ua_identity.specs.Conditions.{TermCondition, IsCondition}
+use Rattle.ua_identity.specs.Identities.{VariablePattern}
 use Rattle.ua_identity.specs.Patterns.{all_fillings, place_vector}
 use Rattle.ua_identity.proofs.FillingLaws.{width_more, one_narrow, place_more}
-use Rattle.ua_identity.proofs.ConditionLaws.{patterns_in, some_width}
 
-taken : (is : List TermIdentity) (k : ℕ) → patterns_in (take k is) ≡ take k (patterns_in is)
-taken is zero = refl
-taken [] (suc k) = refl
-taken (i ∷ is) (suc k) = ap (λ (ps : List VariablePattern). i.pattern ∷ ps) (taken is k)
+module _ {X : Type 0} (f : X → VariablePattern) where
+  taken : (xs : List X) (k : ℕ) → map f (take k xs) ≡ take k (map f xs)
+  taken xs zero = refl
+  taken [] (suc k) = refl
+  taken (x ∷ xs) (suc k) = ap (λ (ps : List VariablePattern). f x ∷ ps) (taken xs k)
 
-module _ (n : ℕ) (is : List TermIdentity) (k : ℕ) (i : TermIdentity) (l : k < length is) (e : i ≡ get_or is k i) where
-  low : k < length (patterns_in is)
-  low = let same = length-map is (λ (j : TermIdentity). j.pattern) in omega (arith, l, same)
+  module _ (n : ℕ) (xs : List X) (k : ℕ) (x : X) (l : k < length xs) (e : x ≡ get_or xs k x) where
+    low : k < length (map f xs)
+    low = let same = length-map xs f in omega (arith, l, same)
 
-  stands : i.pattern ≡ get_or (patterns_in is) k i.pattern
-  stands = ap (λ (j : TermIdentity). j.pattern) e ∙ sym (get_or-map (λ (j : TermIdentity). j.pattern) is k i i.pattern l)
+    stands : f x ≡ get_or (map f xs) k (f x)
+    stands = ap f e ∙ sym (get_or-map f xs k x (f x) l)
 
-  -- as many coordinates more as there are assignments
-  pub identity_more : length (all_fillings n (patterns_in (take (k + 1) is))) ≡ length (all_fillings n (patterns_in (take k is))) + n ^ i.pattern.variables
-  identity_more =
-      ap (λ ps. length (all_fillings n ps)) (taken is (k + 1)) ∙ width_more n (patterns_in is) k i.pattern low stands
-      ∙ ap (λ ps. length (all_fillings n ps) + n ^ i.pattern.variables) (sym (taken is k))
+    -- as many coordinates more as there are assignments
+    pub row_wider : length (all_fillings n (map f (take (k + 1) xs))) ≡ length (all_fillings n (map f (take k xs))) + n ^ (f x).variables
+    row_wider =
+        ap (λ ps. length (all_fillings n ps)) (taken xs (k + 1)) ∙ width_more n (map f xs) k (f x) low stands
+        ∙ ap (λ ps. length (all_fillings n ps) + n ^ (f x).variables) (sym (taken xs k))
 
-  -- those of one identity are no more than all
-  pub identity_narrow : n ^ i.pattern.variables ≤ length (all_fillings n (patterns_in is))
-  identity_narrow = one_narrow n (patterns_in is) k i.pattern low stands
+    -- those of one pattern are no more than all
+    pub row_narrow : n ^ (f x).variables ≤ length (all_fillings n (map f xs))
+    row_narrow = one_narrow n (map f xs) k (f x) low stands
 
-  -- what stands at a place under one identity more
-  pub argument_more : (j : ℕ) → j < length i.pattern.places → place_vector (all_fillings n (patterns_in (take (k + 1) is))) j ≡ place_vector (all_fillings n (patterns_in (take k is))) j ++ projection n i.pattern.variables (slice_index i.pattern.places j)
-  argument_more j within =
-      ap (λ ps. place_vector (all_fillings n ps) j) (taken is (k + 1)) ∙ place_more n (patterns_in is) k j i.pattern low stands within
-      ∙ ap (λ ps. place_vector (all_fillings n ps) j ++ projection n i.pattern.variables (slice_index i.pattern.places j)) (sym (taken is k))
+    -- what holds of each pattern holds of this one
+    pub row_at : (P : VariablePattern → Type 0) → AllByRecursion P (map f xs) → P (f x)
+    row_at P h = subst P (sym stands) (All-from_recursion P (map f xs) h k (f x) low)
 
--- a condition has coordinates
-pub width_some : (a : FiniteAlgebra) (c : TermCondition) (k : ℕ) → 0 < a.size → IsCondition c → length c.identities ≤ k → 0 < length (all_fillings a.size (patterns_in (take k c.identities)))
-width_some a c k some is whole =
-    let low = some_width a c some is in
-    let all = ap (λ (is : List TermIdentity). length (all_fillings a.size (patterns_in is))) (take_all k c.identities whole) in
-    omega (arith, low, all)
+    -- what stands at a place under one pattern more
+    pub row_more : (j : ℕ) → AllByRecursion (λ (p : VariablePattern). j < length p.places) (map f xs) → place_vector (all_fillings n (map f (take (k + 1) xs))) j ≡ place_vector (all_fillings n (map f (take k xs))) j ++ projection n (f x).variables (slice_index (f x).places j)
+    row_more j h =
+        ap (λ ps. place_vector (all_fillings n ps) j) (taken xs (k + 1)) ∙ place_more n (map f xs) k j (f x) low stands (row_at (λ p. j < length p.places) h)
+        ∙ ap (λ ps. place_vector (all_fillings n ps) j ++ projection n (f x).variables (slice_index (f x).places j)) (sym (taken xs k))

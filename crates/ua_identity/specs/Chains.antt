@@ -1,12 +1,12 @@
 -- Chains of terms, each linked to the next by an identity.
 use Rattle.std.specs.Prelude.{◌≡◌, ℕ, ◌-◌, ◌≤◌, Bool, not, ◌||◌, List, length, slice_index}
 use Rattle.std.specs.List.{AllByRecursion}
-use Rattle.ua_table.specs.Algebras.{Vector, FiniteAlgebra, arities_of}
+use Rattle.ua_table.specs.Algebras.{Vector, FiniteAlgebra, Product, arities_of}
 use Rattle.ua_table.specs.Terms.{Tree, IsTerm, eval}
 use Rattle.ua_term.specs.Assignments.{IsAssignment}
 use Rattle.ua_walk.specs.Sequences.{Alternates, BeginsWith, EndsWith, ends_even}
 use Rattle.ua_identity.specs.Identities.{VariablePattern, TermIdentity, at_pattern, Satisfies}
-use Rattle.ua_identity.specs.Patterns.{vector_of}
+use Rattle.ua_identity.specs.Patterns.{vector_of, power, generators}
 
 -- the term is always what stands at place j of so many
 abbrev pub IsPlace : FiniteAlgebra → ℕ → ℕ → Tree → Type 0
@@ -64,6 +64,14 @@ pub record IsLeastChain (a : FiniteAlgebra) (kind : ChainKind) (terms : List Tre
 -- whether the index of the last term is told among the even ones: each is where they are not told apart
 abbrev pub is_among_even : ChainKind → List Tree → Bool
 is_among_even kind terms = ends_even terms || not kind.by_parity
+
+-- the power in which the vectors of the terms lie, on the patterns of the kind
+abbrev pub power_of : FiniteAlgebra → ChainKind → Product
+power_of a kind = power a kind.patterns
+
+-- the vectors of its places, which generate those of the terms
+abbrev pub generators_of : FiniteAlgebra → ChainKind → List Vector
+generators_of a kind = generators a kind.patterns kind.places
 
 -- the row is the vector of the last term of some beginning, whose index is told among the even ones if so
 pub record IsReached (a : FiniteAlgebra) (kind : ChainKind) (even : Bool) (row : Vector) : Type 0 where

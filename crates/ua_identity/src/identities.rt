@@ -1,11 +1,12 @@
 //! Identities of one term and variables.
 
-ghost use Rattle.std.specs.Prelude.{◌≡◌, ◌<◌, ◌↔◌, IsSome, IfSome, IsTrue};
+ghost use Rattle.std.specs.Prelude.{◌≡◌, ◌<◌, ◌↔◌, map, refl, IsSome, IfSome, IsTrue};
 ghost use Rattle.std.specs.List.{AllByRecursion};
+ghost use Rattle.ua_identity.specs.Identities.{TermIdentity};
 ghost use Rattle.ua_identity.specs.Conditions.{IsIdentity};
 
 use crate::limits::LETTERS;
-use crate::patterns::Pattern;
+use crate::patterns::{Pattern, Patterned};
 use std::marker::Model;
 
 /// An identity: a term with its places filled by the pattern is this variable of the pattern.
@@ -24,6 +25,18 @@ impl Model for Identity {
     ghost view = { λ a. record { pattern = a.pattern; value = a.value } };
 
     ghost invariant = { λ a. IsIdentity (record { pattern = a.pattern; value = a.value }) };
+}
+
+impl Patterned for Identity {
+    ghost pattern_of = { λ (i : TermIdentity). i.pattern };
+
+    ghost patterns_of = { map (λ (i : TermIdentity). i.pattern) };
+
+    ghost each = { λ is. refl };
+
+    fn pattern(&self) -> &Pattern {
+        &self.pattern
+    }
 }
 
 /// Whether each of the variables is below so many.

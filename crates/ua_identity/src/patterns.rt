@@ -1,9 +1,28 @@
 //! Patterns of variables.
 
-ghost use Rattle.std.specs.Prelude.{◌≡◌, ◌<◌, length, slice_index};
+ghost use Rattle.std.specs.Prelude.{◌≡◌, ◌<◌, List, map, length, slice_index};
+ghost use Rattle.std.proofs.Common.{sym};
+ghost use Rattle.std.proofs.lemmas.List.{map-id};
+ghost use Rattle.ua_identity.specs.Identities.{VariablePattern};
 ghost use Rattle.ua_identity.specs.Conditions.{IsPattern};
 
 use std::marker::Model;
+
+/// A pattern, or what has one.
+pub trait Patterned {
+    /// Its pattern.
+    ghost pattern_of: { Self → VariablePattern };
+
+    /// The patterns of some, in order.
+    ghost patterns_of: { List Self → List VariablePattern };
+
+    /// The pattern.
+    fn pattern(&self) -> &Pattern
+        ensures { result.now ≡ pattern_of self.now };
+
+    /// Each has its own.
+    ghost each: { (xs : List Self) → patterns_of xs ≡ map pattern_of xs };
+}
 
 /// Which of so many variables, at most `limits::LETTERS`, stands at each place of a term.
 #[derive(Drop, Debug)]
@@ -21,6 +40,18 @@ impl Model for Pattern {
     ghost view = { λ a. record { variables = a.variables; places = a.places.items } };
 
     ghost invariant = { λ a. IsPattern (record { variables = a.variables; places = a.places.items }) };
+}
+
+impl Patterned for Pattern {
+    ghost pattern_of = { λ p. p };
+
+    ghost patterns_of = { λ ps. ps };
+
+    ghost each = { λ ps. sym (map-id ps) };
+
+    fn pattern(&self) -> &Pattern {
+        self
+    }
 }
 
 impl Pattern {

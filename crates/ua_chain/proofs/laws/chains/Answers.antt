@@ -1,5 +1,5 @@
-use Rattle.ua_chain.proofs.KindLaws.{is_jonsson, is_hagemann_mitschke, is_day}
-use Rattle.ua_chain.proofs.ChainLaws.{length_zero}
+use Rattle.ua_identity.proofs.KindLaws.{is_jonsson, is_hagemann_mitschke, is_day}
+use Rattle.ua_identity.proofs.ChainLaws.{length_zero}
 use Rattle.ua_chain.proofs.laws.chains.Goals as goal
 
 pub returns-clause-length : goal.returns-clause-length

@@ -7,8 +7,9 @@ use Rattle.ua_table.specs.Algebras.{Vector, Product, IsVector}
 use Rattle.ua_table.specs.VectorLists.{VectorList}
 use Rattle.ua_close.specs.Answers.{IsCause}
 use Rattle.ua_identity.specs.Patterns.{all_fillings, place_vector}
-use Rattle.ua_chain.specs.Answers.{power_of, generators_of}
-use Rattle.ua_chain.proofs.ChainLaws.{some_fillings, generator_count}
+use Rattle.ua_identity.specs.Chains.{power_of, generators_of}
+use Rattle.ua_identity.proofs.KindLaws.{some_fillings}
+use Rattle.ua_identity.proofs.ChainLaws.{generator_count}
 use Rattle.ua_chain.proofs.VectorLaws.{generators_fit}
 use Rattle.ua_chain.proofs.vectors.generators.Goals as goal
 

@@ -12,4 +12,4 @@ pub returns-clause-chain : goal.returns-clause-chain
 returns-clause-chain c = λ a name terms table narrow some are chain. flawless_chain c.written.ensures.flawless c.written.ensures.read a table name terms narrow some are chain
 
 pub returns-clause-no_chain : goal.returns-clause-no_chain
-returns-clause-no_chain c = λ a name rows even odd size narrow inc vectors exact evens odds none. flawless_no_chain a name rows even odd c.patterns.ensures.values c.generated.ensures.vectors c.generated.ensures.exact size narrow inc vectors exact evens odds none
+returns-clause-no_chain c = λ a name rows even odd size narrow inc vectors exact evens odds none. flawless_no_chain a name rows even odd c.generated.ensures.vectors c.generated.ensures.exact size narrow inc vectors exact evens odds none

@@ -5,5 +5,5 @@ use Rattle.ua_check.proofs.no_chains.no_chain.Goals as goal
 
 pub returns-clause-holds : goal.returns-clause-holds
 returns-clause-holds c ok =
-    no_chain_holds c.args.a.now c.args.name c.args.rows.now c.args.even.now c.args.odd.now c.patterns.ensures.values c.generated.ensures.all c.size-size.ensures.algebra.algebra.inhabited
+    no_chain_holds c.args.a.now c.args.name c.args.rows.now c.args.even.now c.args.odd.now c.generated.ensures.all c.size-size.ensures.algebra.algebra.inhabited
     (told_none (no_chain_flaw c.args.a.now c.args.name c.args.rows.now c.args.even.now c.args.odd.now) c.no_chain_flaws.result c.no_chain_flaws.ensures ok)

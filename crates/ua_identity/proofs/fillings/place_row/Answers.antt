@@ -1,26 +1,33 @@
-use Rattle.std.proofs.Common.{◌++◌, ◌^◌, ◌<◌, length, take, sym, ap, ◌∙◌, subst, arith, List, ℕ}
-use Rattle.std.proofs.lemmas.List.Elements.{All-from_recursion}
+use Rattle.std.proofs.Common.{◌++◌, ◌^◌, ◌<◌, length, sym, ap, ◌∙◌, subst, arith, ℕ}
+use Rattle.std.specs.Prelude.{slice_index}
+use Rattle.std.specs.List.{AllByRecursion}
 use Rattle.ua_term.specs.Assignments.{projection}
 use Rattle.ua_identity.specs.Identities.{VariablePattern}
-use Rattle.ua_identity.specs.Patterns.{all_fillings, place_vector}
-use Rattle.ua_identity.proofs.FillingLaws.{one_narrow, place_more}
+use Rattle.ua_identity.specs.Patterns.{all_fillings}
+use Rattle.ua_identity.proofs.RowLaws.{row_narrow, row_more, row_at}
 use Rattle.ua_identity.proofs.fillings.place_row.Goals as goal
 
 pub append_values-requires-clause-narrow : goal.append_values-requires-clause-narrow
-append_values-requires-clause-narrow c =
-    let low = one_narrow c.args.size c.args.patterns.now c.loop-pattern.pattern-index c.pattern-item.result c.loop-pattern-test.true c.pattern-item.is in
-    let same = ap (λ (k : ℕ). c.args.size ^ k) c.variables.ensures.variables in
+append_values-requires-clause-narrow g c =
+    let f = g.P.Patterned.pattern_of in
+    let low = row_narrow f c.args.size c.args.list.now c.loop-item.item-index c.item-item.result c.loop-item-test.true c.item-item.is in
+    let same = ap (λ (k : ℕ). c.args.size ^ k) (c.variables.ensures.variables ∙ ap (λ (p : VariablePattern). p.variables) c.pattern-pattern.ensures) in
+    let each = ap (λ ps. length (all_fillings c.args.size ps)) (g.met.P.Patterned.each c.args.list.now) in
     let all = c.requires.narrow in
-    omega (arith, low, same, all)
+    omega (arith, low, same, each, all)
 
-pub loop-pattern-preserved : goal.loop-pattern-preserved
-loop-pattern-preserved c =
-    let p = c.pattern-item.result in
-    let i = c.loop-pattern.pattern-index in
-    let ps = c.args.patterns.now in
-    let low : c.args.place < length p.places = subst (λ (q : VariablePattern). c.args.place < length q.places) (sym c.pattern-item.is) (All-from_recursion (λ (q : VariablePattern). c.args.place < length q.places) ps c.requires.place i p c.loop-pattern-test.true) in
-    let before = place_vector (all_fillings c.args.size (take i ps)) c.args.place in
+pub variable-requires : goal.variable-requires
+variable-requires g c =
+    let xs = c.args.list.now in
+    let P = λ (p : VariablePattern). c.args.place < length p.places in
+    subst P (sym c.pattern-pattern.ensures) (row_at g.P.Patterned.pattern_of c.args.size xs c.loop-item.item-index c.item-item.result c.loop-item-test.true c.item-item.is P (subst (AllByRecursion P) (g.met.P.Patterned.each xs) c.requires.place))
+
+pub loop-item-preserved : goal.loop-item-preserved
+loop-item-preserved g c =
+    let xs = c.args.list.now in
+    let j = c.args.place in
+    let pattern = c.pattern-pattern.ensures in
+    let places = subst (AllByRecursion (λ (p : VariablePattern). j < length p.places)) (g.met.P.Patterned.each xs) c.requires.place in
     c.in_ok-append_values.ensures
-    ∙ ap (λ (row : List ℕ). row ++ projection c.args.size c.variables.result c.variable.result) c.loop-pattern.invariant
-    ∙ (λ j. before ++ projection c.args.size (c.variables.ensures.variables j) (c.variable.ensures.variable j))
-    ∙ sym (place_more c.args.size ps i c.args.place p c.loop-pattern-test.true c.pattern-item.is low)
+    ∙ (λ i. c.loop-item.invariant i ++ projection c.args.size ((c.variables.ensures.variables ∙ ap (λ (p : VariablePattern). p.variables) pattern) i) ((c.variable.ensures.variable ∙ ap (λ (p : VariablePattern). slice_index p.places j) pattern) i))
+    ∙ sym (row_more g.P.Patterned.pattern_of c.args.size xs c.loop-item.item-index c.item-item.result c.loop-item-test.true c.item-item.is j places)

@@ -12,33 +12,33 @@ has_place [] places j h l = tt
 has_place (p ∷ ps) places j h l = (let n = h.0 in omega (arith, l, n), has_place ps places j h.1 l)
 
 pub place_row-requires-clause-narrow : goal.place_row-requires-clause-narrow
-place_row-requires-clause-narrow c =
+place_row-requires-clause-narrow g c =
     let width = c.requires.width in
     let narrow = c.requires.narrow in
     omega (arith, width, narrow)
 
 pub place_row-requires-clause-place : goal.place_row-requires-clause-place
-place_row-requires-clause-place c = has_place c.args.patterns.now c.args.places c.loop-place.place c.requires.places c.loop-place-test.true
+place_row-requires-clause-place g c = has_place (g.P.Patterned.patterns_of c.args.list.now) c.args.places c.loop-place.place c.requires.places c.loop-place-test.true
 
 pub add-requires-clause-width : goal.add-requires-clause-width
-add-requires-clause-width c =
+add-requires-clause-width g c =
     let row = c.as_slice.ensures.value ∙ c.in_ok-row.ensures in
-    let long = ap length row ∙ length-map (all_fillings c.args.size c.args.patterns.now) _ in
+    let long = ap length row ∙ length-map (all_fillings c.args.size (g.P.Patterned.patterns_of c.args.list.now)) _ in
     let wide = c.loop-place.invariant.width in
     let width = c.requires.width in
     omega (arith, long, wide, width)
 
 pub add-requires-clause-room : goal.add-requires-clause-room
-add-requires-clause-room c =
+add-requires-clause-room g c =
     let so_far = ap length c.loop-place.invariant.items in
-    let count = length-map-range_with_len (place_vector (all_fillings c.args.size c.args.patterns.now)) 0 c.loop-place.place in
+    let count = length-map-range_with_len (place_vector (all_fillings c.args.size (g.P.Patterned.patterns_of c.args.list.now))) 0 c.loop-place.place in
     let test = c.loop-place-test.true in
     omega (arith, so_far, count, test)
 
 pub loop-place-preserved : goal.loop-place-preserved
-loop-place-preserved c =
+loop-place-preserved g c =
     let j = c.loop-place.place in
-    let f = place_vector (all_fillings c.args.size c.args.patterns.now) in
+    let f = place_vector (all_fillings c.args.size (g.P.Patterned.patterns_of c.args.list.now)) in
     record {
       width = ap (λ (z : VectorList). z.width) c.in_ok-add.ensures.ok ∙ c.loop-place.invariant.width;
       items = ap (λ (z : VectorList). z.items) c.in_ok-add.ensures.ok

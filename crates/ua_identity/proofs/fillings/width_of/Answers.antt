@@ -1,12 +1,13 @@
 use Rattle.std.proofs.Common.{◌^◌, ap, ◌∙◌, arith, ℕ}
-use Rattle.ua_identity.proofs.FillingLaws.{width_more}
+use Rattle.ua_identity.specs.Identities.{VariablePattern}
+use Rattle.ua_identity.proofs.RowLaws.{row_wider}
 use Rattle.ua_identity.proofs.fillings.width_of.Goals as goal
 
-pub loop-pattern-preserved : goal.loop-pattern-preserved
-loop-pattern-preserved c =
-    let more = width_more c.args.size c.args.patterns.now c.loop-pattern.pattern-index c.pattern-item.result c.loop-pattern-test.true c.pattern-item.is in
-    let one = c.count-width.ensures.count ∙ ap (λ (k : ℕ). c.args.size ^ k) c.variables.ensures.variables in
-    let so_far = c.loop-pattern.invariant.width in
-    let small = c.loop-pattern.invariant.small in
+pub loop-item-preserved : goal.loop-item-preserved
+loop-item-preserved g c =
+    let more = row_wider g.P.Patterned.pattern_of c.args.size c.args.list.now c.loop-item.item-index c.item-item.result c.loop-item-test.true c.item-item.is in
+    let one = c.count-width.ensures.count ∙ ap (λ (k : ℕ). c.args.size ^ k) (c.variables.ensures.variables ∙ ap (λ (p : VariablePattern). p.variables) c.pattern.ensures) in
+    let so_far = c.loop-item.invariant.width in
+    let small = c.loop-item.invariant.small in
     let few = c.count-width.ensures.small in
     record { width = omega (arith, more, one, so_far); small = omega (arith, small, few) }

@@ -1,20 +1,33 @@
 //! The kinds of chains.
 
-ghost use Rattle.std.specs.Prelude.{◌≡◌, ◌-◌, ◌<◌, ◌≤◌, length, IfOk, IfSome};
+ghost use Rattle.std.specs.Prelude.{◌≡◌, ◌-◌, ◌<◌, ◌≤◌, ℕ, length, IfOk, IfSome};
 ghost use Rattle.std.specs.List.{AllByRecursion};
+ghost use Rattle.ua_table.specs.declared.limits.TheConstants.{SIZE, WIDTH};
+ghost use Rattle.ua_term.specs.Assignments.{projection};
+ghost use Rattle.ua_identity.specs.Identities.{TermIdentity};
+ghost use Rattle.ua_identity.specs.Patterns.{all_fillings};
 ghost use Rattle.ua_identity.specs.Kinds as kinds;
-ghost use Rattle.ua_chain.specs.KindTables.{own_of, link_of};
+ghost use Rattle.ua_identity.specs.KindTables.{pattern_at, number_of, own_of, link_of, IsPartOf};
 
+use crate::fillings::{append_values, start_of};
+use crate::patterns::Pattern;
 use std::alloc::{AllocError, Global};
 use std::marker::Model;
-use ua_identity::Pattern;
+use ua_table::Elem;
 
 /// How a term of a chain is linked to the next: the one at the first pattern is the other at the second, by
 /// the patterns' numbers.
 #[derive(Clone, Copy, Debug)]
-pub(crate) struct PatternPair {
+pub struct PatternPair {
     pub first: usize,
     pub second: usize,
+}
+
+/// The coordinates from one up to, not including, another.
+#[derive(Clone, Copy, Debug)]
+pub struct Part {
+    pub from: u32,
+    pub to: u32,
 }
 
 /// A kind of chain: the identities that its terms satisfy, and those that link each to the next.
@@ -31,7 +44,7 @@ pub struct Kind {
 
 impl Model for Kind {
     ghost use Rattle.ua_identity.specs.Chains.{ChainKind};
-    ghost use Rattle.ua_chain.specs.KindTables.{kind_of, IsKindTable};
+    ghost use Rattle.ua_identity.specs.KindTables.{kind_of, IsKindTable};
 
     ghost Value = { ChainKind };
 
@@ -40,23 +53,13 @@ impl Model for Kind {
     ghost invariant = { λ a. IsKindTable a.places a.patterns.items a.own a.even a.odd a.by_parity };
 }
 
-/// A pattern of two variables at three places.
-fn triple(alloc: Global, places: [u8; 3]) -> Result<Pattern, AllocError>
-    requires { AllByRecursion (λ v. v < 2) places }
-    ensures { IfOk result (λ p. p ≡ record { variables = 2; places = places }) }
-{
-    let places = Vec::from_array(alloc, places)?;
-    Ok(Pattern::new(2, places))
-}
-
-/// A pattern of two or three variables at four places.
-fn quadruple(alloc: Global, variables: u8, places: [u8; 4]) -> Result<Pattern, AllocError>
+/// A pattern of two or three variables.
+fn pattern(alloc: Global, variables: u8, places: &[u8]) -> Result<Pattern, AllocError>
     requires few { variables ≤ 3 }
-    requires named { AllByRecursion (λ v. v < variables) places }
-    ensures { IfOk result (λ p. p ≡ record { variables = variables; places = places }) }
+    requires named { AllByRecursion (λ v. v < variables) places.now }
+    ensures { IfOk result (λ p. p ≡ record { variables = variables; places = places.now }) }
 {
-    let places = Vec::from_array(alloc, places)?;
-    Ok(Pattern::new(variables, places))
+    Ok(Pattern::new(variables, places.to_vec(alloc)?))
 }
 
 impl Kind {
@@ -65,9 +68,9 @@ impl Kind {
     pub fn jonsson(alloc: Global) -> Result<Kind, AllocError>
         ensures { IfOk result (λ kind. kind ≡ kinds.jonsson) }
     {
-        let xyx = triple(alloc, [0, 1, 0])?;
-        let xxy = triple(alloc, [0, 0, 1])?;
-        let xyy = triple(alloc, [0, 1, 1])?;
+        let xyx = pattern(alloc, 2, &[0, 1, 0])?;
+        let xxy = pattern(alloc, 2, &[0, 0, 1])?;
+        let xyy = pattern(alloc, 2, &[0, 1, 1])?;
         let patterns = vec![in alloc; xyx, xxy, xyy]?;
         Ok(Kind {
             places: 3,
@@ -90,8 +93,8 @@ impl Kind {
     pub fn hagemann_mitschke(alloc: Global) -> Result<Kind, AllocError>
         ensures { IfOk result (λ kind. kind ≡ kinds.hagemann_mitschke) }
     {
-        let xxy = triple(alloc, [0, 0, 1])?;
-        let xyy = triple(alloc, [0, 1, 1])?;
+        let xxy = pattern(alloc, 2, &[0, 0, 1])?;
+        let xyy = pattern(alloc, 2, &[0, 1, 1])?;
         let patterns = vec![in alloc; xxy, xyy]?;
         let pair = PatternPair {
             first: 0,
@@ -113,9 +116,9 @@ impl Kind {
     pub fn day(alloc: Global) -> Result<Kind, AllocError>
         ensures { IfOk result (λ kind. kind ≡ kinds.day) }
     {
-        let xyyx = quadruple(alloc, 2, [0, 1, 1, 0])?;
-        let xxww = quadruple(alloc, 2, [0, 0, 1, 1])?;
-        let xyyw = quadruple(alloc, 3, [0, 1, 1, 2])?;
+        let xyyx = pattern(alloc, 2, &[0, 1, 1, 0])?;
+        let xxww = pattern(alloc, 2, &[0, 0, 1, 1])?;
+        let xyyw = pattern(alloc, 3, &[0, 1, 1, 2])?;
         let patterns = vec![in alloc; xyyx, xxww, xyyw]?;
         Ok(Kind {
             places: 4,
@@ -134,7 +137,7 @@ impl Kind {
     }
 
     /// How many places the terms have, the last of which is the end.
-    pub(crate) fn places(&self) -> u8
+    pub fn places(&self) -> u8
         ensures places { result ≡ self.now.places }
         ensures end { self.now.end ≡ result - 1 }
         ensures kind { kinds.IsKind self.now }
@@ -143,23 +146,53 @@ impl Kind {
     }
 
     /// The patterns, in the order of their coordinates.
-    pub(crate) fn patterns(&self) -> &[Pattern]
+    pub fn patterns(&self) -> &[Pattern]
         ensures patterns { result.now ≡ self.now.patterns }
+        ensures kind { kinds.IsKind self.now }
         ensures few { length self.now.patterns ≤ 3 }
+        ensures different { (m : ℕ) → m < length self.now.patterns → number_of self.now.patterns (pattern_at self.now.patterns m) ≡ m }
     {
         self.patterns.as_slice()
     }
 
+    /// The coordinates of pattern m.
+    pub fn part(&self, size: u32, m: usize) -> Part
+        requires small { size ≤ SIZE }
+        requires narrow { length (all_fillings size self.now.patterns) ≤ WIDTH }
+        requires pattern { m < length self.now.patterns }
+        ensures { IsPartOf size self.now.patterns m result }
+    {
+        Part {
+            from: start_of(size, self.patterns.as_slice(), m),
+            to: start_of(size, self.patterns.as_slice(), m + 1),
+        }
+    }
+
     /// The number of the pattern at which each term is what stands at its place 0.
-    pub(crate) fn own(&self) -> Option<usize>
+    pub fn own(&self) -> Option<usize>
         ensures own { self.now.own ≡ own_of self.now.patterns result }
         ensures named { IfSome result (λ m. m < length self.now.patterns) }
     {
         self.own
     }
 
+    /// What each term's vector has at that pattern. It is empty where there is none.
+    pub fn own_values(&self, alloc: Global, size: u32) -> Result<Vec<Elem>, AllocError>
+        requires some { 0 < size }
+        requires small { size ≤ SIZE }
+        requires narrow { length (all_fillings size self.now.patterns) ≤ WIDTH }
+        ensures { IfOk result (λ values. AllByRecursion (λ (i : TermIdentity). values.items ≡ projection size i.pattern.variables i.value) self.now.own) }
+    {
+        let mut values = Vec::new(alloc);
+        if let Some(m) = self.own {
+            let pattern = &self.patterns[m];
+            append_values(&mut values, size, pattern.variables(), pattern.variable(0))?;
+        }
+        Ok(values)
+    }
+
     /// The patterns of the links at even indices.
-    pub(crate) fn even(&self) -> PatternPair
+    pub fn even(&self) -> PatternPair
         ensures link { self.now.even ≡ link_of self.now.patterns result }
         ensures first { result.first < length self.now.patterns }
         ensures second { result.second < length self.now.patterns }
@@ -168,7 +201,7 @@ impl Kind {
     }
 
     /// The patterns of the links at odd indices.
-    pub(crate) fn odd(&self) -> PatternPair
+    pub fn odd(&self) -> PatternPair
         ensures link { self.now.odd ≡ link_of self.now.patterns result }
         ensures first { result.first < length self.now.patterns }
         ensures second { result.second < length self.now.patterns }
@@ -177,7 +210,7 @@ impl Kind {
     }
 
     /// Whether what is reached at even and at odd indices is told apart.
-    pub(crate) fn by_parity(&self) -> bool
+    pub fn by_parity(&self) -> bool
         ensures { result ≡ self.now.by_parity }
     {
         self.by_parity

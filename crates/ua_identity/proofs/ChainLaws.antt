@@ -1,5 +1,5 @@
 -- Terms and members, places, and chains of length 0.
-use Rattle.std.proofs.Common.{◌≡◌, ◌≢◌, ℕ, zero, suc, ◌<◌, ◌≤◌, List, [], ◌∷◌, ◌++◌, length, map, set, replicate, refl, sym, ap, ◌∙◌, subst, arith, ⊎_elim}
+use Rattle.std.proofs.Common.{◌≡◌, ◌≢◌, ℕ, zero, suc, ◌<◌, ◌≤◌, List, [], ◌∷◌, length, map, set, replicate, refl, sym, ap, ◌∙◌, subst, arith, ⊎_elim}
 use Rattle.std.specs.Prelude.{Contains, ◌↔◌, slice_index}
 use Rattle.std.specs.List.{AllByRecursion}
 use Rattle.std.proofs.lemmas.List.{length-map, length-replicate, get_or-set_same, get_or-set_other, length-set, get_or-replicate, get_or-map}
@@ -8,32 +8,24 @@ use Rattle.ua_table.specs.Algebras.{Vector, FiniteAlgebra, arities, arities_of}
 use Rattle.ua_table.specs.Terms.{Tree, Generator, IsTerm, eval}
 use Rattle.ua_table.specs.Generated.{Sg}
 use Rattle.std.proofs.lemmas.List.FromFn.{length-map-range_with_len}
-use Rattle.ua_table.specs.Counting.{numbers_below}
-use Rattle.ua_table.proofs.Lists.{Contains-map, Contains-map_from, Contains-flat_map, Contains-flat_map_from, all_at, all_set, all_replicate}
+use Rattle.ua_table.proofs.Lists.{Contains-map, Contains-map_from, Contains-flat_map, Contains-flat_map_from, all_at, all_set, all_weaker}
 use Rattle.ua_table.proofs.FrameLemmas.{arities_of_power}
-use Rattle.std.proofs.lemmas.List.Elements.{All-from_recursion, Contains-push, Contains-append_left}
+use Rattle.std.proofs.lemmas.List.Elements.{All-from_recursion}
 use Rattle.ua_term.specs.Assignments.{IsAssignment, assignments}
 use Rattle.ua_term.proofs.AssignmentLaws.{assignment_from, assignment_in, maps_agree}
 use Rattle.ua_identity.specs.Identities.{VariablePattern, TermIdentity, filled, Satisfies}
 use Rattle.ua_identity.specs.Chains.{ChainKind, IsPlace, IsOwn, IsChain, chain_length, IsLeastChain}
-use Rattle.ua_identity.specs.Kinds.{IsKind, IsOwnIdentity, IsPatternOf, AreApart}
+use Rattle.ua_identity.proofs.KindLaws.{apart_at}
+use Rattle.ua_identity.specs.Kinds.{IsKind, IsOwnIdentity, IsPatternOf}
 use Rattle.ua_identity.specs.Patterns.{fillings, all_fillings, vector_of, place_vector, power, generators}
+use Rattle.ua_identity.proofs.ConditionLaws.{filled_all}
 use Rattle.ua_identity.proofs.PatternLaws.{AreFilled, value_is_vector, agree_maps}
 
 -- ---- terms and members
 
 -- each filling has as many places
-fillings_filled : (places : ℕ) (p : VariablePattern) (xss : List (List ℕ)) → length p.places ≡ places → AreFilled places (map (filled p) xss)
-fillings_filled places p [] e = tt
-fillings_filled places p (xs ∷ xss) e = (length-map p.places (slice_index xs) ∙ e, fillings_filled places p xss e)
-
-filled_joined : (places : ℕ) (fs gs : List (List ℕ)) → AreFilled places fs → AreFilled places gs → AreFilled places (fs ++ gs)
-filled_joined places [] gs h k = k
-filled_joined places (xs ∷ fs) gs h k = (h.0, filled_joined places fs gs h.1 k)
-
 pub all_filled : (places n : ℕ) (ps : List VariablePattern) → AllByRecursion (IsPatternOf places) ps → AreFilled places (all_fillings n ps)
-all_filled places n [] h = tt
-all_filled places n (p ∷ ps) h = filled_joined places (fillings n p) (all_fillings n ps) (fillings_filled places p (assignments n p.variables) h.0.count) (all_filled places n ps h.1)
+all_filled places n ps h = filled_all places n ps (all_weaker (IsPatternOf places) (λ (p : VariablePattern). length p.places ≡ places) (λ p is. is.count) ps h)
 
 pub generator_count : (a : FiniteAlgebra) (ps : List VariablePattern) (places : ℕ) → length (generators a ps places) ≡ places
 generator_count a ps places = length-map-range_with_len (place_vector (all_fillings a.size ps)) 0 places
@@ -78,16 +70,11 @@ place_has_vector a kind j t k h =
 place_satisfies : (a : FiniteAlgebra) (i : TermIdentity) (j : ℕ) → j < length i.pattern.places → slice_index i.pattern.places j ≡ i.value → Satisfies a (Generator j) i
 place_satisfies a i j l e xs h = get_or-map (slice_index xs) i.pattern.places j 0 0 l ∙ ap (slice_index xs) e
 
-first_owns : (a : FiniteAlgebra) (kind : ChainKind) (is : List TermIdentity) → 0 < kind.places → AllByRecursion (IsOwnIdentity kind) is → AllByRecursion (Satisfies a (Generator 0)) is
-first_owns a kind [] l h = tt
-first_owns a kind (i ∷ is) l h = (place_satisfies a i 0 (let n = h.0.pattern.count in omega arith) h.0.first, first_owns a kind is l h.1)
-
 pub first_is_own : (a : FiniteAlgebra) (kind : ChainKind) → IsKind kind → IsOwn a kind (Generator 0)
-first_is_own a kind k = first_owns a kind kind.own (let some = k.some in let end = k.end in omega arith) k.own
+first_is_own a kind k = all_weaker (IsOwnIdentity kind) (Satisfies a (Generator 0)) (λ i h. place_satisfies a i 0 (let n = h.pattern.count in let some = k.some in let end = k.end in omega arith) h.first) kind.own k.own
 
-number_in : (n j : ℕ) → j < n → Contains (numbers_below n) j
-number_in zero j l = absurd (omega (arith, l))
-number_in (suc n) j l = ⊎_elim (λ low. Contains-append_left (numbers_below n) (n ∷ []) j (number_in n j low)) (λ high. let same : n ≡ j = omega (arith, l, high) in subst (Contains (numbers_below n ++ n ∷ [])) same (Contains-push (numbers_below n) n)) (cases_lt j n)
+pub end_is_own : (a : FiniteAlgebra) (kind : ChainKind) → IsKind kind → IsOwn a kind (Generator kind.end)
+end_is_own a kind k = all_weaker (IsOwnIdentity kind) (Satisfies a (Generator kind.end)) (λ i h. place_satisfies a i kind.end (let n = h.pattern.count in let end = k.end in omega arith) h.last) kind.own k.own
 
 -- an assignment with two given elements at two variables
 two_elements : (a : FiniteAlgebra) (n v w x y : ℕ) → v < n → w < n → v ≢ w → x < a.size → y < a.size → (xs : List ℕ) × IsAssignment a.size n xs × (slice_index xs v ≡ x) × (slice_index xs w ≡ y)
@@ -103,21 +90,6 @@ two_elements a n v w x y lv lw apart lx ly =
     all_same : (n : ℕ) → AllByRecursion (λ z. z < a.size) (replicate n x)
     all_same zero = tt
     all_same (suc n) = (lx, all_same n)
-
--- an earlier place is apart from the end at some pattern
-apart_at : (kind : ChainKind) (j : ℕ) → IsKind kind → j < kind.end → AreApart kind.patterns j kind.end
-apart_at kind j k l = all_at (λ i. AreApart kind.patterns i kind.end) (numbers_below kind.end) j k.apart (number_in kind.end j l)
-
--- so the patterns have fillings
-pub some_fillings : (n : ℕ) (kind : ChainKind) → IsKind kind → 0 < n → 0 < length (all_fillings n kind.patterns)
-some_fillings n kind k some =
-    let apart = apart_at kind 0 k k.some in
-    let p = apart.pattern in
-    let zeros = replicate {A = ℕ} p.variables 0 in
-    let assigns = assignment_in n p.variables (replicate {A = ℕ} p.variables 0) (record { count = length-replicate p.variables 0; elements = all_replicate (λ x. x < n) p.variables 0 some }) in
-    let here = Contains-flat_map (fillings n) p (filled p (replicate {A = ℕ} p.variables 0)) kind.patterns apart.there (Contains-map (filled p) (replicate {A = ℕ} p.variables 0) (assignments n p.variables) assigns) in
-    let within = here.1 in
-    omega (arith, within)
 
 -- where an earlier place and the end have the same vector, there is one element
 pub one_element : (a : FiniteAlgebra) (kind : ChainKind) (j : ℕ) → IsKind kind → j < kind.end → vector_of a kind.patterns (Generator j) ≡ vector_of a kind.patterns (Generator kind.end) → (x y : ℕ) → x < a.size → y < a.size → x ≡ y
