@@ -1,8 +1,8 @@
 -- What is told when a least chain is asked for.
-use Rattle.std.specs.Prelude.{◌≡◌, ◌↔◌, ℕ, ◌-◌, ◌<◌, Bool, true, false, List, [], ◌∷◌, length, map, slice_get, slice_index, Some, Contains}
+use Rattle.std.specs.Prelude.{◌≡◌, ℕ, ◌-◌, ◌<◌, true, false, List, [], ◌∷◌, length, map}
 use Rattle.std.specs.List.{AllByRecursion}
 use Rattle.ua_table.specs.declared.origins.Origin.TheVariants.{Gen}
-use Rattle.ua_table.specs.Algebras.{Vector, FiniteAlgebra, arities_of}
+use Rattle.ua_table.specs.Algebras.{FiniteAlgebra, arities_of}
 use Rattle.ua_table.specs.Generated.{HasMoreThan}
 use Rattle.ua_table.specs.Terms.{Tree}
 use Rattle.ua_table.specs.Listings.{Row, vectors_of, IsClosedListing, IsExceedingListing}
@@ -10,7 +10,7 @@ use Rattle.ua_table.specs.Orders.{IsSerialListing}
 use Rattle.ua_term.specs.Steps.{StepList, AreSteps, step_term}
 use Rattle.ua_close.specs.Needed.{AreStepsFor}
 use Rattle.ua_walk.specs.Sequences.{BeginsWith, EndsWith}
-use Rattle.ua_identity.specs.Chains.{ChainKind, IsChain, IsLeastChain, power_of, generators_of, IsReached}
+use Rattle.ua_identity.specs.Chains.{ChainKind, IsChain, IsLeastChain, power_of, generators_of, AreReached}
 use Rattle.ua_chain.specs.declared.chains.Chain.{Chain}
 use Rattle.ua_chain.specs.declared.chains.Chain.TheVariants.{Yes, No, Exceeds}
 
@@ -39,12 +39,6 @@ pub record AreChainSteps (a : FiniteAlgebra) (kind : ChainKind) (steps : List St
   pub last : 1 < length steps → EndsWith (IsGeneratorStep kind.end) steps
 
 -- ---- no chain
-
--- the positions of the rows that are reached at an index told among the even ones, if so, ascending
-pub record AreReached (a : FiniteAlgebra) (kind : ChainKind) (even : Bool) (vectors : List Vector) (positions : List ℕ) : Type 0 where
-  pub ascending : (j k : ℕ) → j < k → k < length positions → slice_index positions j < slice_index positions k
-  pub exact : (i : ℕ) (v : Vector) → slice_get vectors i ≡ Some v → Contains positions i ↔ IsReached a kind even v
-  pub within : AllByRecursion (λ i. i < length vectors) positions
 
 -- there is no chain, the list is closed, and the rows that beginnings reach are told
 pub record TellsNoChain (a : FiniteAlgebra) (kind : ChainKind) (b : ℕ) (list : List Row) (even odd : List ℕ) : Type 0 where
