@@ -15,21 +15,6 @@ use Rattle.ua_identity.specs.declared.limits.TheConstants.{LETTERS}
 use Rattle.ua_identity.specs.Identities.{VariablePattern, filled}
 use Rattle.ua_identity.specs.Patterns.{fillings, all_fillings, place_vector, power}
 
--- ---- how many assignments
-
--- the most that there may be
-pub most_assignments : SIZE ^ LETTERS ≡ 1000000000000
-most_assignments = refl
-
-pub few_assignments : (n k : ℕ) → n ≤ SIZE → k ≤ LETTERS → n ^ k ≤ 1000000000000
-few_assignments n k small few =
-    let low = pow-le-pow_left small k in
-    let some : 0 < SIZE = omega arith in
-    let up : SIZE ^ k ≤ SIZE ^ LETTERS = pow-le-pow_right some few in
-    omega (arith, low, up, most_assignments)
-
--- ---- one pattern more
-
 -- one piece more
 pub pieces_more : {X Y : Type 0} (g : X → List Y) (xs : List X) (i : ℕ) (d : X) → i < length xs → flat_map g (take (i + 1) xs) ≡ flat_map g (take i xs) ++ g (get_or xs i d)
 pieces_more g xs i d l = ap (flat_map g) (take_more xs i d l) ∙ flat_map-append g (take i xs) (get_or xs i d ∷ []) ∙ ap (λ ys. flat_map g (take i xs) ++ ys) (append-nil (g (get_or xs i d)))

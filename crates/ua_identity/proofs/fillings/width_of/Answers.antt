@@ -5,7 +5,7 @@ use Rattle.ua_identity.proofs.fillings.width_of.Goals as goal
 pub loop-pattern-preserved : goal.loop-pattern-preserved
 loop-pattern-preserved c =
     let more = width_more c.args.size c.args.patterns.now c.loop-pattern.pattern-index c.pattern-item.result c.loop-pattern-test.true c.pattern-item.is in
-    let one = c.count-width.ensures.count ∙ ap (λ (k : ℕ). c.args.size ^ k) c.variables.ensures.variables in
+    let one = c.assignment_count.ensures ∙ ap (λ (k : ℕ). c.args.size ^ k) c.variables.ensures.variables in
     let so_far = c.loop-pattern.invariant.width in
     let small = c.loop-pattern.invariant.small in
     let few = c.count-width.ensures.small in
