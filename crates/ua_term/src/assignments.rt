@@ -13,7 +13,8 @@ use ua_table::limits::{SIZE, VARIABLES, WIDTH};
 pub fn assignment_count(size: u32, variables: u8) -> u128
     requires size { size ≤ SIZE }
     requires variables { variables ≤ VARIABLES }
-    ensures { result ≡ size ^ variables }
+    ensures count { result ≡ size ^ variables }
+    ensures small { result ≤ SIZE ^ VARIABLES }
 {
     u128::from(size).pow(u32::from(variables))
 }
