@@ -68,12 +68,6 @@ pub within_from : (n : ℕ) (xs : List ℕ) → AllByRecursion (λ x. x < n) xs 
 within_from n [] h = tt
 within_from n (x ∷ xs) h = (omega arith, omega (arith, h.0), within_from n xs h.1)
 
-pub within_is : (n k : ℕ) (xs : List ℕ) → IsInSpans (elements n k) xs → IsAssignment n k xs
-within_is n zero [] h = record { count = refl; elements = tt }
-within_is n zero (x ∷ xs) h = absurd h
-within_is n (suc k) [] h = absurd h
-within_is n (suc k) (x ∷ xs) h = let r = within_is n k xs h.2 in record { count = ap suc r.count; elements = (omega (arith, h.1), r.elements) }
-
 pub length_assignments : (n k : ℕ) → length (assignments n k) ≡ n ^ k
 length_assignments n k = ap length (sym (tuples_are n k)) ∙ length_tuples (elements n k) ∙ many_is n k
 
