@@ -1,4 +1,4 @@
-use Rattle.std.proofs.Common.{◌≡◌, ◌+◌, ◌^◌, ◌<◌, ℕ, List, length, drop, max, sym, ap, ◌∙◌, subst, arith}
+use Rattle.std.proofs.Common.{◌≡◌, ◌+◌, ◌^◌, ◌<◌, ℕ, List, length, drop, max, replicate, sym, ap, ◌∙◌, subst, arith}
 use Rattle.std.specs.List.{AllByRecursion}
 use Rattle.std.proofs.lemmas.List.{take_at}
 use Rattle.ua_table.specs.declared.limits.TheConstants.{VARIABLES}
@@ -30,7 +30,7 @@ assignment_count-count-requires-clause-variables c =
 
 pub loop-init : goal.loop-init
 loop-init c = record {
-  walk = subst (IsNumbered c.args.a.now.size c.max-variables.result 0) (sym (c.in_ok-xs.ensures.items_if_clones_equal (λ y e. e))) (walk_begins c.args.a.now.size c.max-variables.result c.size.ensures.algebra.algebra.inhabited);
+  walk = subst (IsNumbered c.args.a.now.size c.max-variables.result 0) (sym (c.in_ok-xs.ensures.items_if_clones_equal (λ y e. e) ∙ ap (λ n. replicate n 0) c.from-2.ensures)) (walk_begins c.args.a.now.size c.max-variables.result c.size.ensures.algebra.algebra.inhabited);
   below = λ ys fine less. absurd (omega (arith, less));
 }
 
