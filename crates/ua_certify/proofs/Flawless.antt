@@ -31,7 +31,7 @@ use Rattle.ua_close.specs.Answers.{IsWide}
 use Rattle.ua_close.specs.Memberships.{AreStepsTo}
 use Rattle.ua_cond.specs.Permitted.{MayDecide}
 use Rattle.ua_chain.specs.declared.chains.Chain.TheVariants as chains
-use Rattle.ua_chain.specs.Answers.{power_of, generators_of, term_of, AreTermSteps, AreReached}
+use Rattle.ua_chain.specs.Answers.{power_of, generators_of, term_of, AreTermSteps}
 use Rattle.ua_chain.specs.Permitted.{MayChain}
 use Rattle.ua_cert.specs.declared.certs.CondName.{CondName}
 use Rattle.ua_cert.specs.declared.certs.CondName.TheVariants.{Maltsev, Majority, Minority, Pixley, Nu}
@@ -41,7 +41,6 @@ use Rattle.ua_flaws.specs.Shapes.{power}
 use Rattle.ua_flaws.specs.Answers.{AreExact, IsPowerListing}
 use Rattle.ua_flaws.specs.Steps.{written_steps, written_term}
 use Rattle.ua_flaws.specs.Flaws.{member_flaw, not_member_flaw}
-use Rattle.ua_check.specs.Answers.{AreThose}
 use Rattle.ua_check.specs.Conditions.{condition_of, has_places, width_of, condition_flaw, no_condition_flaw}
 use Rattle.ua_check.specs.Chains.{kind_of, chain_width, chain_flaw, HasNoChain}
 use Rattle.ua_check.specs.Reached.{places_of, no_chain_flaw}
@@ -190,7 +189,7 @@ ChainLaw = (a : FiniteAlgebra) (name : ChainName) (terms : List (List Origin)) �
     → chain_flaw a name (map (written_steps a) terms) ≡ None
 
 abbrev pub NoChainLaw : Type 0
-NoChainLaw = (a : FiniteAlgebra) (name : ChainName) (rows : List Vector) (even odd : List ℕ) → 0 < a.size → chain_width a name ≤ WIDTH → IsIncreasing rows → AllByRecursion (IsVector (power a (chain_width a name))) rows → AreExact a (chain_width a name) (places_of a name) rows → AreThose a name true rows even → AreThose a name false rows odd → HasNoChain a name
+NoChainLaw = (a : FiniteAlgebra) (name : ChainName) (rows : List Vector) (even odd : List ℕ) → 0 < a.size → chain_width a name ≤ WIDTH → IsIncreasing rows → AllByRecursion (IsVector (power a (chain_width a name))) rows → AreExact a (chain_width a name) (places_of a name) rows → AreReached a (kind_of name) true rows even → AreReached a (kind_of name) false rows odd → HasNoChain a name
     → no_chain_flaw a name rows even odd ≡ None
 
 abbrev pub PlaceLaw : Type 0
@@ -235,9 +234,6 @@ some_patterns : (name : ChainName) → 0 < length (kind_of name).patterns
 some_patterns Jonsson = omega arith
 some_patterns Hm = omega arith
 
-those : (a : FiniteAlgebra) (name : ChainName) (even : Bool) (rows : List Vector) (ps : List ℕ) → AreReached a (kind_of name) even rows ps → AreThose a name even rows ps
-those a name even rows ps h = record { ascending = h.ascending; exact = h.exact; within = h.within }
-
 module _ (a : FiniteAlgebra) (name : ChainName) (b w : ℕ) (table : IsAlgebraTable a) (some : 1 ≤ b) where
   pub chain_flawless : (terms : Vec StepList Global) → ChainLaw → MayChain a (kind_of name) b w (Ok (chains.Yes terms)) → chain_flaw a name (map (λ (s : StepList). written_steps a s.items) terms.items) ≡ None
   chain_flawless terms law may =
@@ -252,4 +248,4 @@ module _ (a : FiniteAlgebra) (name : ChainName) (b w : ℕ) (table : IsAlgebraTa
       let n : ℕ = length (all_fillings a.size (kind_of name).patterns) in
       let low : 0 < n = (let l = wide a (kind_of name).patterns table.algebra.inhabited (some_patterns name) in let count = length-replicate (length (all_fillings a.size (kind_of name).patterns)) a in omega (arith, l, count)) in
       let r = rows_of a (length (all_fillings a.size (kind_of name).patterns)) b (places_of a name) rows members table.algebra low (places a (kind_of name).patterns (kind_of name).places (patterns_fit name) (patterns_long name)) h.closed in
-      law a name (vectors_of rows) even.items odd.items table.algebra.inhabited (narrow (power_of a (kind_of name)) (generators_of a (kind_of name)) b some may.0) r.increasing r.vectors r.exact (those a name true (vectors_of rows) even.items h.evens) (those a name false (vectors_of rows) odd.items h.odds) h.none
+      law a name (vectors_of rows) even.items odd.items table.algebra.inhabited (narrow (power_of a (kind_of name)) (generators_of a (kind_of name)) b some may.0) r.increasing r.vectors r.exact h.evens h.odds h.none

@@ -1,5 +1,5 @@
 -- What is told when a least chain is asked for.
-use Rattle.std.specs.Prelude.{◌≡◌, ◌↔◌, ℕ, ◌-◌, ◌<◌, Bool, true, false, List, [], ◌∷◌, length, map, slice_get, slice_index, Some, Contains}
+use Rattle.std.specs.Prelude.{◌≡◌, ℕ, ◌-◌, ◌<◌, true, false, List, [], ◌∷◌, length, map}
 use Rattle.std.specs.List.{AllByRecursion}
 use Rattle.ua_table.specs.declared.origins.Origin.TheVariants.{Gen}
 use Rattle.ua_table.specs.Algebras.{Vector, FiniteAlgebra, Product, arities_of}
@@ -10,7 +10,7 @@ use Rattle.ua_table.specs.Orders.{IsSerialListing}
 use Rattle.ua_term.specs.Steps.{StepList, AreSteps, step_term}
 use Rattle.ua_close.specs.Needed.{AreStepsFor}
 use Rattle.ua_walk.specs.Sequences.{BeginsWith, EndsWith}
-use Rattle.ua_identity.specs.Chains.{ChainKind, IsChain, IsLeastChain, IsReached}
+use Rattle.ua_identity.specs.Chains.{ChainKind, IsChain, IsLeastChain, AreReached}
 use Rattle.ua_identity.specs.Patterns as patterns
 use Rattle.ua_chain.specs.declared.chains.Chain.{Chain}
 use Rattle.ua_chain.specs.declared.chains.Chain.TheVariants.{Yes, No, Exceeds}
@@ -48,12 +48,6 @@ pub record AreChainSteps (a : FiniteAlgebra) (kind : ChainKind) (steps : List St
   pub last : 1 < length steps → EndsWith (IsGeneratorStep kind.end) steps
 
 -- ---- no chain
-
--- the positions of the rows that are reached at an index told among the even ones, if so, ascending
-pub record AreReached (a : FiniteAlgebra) (kind : ChainKind) (even : Bool) (vectors : List Vector) (positions : List ℕ) : Type 0 where
-  pub ascending : (j k : ℕ) → j < k → k < length positions → slice_index positions j < slice_index positions k
-  pub exact : (i : ℕ) (v : Vector) → slice_get vectors i ≡ Some v → Contains positions i ↔ IsReached a kind even v
-  pub within : AllByRecursion (λ i. i < length vectors) positions
 
 -- there is no chain, the list is closed, and the rows that beginnings reach are told
 pub record HasNoChain (a : FiniteAlgebra) (kind : ChainKind) (b : ℕ) (list : List Row) (even odd : List ℕ) : Type 0 where

@@ -15,8 +15,9 @@ use crate::classes::Part;
 use crate::kinds::Kind;
 use std::alloc::{AllocError, Global};
 use ua_close::{CloseError, power_within};
-use ua_identity::{append_values, place_vectors, start_of, width_of};
+use ua_identity::{place_vectors, start_of, width_of};
 use ua_table::{Algebra, Elem, Frame, Vectors};
+use ua_term::append_values;
 
 /// The power of the algebra in which the vectors of the kind's terms lie, with the generators of these, or why
 /// they are too wide to be closed. None of them is made where they are too wide.

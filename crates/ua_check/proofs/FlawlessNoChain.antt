@@ -19,7 +19,7 @@ use Rattle.ua_table.proofs.FrameLemmas.{arities_of_power}
 use Rattle.ua_term.specs.Assignments.{IsAssignment}
 use Rattle.ua_walk.specs.Sequences.{Alternates, EndsWith, ends_even}
 use Rattle.ua_identity.specs.Identities.{VariablePattern, xxy}
-use Rattle.ua_identity.specs.Chains.{AreLinked, IsOwn, IsPlace, IsBeginning, IsChain, is_among_even, IsReached}
+use Rattle.ua_identity.specs.Chains.{AreLinked, IsOwn, IsPlace, IsBeginning, IsChain, is_among_even, IsReached, AreReached}
 use Rattle.ua_identity.specs.Patterns.{all_fillings, vector_of, place_vector, part_of}
 use Rattle.ua_identity.specs.Kinds.{alike}
 use Rattle.ua_identity.proofs.PatternLaws.{part_is, linked_from_parts}
@@ -30,7 +30,6 @@ use Rattle.ua_flaws.specs.declared.flaws.Flaw.TheVariants as flaw
 use Rattle.ua_flaws.specs.Firsts.{first_bad, is_same}
 use Rattle.ua_flaws.specs.Shapes.{power}
 use Rattle.ua_flaws.specs.Answers.{AreExact}
-use Rattle.ua_check.specs.Answers.{AreThose}
 use Rattle.ua_flaws.specs.Flaws.{vectors_flaw, closed_flaw}
 use Rattle.ua_flaws.specs.Laws.{VectorsAreFlawless, ExactIsFlawless}
 use Rattle.ua_check.specs.Chains.{kind_of, chain_width, HasNoChain}
@@ -156,7 +155,7 @@ module _ (a : FiniteAlgebra) (name : ChainName) where
       none c.0 c.1
 
 module _ (a : FiniteAlgebra) (name : ChainName) (rows : List Vector) (even odd : List ℕ) (law : VectorLaw) (some : 0 < length (all_fillings a.size (kind_of name).patterns))
-    (exact : AreExact a (chain_width a name) (places_of a name) rows) (evens : AreThose a name true rows even) (odds : AreThose a name false rows odd) (none : HasNoChain a name) where
+    (exact : AreExact a (chain_width a name) (places_of a name) rows) (evens : AreReached a (kind_of name) true rows even) (odds : AreReached a (kind_of name) false rows odd) (none : HasNoChain a name) where
   -- the term of a row
   record TermOf (v : Vector) : Type 0 where
     term : Tree
@@ -210,7 +209,7 @@ module _ (a : FiniteAlgebra) (name : ChainName) (rows : List Vector) (even odd :
 
 -- those of a kind whose sides are told apart
 module _ (a : FiniteAlgebra) (rows : List Vector) (even odd : List ℕ) (law : VectorLaw) (some : 0 < length (all_fillings a.size (kind_of Jonsson).patterns))
-    (exact : AreExact a (chain_width a Jonsson) (places_of a Jonsson) rows) (evens : AreThose a Jonsson true rows even) (odds : AreThose a Jonsson false rows odd) (none : HasNoChain a Jonsson) where
+    (exact : AreExact a (chain_width a Jonsson) (places_of a Jonsson) rows) (evens : AreReached a (kind_of Jonsson) true rows even) (odds : AreReached a (kind_of Jonsson) false rows odd) (none : HasNoChain a Jonsson) where
   from_even : (i : ℕ) (v : Vector) → slice_get rows i ≡ Some v → is_own_row a.size Jonsson v ≡ true → is_led_to a.size Jonsson (even_parts Jonsson) rows even v ≡ true → holds_position odd i ≡ true
   from_even i v at own h =
       let q = led_from (λ p. leads a.size Jonsson (even_parts Jonsson) (slice_index_or rows p []) v) even h in
@@ -257,7 +256,7 @@ module _ (a : FiniteAlgebra) (rows : List Vector) (even odd : List ℕ) (law : V
 
 -- those of a kind whose sides are not
 module _ (a : FiniteAlgebra) (rows : List Vector) (even odd : List ℕ) (law : VectorLaw) (some : 0 < length (all_fillings a.size (kind_of Hm).patterns))
-    (exact : AreExact a (chain_width a Hm) (places_of a Hm) rows) (evens : AreThose a Hm true rows even) (odds : AreThose a Hm false rows odd) (none : HasNoChain a Hm) where
+    (exact : AreExact a (chain_width a Hm) (places_of a Hm) rows) (evens : AreReached a (kind_of Hm) true rows even) (odds : AreReached a (kind_of Hm) false rows odd) (none : HasNoChain a Hm) where
   from_any : (i : ℕ) (v : Vector) → slice_get rows i ≡ Some v → is_led_to a.size Hm (even_parts Hm) rows even v ≡ true → holds_position even i ≡ true
   from_any i v at h =
       let q = led_from (λ p. leads a.size Hm (even_parts Hm) (slice_index_or rows p []) v) even h in
@@ -278,7 +277,7 @@ module _ (a : FiniteAlgebra) (rows : List Vector) (even odd : List ℕ) (law : V
       (or_not (holds_position even i) (is_led_to a.size Hm (even_parts Hm) rows even v) (from_any i v at))
       (or_not (holds_position even i) (is_led_to a.size Hm (odd_parts Hm) rows even v) (from_any i v at))
 
-follows_fine : (a : FiniteAlgebra) (name : ChainName) (rows : List Vector) (even odd : List ℕ) → VectorLaw → 0 < length (all_fillings a.size (kind_of name).patterns) → AreExact a (chain_width a name) (places_of a name) rows → AreThose a name true rows even → AreThose a name false rows odd → HasNoChain a name
+follows_fine : (a : FiniteAlgebra) (name : ChainName) (rows : List Vector) (even odd : List ℕ) → VectorLaw → 0 < length (all_fillings a.size (kind_of name).patterns) → AreExact a (chain_width a name) (places_of a name) rows → AreReached a (kind_of name) true rows even → AreReached a (kind_of name) false rows odd → HasNoChain a name
     → (i : ℕ) (v : Vector) → slice_get rows i ≡ Some v → is_followed a.size name rows even (odd_positions name even odd) i v ≡ true
 follows_fine a Jonsson rows even odd law some exact evens odds none i v at = followed_jonsson a rows even odd law some exact evens odds none i v at
 follows_fine a Hm rows even odd law some exact evens odds none i v at = followed_hm a rows even odd law some exact evens odds none i v at
@@ -289,7 +288,7 @@ each_row : (good : ℕ → Vector → Bool) (rows : List Vector) → ((i : ℕ) 
 each_row good rows h = no_option flaw.Reached (first_bad good 0 rows) (none_bad good 0 rows (λ i v at. (let z : 0 + i ≡ i = omega arith in ap (λ k. good k v) z ∙ h i v at)))
 
 pub flawless_no_chain : (a : FiniteAlgebra) (name : ChainName) (rows : List Vector) (even odd : List ℕ) → VectorLaw → VectorsAreFlawless → ExactIsFlawless → 0 < a.size → chain_width a name ≤ WIDTH → IsIncreasing rows → AllByRecursion (IsVector (power a (chain_width a name))) rows → AreExact a (chain_width a name) (places_of a name) rows
-    → AreThose a name true rows even → AreThose a name false rows odd → HasNoChain a name → no_chain_flaw a name rows even odd ≡ None
+    → AreReached a (kind_of name) true rows even → AreReached a (kind_of name) false rows odd → HasNoChain a name → no_chain_flaw a name rows even odd ≡ None
 flawless_no_chain a name rows even odd law fine closed size narrow inc vectors exact evens odds none =
     let some = some_wide a.size name size in
     no_line (no_chain_lines a name rows even odd) (

@@ -11,14 +11,13 @@ use Rattle.ua_table.proofs.Lists.{found, Contains-head, Contains-tail, Contains-
 use Rattle.ua_table.proofs.RefusalLemmas.{refusal_if-false}
 use Rattle.ua_walk.specs.Sequences.{Alternates, BeginsWith, EndsWith, ends_even}
 use Rattle.ua_identity.specs.Identities.{xxy, xyx, xyy}
-use Rattle.ua_identity.specs.Chains.{AreLinked, IsOwn, IsPlace, is_among_even, IsReached}
+use Rattle.ua_identity.specs.Chains.{AreLinked, IsOwn, IsPlace, is_among_even, IsReached, AreReached}
 use Rattle.ua_identity.specs.Patterns.{vector_of}
 use Rattle.ua_identity.proofs.PatternLaws.{part_is, linked_from_parts, satisfied_from_part}
 use Rattle.ua_cert.specs.declared.certs.ChainName.{ChainName}
 use Rattle.ua_cert.specs.declared.certs.ChainName.TheVariants.{Jonsson, Hm}
 use Rattle.ua_flaws.specs.declared.flaws.Flaw.TheVariants as flaw
 use Rattle.ua_flaws.specs.Firsts.{first_bad}
-use Rattle.ua_check.specs.Answers.{AreThose}
 use Rattle.ua_check.specs.Chains.{kind_of}
 use Rattle.ua_check.specs.Reached.{even_parts, odd_parts, leads, is_own_row, holds_position, is_position, positions_flaw, parity_flaw, place_of}
 use Rattle.ua_flaws.proofs.FirstLaws.{same_is}
@@ -53,13 +52,13 @@ position_fine n ps up low (suc i) p at =
     let step = up i (suc i) (omega arith) (slice_get_within ps (suc i) p at) in
     and_from (nat_lt p n) (nat_lt (slice_index ps i) p) (is_below p n (All-slice_get (λ x. x < n) ps (suc i) p low at)) (is_below (slice_index ps i) p (subst (λ z. slice_index ps i < z) next step))
 
-pub no_position_flaw : (a : FiniteAlgebra) (name : ChainName) (even : Bool) (rows : List Vector) (ps : List ℕ) → AreThose a name even rows ps → positions_flaw (length rows) ps ≡ None
+pub no_position_flaw : (a : FiniteAlgebra) (name : ChainName) (even : Bool) (rows : List Vector) (ps : List ℕ) → AreReached a (kind_of name) even rows ps → positions_flaw (length rows) ps ≡ None
 no_position_flaw a name even rows ps h =
     no_option (λ i. flaw.Reached (slice_index ps i)) (first_bad (is_position (length rows) ps) 0 ps)
     (none_bad (is_position (length rows) ps) 0 ps (λ i p at. (let z : 0 + i ≡ i = omega arith in ap (λ k. is_position (length rows) ps k p) z ∙ position_fine (length rows) ps h.ascending h.within i p at)))
 
 -- where all are told among the even ones, none is told at odd indices
-pub no_odd : (a : FiniteAlgebra) (rows : List Vector) (odd : List ℕ) → AreThose a Hm false rows odd → (length odd == 0) ≡ true
+pub no_odd : (a : FiniteAlgebra) (rows : List Vector) (odd : List ℕ) → AreReached a (kind_of Hm) false rows odd → (length odd == 0) ≡ true
 no_odd a rows [] h = refl
 no_odd a rows (p ∷ ps) h =
     let v = found rows p h.within.0 in
@@ -70,7 +69,7 @@ no_odd a rows (p ∷ ps) h =
     never true e = cc
     never false e = cc
 
-pub no_parity_flaw : (a : FiniteAlgebra) (name : ChainName) (rows : List Vector) (odd : List ℕ) → AreThose a name false rows odd → parity_flaw name odd ≡ None
+pub no_parity_flaw : (a : FiniteAlgebra) (name : ChainName) (rows : List Vector) (odd : List ℕ) → AreReached a (kind_of name) false rows odd → parity_flaw name odd ≡ None
 no_parity_flaw a Jonsson rows odd h = refl
 no_parity_flaw a Hm rows odd h = refusal_if-false (not (length odd == 0)) (flaw.Reached (slice_index odd 0)) (ap not (no_odd a rows odd h))
 

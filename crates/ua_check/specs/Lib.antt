@@ -4,4 +4,3 @@ pub mod Chains
 pub mod Reached
 pub mod ChartsOf
 pub mod Checking
-pub mod Answers

@@ -21,10 +21,11 @@ use ua_flaws::laws::generated;
 use ua_flaws::outside::closed_rows;
 use ua_flaws::vectors::vectors;
 use ua_flaws::{CheckError, Flaw, ListName};
-use ua_identity::{Pattern, append_values, laws, place_vectors, width_of};
+use ua_identity::{Pattern, laws, place_vectors, width_of};
 use ua_rows::Rows;
 use ua_table::limits::WIDTH;
 use ua_table::{Algebra, Elem, Frame, Listed, Vectors};
+use ua_term::append_values;
 
 /// The rows and the vectors of the places, where the rows hold all that these generate.
 fn rows_and_places(

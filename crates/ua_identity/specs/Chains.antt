@@ -1,5 +1,5 @@
 -- Chains of terms, each linked to the next by an identity.
-use Rattle.std.specs.Prelude.{◌≡◌, ℕ, ◌-◌, ◌≤◌, Bool, not, ◌||◌, List, length, slice_index}
+use Rattle.std.specs.Prelude.{◌≡◌, ◌↔◌, ℕ, ◌-◌, ◌<◌, ◌≤◌, Bool, not, ◌||◌, List, length, slice_get, slice_index, Some, Contains}
 use Rattle.std.specs.List.{AllByRecursion}
 use Rattle.ua_table.specs.Algebras.{Vector, FiniteAlgebra, arities_of}
 use Rattle.ua_table.specs.Terms.{Tree, IsTerm, eval}
@@ -71,3 +71,9 @@ pub record IsReached (a : FiniteAlgebra) (kind : ChainKind) (even : Bool) (row :
   pub beginning : IsBeginning a kind terms
   pub parity : is_among_even kind terms ≡ even
   pub reaches : EndsWith (λ t. vector_of a kind.patterns t ≡ row) terms
+
+-- the positions of the rows that are reached at an index told among the even ones, if so, ascending
+pub record AreReached (a : FiniteAlgebra) (kind : ChainKind) (even : Bool) (rows : List Vector) (positions : List ℕ) : Type 0 where
+  pub ascending : (j k : ℕ) → j < k → k < length positions → slice_index positions j < slice_index positions k
+  pub exact : (i : ℕ) (v : Vector) → slice_get rows i ≡ Some v → Contains positions i ↔ IsReached a kind even v
+  pub within : AllByRecursion (λ i. i < length rows) positions

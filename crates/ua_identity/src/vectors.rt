@@ -1,9 +1,9 @@
 //! The vectors of the arguments and of the values of a condition.
 
 use crate::conditions::Condition;
-use crate::fillings::{append_values, count};
 use std::alloc::{AllocError, Global};
 use ua_table::{Algebra, Elem, Vectors};
+use ua_term::{append_values, assignment_count};
 
 impl Condition {
     ghost use Rattle.std.specs.Prelude.{◌≡◌, ◌*◌, ◌<◌, ◌≤◌, ◌^◌, length, IfOk};
@@ -20,7 +20,7 @@ impl Condition {
         let size = a.size();
         let mut width = 0;
         for identity in self.identities() {
-            width += count(size, identity.pattern().variables());
+            width += assignment_count(size, identity.pattern().variables());
         }
         width
     }

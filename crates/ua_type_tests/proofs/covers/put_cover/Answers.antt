@@ -1,6 +1,6 @@
 use Rattle.std.proofs.Common.{◌≡◌, ◌<◌, ℕ, List, [], length, get_or, sym, ◌∙◌, subst}
 use Rattle.std.specs.Prelude.{Contains}
-use Rattle.ua_table.proofs.Lists.{any_default}
+use Rattle.std.proofs.lemmas.List.{get_or_default}
 use Rattle.ua_table.specs.Algebras.{FiniteAlgebra}
 use Rattle.ua_part.specs.Partitions.{Partition}
 use Rattle.ua_lattice.specs.Places.{at}
@@ -8,13 +8,13 @@ use Rattle.ua_type.specs.Quotients.{IsCover}
 use Rattle.ua_type_tests.proofs.covers.put_cover.Goals as goal
 
 contained : (covers : List (ℕ × ℕ)) (k : ℕ) → k < length covers → Contains covers (get_or covers k (0, 0))
-contained covers k w = (k, w, any_default covers k (get_or covers k (0, 0)) (0, 0) w)
+contained covers k w = (k, w, get_or_default covers k (get_or covers k (0, 0)) (0, 0) w)
 
 -- a cover of partitions that are read at places of the list
 read : (a : FiniteAlgebra) (list : List Partition) (i j : ℕ) (p q : Partition) → i < length list → j < length list → p ≡ get_or list i p → q ≡ get_or list j q → IsCover a (at list i) (at list j) → IsCover a p q
 read a list i j p q iw jw p_is q_is h =
-    let first : at list i ≡ p = any_default list i [] p iw ∙ sym p_is in
-    let second : at list j ≡ q = any_default list j [] q jw ∙ sym q_is in
+    let first : at list i ≡ p = get_or_default list i [] p iw ∙ sym p_is in
+    let second : at list j ≡ q = get_or_default list j [] q jw ∙ sym q_is in
     subst (λ r. IsCover a r q) first (subst (IsCover a (at list i)) second h)
 
 pub bounds-list-i : goal.bounds-list-i

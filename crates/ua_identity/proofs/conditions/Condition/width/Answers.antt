@@ -1,4 +1,6 @@
 use Rattle.std.proofs.Common.{◌≡◌, ◌^◌, ◌<◌, ◌≤◌, List, length, get_or, ap, ◌∙◌, subst, arith}
+use Rattle.ua_term.proofs.AssignmentLaws.{few_assignments}
+use Rattle.ua_identity.specs.declared.limits.TheConstants.{LETTERS}
 use Rattle.ua_identity.specs.Identities.{VariablePattern, TermIdentity}
 use Rattle.ua_identity.proofs.RowLaws.{identity_more, width_some}
 use Rattle.ua_identity.proofs.conditions.Condition.width.Goals as goal
@@ -11,11 +13,11 @@ loop-identity-preserved c =
     let i = c.identity-item.result in
     let more = identity_more c.args.a.now.size c.args.self.now.identities c.loop-identity.identity-index i test stands in
     let variables : c.variables.result ≡ i.pattern.variables = c.variables.ensures.variables ∙ ap (λ (p : VariablePattern). p.variables) c.pattern.ensures.pattern in
-    let one : c.count-width.result ≡ c.args.a.now.size ^ i.pattern.variables = c.count-width.ensures.count ∙ (λ j. c.size-size.ensures.size j ^ variables j) in
+    let one : c.assignment_count-width.result ≡ c.args.a.now.size ^ i.pattern.variables = c.assignment_count-width.ensures.count ∙ (λ j. c.size-size.ensures.size j ^ variables j) in
     let so_far = c.loop-identity.invariant.width in
     let small = c.loop-identity.invariant.small in
-    let few = c.count-width.ensures.small in
-    record { width = omega (arith, more, one, so_far); small = omega (arith, small, few) }
+    let few = few_assignments c.args.a.now.size i.pattern.variables LETTERS c.size-size.ensures.algebra.small (let k = c.variables.ensures.pattern.few in omega (arith, k, c.variables.ensures.variables, variables)) in
+    record { width = omega (arith, more, one, so_far); small = omega (arith, small, few, one) }
 
 pub returns-clause-some : goal.returns-clause-some
 returns-clause-some c =

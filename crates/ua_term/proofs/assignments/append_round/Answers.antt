@@ -1,7 +1,7 @@
 use Rattle.std.proofs.Common.{◌++◌, List, ℕ, replicate, sym, ap, ◌∙◌}
 use Rattle.std.proofs.lemmas.List.{append_assoc}
-use Rattle.ua_identity.proofs.RunLaws.{round, runs_more}
-use Rattle.ua_identity.proofs.fillings.append_round.Goals as goal
+use Rattle.ua_term.proofs.RunLaws.{round, runs_more}
+use Rattle.ua_term.proofs.assignments.append_round.Goals as goal
 
 pub loop-x-preserved : goal.loop-x-preserved
 loop-x-preserved c =

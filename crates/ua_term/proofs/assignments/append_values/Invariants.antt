@@ -1,6 +1,6 @@
 use Rattle.std.proofs.Common.{◌≡◌, ◌++◌}
-use Rattle.ua_identity.proofs.RunLaws.{copies, round}
-use Rattle.ua_identity.proofs.fillings.append_values.Given as goal
+use Rattle.ua_term.proofs.RunLaws.{copies, round}
+use Rattle.ua_term.proofs.assignments.append_values.Given as goal
 
 -- the rounds so far
 abbrev pub invariant-loop : goal.invariant-loop

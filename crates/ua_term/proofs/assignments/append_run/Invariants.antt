@@ -1,5 +1,5 @@
 use Rattle.std.proofs.Common.{◌≡◌, ◌++◌, replicate}
-use Rattle.ua_identity.proofs.fillings.append_run.Given as goal
+use Rattle.ua_term.proofs.assignments.append_run.Given as goal
 
 -- the elements so far
 abbrev pub invariant-loop : goal.invariant-loop

@@ -1,6 +1,6 @@
 use Rattle.std.proofs.Common.{◌≡◌, ◌++◌, replicate}
 use Rattle.std.specs.List.{flat_map, range_with_len}
-use Rattle.ua_identity.proofs.fillings.append_round.Given as goal
+use Rattle.ua_term.proofs.assignments.append_round.Given as goal
 
 -- the runs so far
 abbrev pub invariant-loop-x : goal.invariant-loop-x

@@ -1,6 +1,6 @@
 use Rattle.std.proofs.Common.{◌≡◌, ◌++◌, ◌-◌, ◌<◌, ◌^◌, ℕ, sym, ap, ◌∙◌, subst, arith}
-use Rattle.ua_identity.proofs.RunLaws.{copies, round, projection_is, some_before, some_behind}
-use Rattle.ua_identity.proofs.fillings.append_values.Goals as goal
+use Rattle.ua_term.proofs.RunLaws.{copies, round, projection_is, some_before, some_behind}
+use Rattle.ua_term.proofs.assignments.append_values.Goals as goal
 
 pub pow-often-requires : goal.pow-often-requires
 pow-often-requires c = subst (λ (e : ℕ). c.args.size ^ e < 2 ^ 32) (sym c.from.ensures) (some_behind c.args.size c.args.variables c.args.variable c.requires.some c.requires.named c.requires.narrow)
