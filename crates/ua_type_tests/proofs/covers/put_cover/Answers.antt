@@ -3,8 +3,7 @@ use Rattle.std.specs.Prelude.{Contains}
 use Rattle.std.proofs.lemmas.List.{get_or_default}
 use Rattle.ua_table.specs.Algebras.{FiniteAlgebra}
 use Rattle.ua_part.specs.Partitions.{Partition}
-use Rattle.ua_lattice.specs.Places.{at}
-use Rattle.ua_type.specs.Quotients.{IsCover}
+use Rattle.ua_lattice.specs.Lattices.{at, IsCover}
 use Rattle.ua_type_tests.proofs.covers.put_cover.Goals as goal
 
 contained : (covers : List (ℕ × ℕ)) (k : ℕ) → k < length covers → Contains covers (get_or covers k (0, 0))
@@ -33,9 +32,8 @@ subtrace-requires-after_bounds g c _ _ =
     let list = c.args.list.now in
     let covers = c.args.covers.now in
     let cover = get_or covers c.args.k (0, 0) in
-    let there = contained covers c.args.k c.requires.within in
-    let places = (c.requires.covers.all cover.0 cover.1).0 there in
-    read a list cover.0 cover.1 c.index-list-i.result c.index-list-j.result places.0 places.1 c.index-list-i.is c.index-list-j.is (c.covers.ensures a list covers cover.0 cover.1 c.requires.list c.requires.covers there)
+    let places = (c.requires.covers.all cover.0 cover.1).0 (contained covers c.args.k c.requires.within) in
+    read a list cover.0 cover.1 c.index-list-i.result c.index-list-j.result places.0 places.1 c.index-list-i.is c.index-list-j.is places.2
 
 pub type_of-requires-after_bounds : goal.type_of-requires-after_bounds
 type_of-requires-after_bounds g c _ _ =
@@ -43,6 +41,5 @@ type_of-requires-after_bounds g c _ _ =
     let list = c.args.list.now in
     let covers = c.args.covers.now in
     let cover = get_or covers c.args.k (0, 0) in
-    let there = contained covers c.args.k c.requires.within in
-    let places = (c.requires.covers.all cover.0 cover.1).0 there in
-    read a list cover.0 cover.1 c.index-list-i.result c.index-list-j.result places.0 places.1 c.index-list-i.is c.index-list-j.is (c.covers.ensures a list covers cover.0 cover.1 c.requires.list c.requires.covers there)
+    let places = (c.requires.covers.all cover.0 cover.1).0 (contained covers c.args.k c.requires.within) in
+    read a list cover.0 cover.1 c.index-list-i.result c.index-list-j.result places.0 places.1 c.index-list-i.is c.index-list-j.is places.2

@@ -1,6 +1,6 @@
 use Rattle.std.proofs.Common.{◌≡◌, length}
 use Rattle.ua_lattice.proofs.CoverLaws.{AreJoinPlacesOfFirst}
-use Rattle.ua_lattice.proofs.covers.push_joins.Given as goal
+use Rattle.ua_lattice.proofs.covers.joins_above.Given as goal
 
 abbrev pub invariant-loop-k : goal.invariant-loop-k
 invariant-loop-k l = record {
