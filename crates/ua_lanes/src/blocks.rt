@@ -4,8 +4,9 @@ ghost use Rattle.std.specs.Prelude.{◌≡◌, ℕ, ◌<◌, ◌≤◌, ◌-◌,
 ghost use Rattle.std.specs.List.{AllByRecursion, range_with_len};
 ghost use Rattle.ua_lanes.specs.Tiles.{word_at, IsSomeKeyAt};
 
-use crate::fronts::{SEED, guesses, mix_all, second_guess};
+use crate::fronts::{guesses, mix_all, second_guess};
 use crate::tiles::{Tile, line_words};
+use ua_rows::SEED;
 
 /// The bits of sixteen lanes.
 const ALL: u32 = 0xFFFF;
