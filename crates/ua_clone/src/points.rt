@@ -5,8 +5,8 @@ ghost use Rattle.std.specs.List.{AllByRecursion};
 ghost use Rattle.ua_table.specs.Algebras.{Vector, column};
 
 use std::alloc::{AllocError, Global};
-use ua_identity::append_values;
 use ua_table::{Algebra, Elem, Vectors};
+use ua_term::append_values;
 
 /// A table that an operation in some variables is to agree with.
 #[derive(Drop, Debug)]

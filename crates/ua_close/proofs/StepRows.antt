@@ -16,6 +16,7 @@ use Rattle.ua_table.proofs.Lists.{slice_get-push_cases}
 use Rattle.ua_core.specs.declared.events.EventKind.{EventKind}
 use Rattle.ua_core.specs.declared.events.EventKind.TheVariants.{Look, Put, Claim, Know, Idle, Halt}
 use Rattle.ua_core.specs.Machines.{Machine, Asks, effect}
+use Rattle.ua_core.specs.States.{task_of}
 use Rattle.ua_log.specs.declared.views.Plan.{Plan}
 use Rattle.ua_log.specs.declared.views.Worker.{Worker}
 use Rattle.ua_log.specs.declared.views.View.{View}
@@ -28,7 +29,6 @@ use Rattle.ua_log.proofs.RowSteps.{bound_up, longer_words}
 use Rattle.ua_log.proofs.ClaimSteps.{claim_words, no_halt, few_claims, or_bit}
 use Rattle.ua_work.specs.Values.{values}
 use Rattle.ua_work.specs.Harvests.{IsPlanOf}
-use Rattle.ua_close.specs.Gatherings.{task_of}
 use Rattle.ua_close.specs.Steps.{read, numbered, in_order, machine_from, machine_in, Table, plain, erased, IsSame, IsAt, own, next_row, moved, loaded, exchanged, Becomes, May, LoadFound, LoadEmpty, LoadBelow, PutWon, PutLost, LoadIdle, LoadKnow, ClaimWon, ClaimLost, HaltSet}
 use Rattle.ua_work.proofs.RowValues.{values_push, length-values}
 use Rattle.ua_close.proofs.LogLaws.{plan_origin}
@@ -55,7 +55,7 @@ module _ (p : Product) (gens : List Vector) (plan : Plan) (of : IsPlanOf p gens 
   -- a step that changes one view is this event, where the machine of the words after it is that of the event
   by_event : (s : Table) (id i n : ℕ) (me m : Token) (a : IsAt plan s id me) (new : Worker) (kind : EventKind) (log : List Origin) (c : ℕ) (h : Bool)
       → m.0.all ≡ new ∷ kept_of me.0.all → new.number ≡ (own me).number → AreRead plan (set s.words i n) log c h
-      → IsSame (record (machine_from p gens log c h (numbered s.views)) { workers = set (in_order (numbered s.views)) (own me).number (read false new).worker }) (effect (task_of p gens plan) (machine_from p gens a.rule.log a.rule.claims a.rule.halted (numbered s.views)) (own me).number (read false (own me)).worker kind)
+      → IsSame (record (machine_from p gens log c h (numbered s.views)) { workers = set (in_order (numbered s.views)) (own me).number (read false new).worker }) (effect (task_of p gens plan.budget) (machine_from p gens a.rule.log a.rule.claims a.rule.halted (numbered s.views)) (own me).number (read false (own me)).worker kind)
       → Becomes p gens plan s (moved s i n id me m) (own me).number kind
   by_event s id i n me m a new kind log c h all number words same =
       let M = machine_from p gens a.rule.log a.rule.claims a.rule.halted (numbered s.views) in
@@ -63,14 +63,14 @@ module _ (p : Product) (gens : List Vector) (plan : Plan) (of : IsPlanOf p gens 
       let after_is : machine_in p gens plan (moved s i n id me m) ≡ M' =
       machine_is p gens plan (moved s i n id me m) log c h words ∙
       (λ j. record { rows = values p gens log; origins = log; claims = c; halted = h; workers = own_moves plan s id me a m.0 new all number j }) in
-      becomes (task_of p gens plan) (machine_in p gens plan s) (machine_in p gens plan (moved s i n id me m)) M M' (own me).number (read false (own me)).worker kind
+      becomes (task_of p gens plan.budget) (machine_in p gens plan s) (machine_in p gens plan (moved s i n id me m)) M M' (own me).number (read false (own me)).worker kind
       (machine_is p gens plan s a.rule.log a.rule.claims a.rule.halted (words_read plan s id me a)) after_is (own_stands plan s id me a) same
 
   by_guard : (s : Table) (id : ℕ) (me : Token) (a : IsAt plan s id me) (kind : EventKind)
-      → Asks (task_of p gens plan) (machine_from p gens a.rule.log a.rule.claims a.rule.halted (numbered s.views)) (own me).number (read false (own me)).worker kind
+      → Asks (task_of p gens plan.budget) (machine_from p gens a.rule.log a.rule.claims a.rule.halted (numbered s.views)) (own me).number (read false (own me)).worker kind
       → May p gens plan s (own me).number kind
   by_guard s id me a kind asks =
-      may_be (task_of p gens plan) (machine_in p gens plan s) (machine_from p gens a.rule.log a.rule.claims a.rule.halted (numbered s.views)) (own me).number (read false (own me)).worker kind
+      may_be (task_of p gens plan.budget) (machine_in p gens plan s) (machine_from p gens a.rule.log a.rule.claims a.rule.halted (numbered s.views)) (own me).number (read false (own me)).worker kind
       (machine_is p gens plan s a.rule.log a.rule.claims a.rule.halted (words_read plan s id me a)) (own_stands plan s id me a) refl asks
 
   -- words that are written again are read as before

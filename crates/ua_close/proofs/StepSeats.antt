@@ -17,6 +17,7 @@ use Rattle.ua_table.proofs.Lists.{Contains-head, Contains-tail, Contains-cases}
 use Rattle.ua_core.specs.declared.events.EventKind.TheVariants.{Split, Join}
 use Rattle.ua_core.specs.Machines as machines
 use Rattle.ua_core.specs.Machines.{Machine, Asks, joined_by, effect}
+use Rattle.ua_core.specs.States.{task_of}
 use Rattle.ua_log.specs.declared.views.Plan.{Plan}
 use Rattle.ua_log.specs.declared.views.Worker.{Worker}
 use Rattle.ua_log.specs.declared.views.View.{View}
@@ -24,7 +25,6 @@ use Rattle.ua_log.specs.Boards.{workers, fresh, IsHeaded}
 use Rattle.ua_log.specs.Moves.{kept_of, longer, joined, split_first, split_new, join_first, spent_view, Token}
 use Rattle.ua_log.proofs.ViewTotals.{total_moved, part_two}
 use Rattle.ua_work.specs.Harvests.{IsPlanOf}
-use Rattle.ua_close.specs.Gatherings.{task_of}
 use Rattle.ua_close.specs.Steps.{Numbered, read, read_all, numbered, worker_at, in_order, machine_from, machine_in, Table, plain, erased, IsSame, IsAt, own, after_split, after_join, SeatSplit, SeatJoin}
 use Rattle.ua_close.proofs.StepViews.{by_number, by_number_same, map_more, has, number_is, entry_of, worker_is, worker_here, worker_else, worker_more, total_read, length_read, entries_in, entries_moved, numbered_more}
 use Rattle.ua_close.proofs.StepEvents.{same_parts, becomes, may_be, machine_is, plain_set, words_read, once, at_most, own_stands}
@@ -205,8 +205,8 @@ module _ (p : Product) (gens : List Vector) (plan : Plan) (of : IsPlanOf p gens 
       let after_is : machine_in p gens plan (after_split s id me.0) ≡ M' =
       machine_is p gens plan (after_split s id me.0) a.rule.log a.rule.claims a.rule.halted (words_read plan s id me a) ∙
       (λ j. record { rows = M.rows; origins = M.origins; claims = M.claims; halted = M.halted; workers = order j }) in (
-        becomes (task_of p gens plan) (machine_in p gens plan s) (machine_in p gens plan (after_split s id me.0)) M M' (own me).number (read false (own me)).worker Split before after_is (own_stands plan s id me a) refl,
-        may_be (task_of p gens plan) (machine_in p gens plan s) M (own me).number (read false (own me)).worker Split before (own_stands plan s id me a) refl (first, (let l = count_in_order es in omega (arith, l, made, few))),
+        becomes (task_of p gens plan.budget) (machine_in p gens plan s) (machine_in p gens plan (after_split s id me.0)) M M' (own me).number (read false (own me)).worker Split before after_is (own_stands plan s id me a) refl,
+        may_be (task_of p gens plan.budget) (machine_in p gens plan s) M (own me).number (read false (own me)).worker Split before (own_stands plan s id me a) refl (first, (let l = count_in_order es in omega (arith, l, made, few))),
       )
 
   pub seat_join : SeatJoin p gens plan
@@ -226,10 +226,10 @@ module _ (p : Product) (gens : List Vector) (plan : Plan) (of : IsPlanOf p gens 
       machine_is p gens plan t a.rule.log a.rule.claims a.rule.halted (words_read plan s id me a) ∙
       (λ j. record { rows = M.rows; origins = M.origins; claims = M.claims; halted = M.halted; workers = join_moves plan s id other me it a b apart first j }) in
       let theirs : slice_get ws no ≡ Some (read false (own it)).worker = own_stands plan s other it b in
-      let does : effect (task_of p gens plan) M k x (Join no) ≡ record M { workers = set (set ws no taken) k z } = ap (joined_by M k x no) theirs in
-      let core : IsSame M' (effect (task_of p gens plan) M k x (Join no)) =
+      let does : effect (task_of p gens plan.budget) M k x (Join no) ≡ record M { workers = set (set ws no taken) k z } = ap (joined_by M k x no) theirs in
+      let core : IsSame M' (effect (task_of p gens plan.budget) M k x (Join no)) =
       same_parts M' (record M { workers = set (set ws no taken) k z }) refl refl refl refl (plain_set (set ws no taken) k y z (joined_by_first (kept_of me.0.all) (own me) (own it))) ∙ sym (ap erased does) in (
-        becomes (task_of p gens plan) (machine_in p gens plan s) (machine_in p gens plan t) M M' k x (Join no) before after_is (own_stands plan s id me a) core,
-        may_be (task_of p gens plan) (machine_in p gens plan s) M k x (Join no) before (own_stands plan s id me a) refl
+        becomes (task_of p gens plan.budget) (machine_in p gens plan s) (machine_in p gens plan t) M M' k x (Join no) before after_is (own_stands plan s id me a) core,
+        may_be (task_of p gens plan.budget) (machine_in p gens plan s) M k x (Join no) before (own_stands plan s id me a) refl
             (first, not_first plan s id other me it a b apart first, subst (λ (o : Option machines.Worker). MatchOption o ⊥ (λ w. (w.joined ≡ false) × (w.busy ≡ None))) (sym theirs) (refl, refl)),
       )

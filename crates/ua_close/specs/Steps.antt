@@ -15,7 +15,7 @@ use Rattle.ua_core.specs.declared.events.EventKind.{EventKind}
 use Rattle.ua_core.specs.declared.events.EventKind.TheVariants.{Look, Put, Claim, Know, Idle, Halt, Split, Join}
 use Rattle.ua_core.specs.Machines as machines
 use Rattle.ua_core.specs.Machines.{Machine, Guard, start, after}
-use Rattle.ua_core.specs.States.{event}
+use Rattle.ua_core.specs.States.{task_of, event}
 use Rattle.ua_log.specs.declared.views.Plan.{Plan}
 use Rattle.ua_log.specs.declared.views.Worker.{Worker}
 use Rattle.ua_log.specs.declared.views.View.{View}
@@ -26,7 +26,7 @@ use Rattle.ua_log.specs.Seats.{Home, seat_of, new_seat, with_worker}
 use Rattle.ua_log.specs.Logs.{LogView, origin_of}
 use Rattle.ua_work.specs.declared.harvests.Harvest.{Harvest}
 use Rattle.ua_work.specs.Values.{values}
-use Rattle.ua_close.specs.Gatherings.{AreSeats, worker_of, machine_of, task_of}
+use Rattle.ua_close.specs.Gatherings.{AreSeats, worker_of, machine_of}
 
 -- ---- the words, read
 
@@ -154,11 +154,11 @@ module _ (p : Product) (gens : List Vector) (plan : Plan) where
 
   -- the machine of the board becomes what it is after this event of the n-th worker
   abbrev pub Becomes : Table → Table → ℕ → EventKind → Type 0
-  Becomes s t n k = IsSame (machine_in p gens plan t) (after (task_of p gens plan) (machine_in p gens plan s) (event n k))
+  Becomes s t n k = IsSame (machine_in p gens plan t) (after (task_of p gens plan.budget) (machine_in p gens plan s) (event n k))
 
   -- the event may happen in the machine of the board
   abbrev pub May : Table → ℕ → EventKind → Type 0
-  May s n k = Guard (task_of p gens plan) (machine_in p gens plan s) (event n k)
+  May s n k = Guard (task_of p gens plan.budget) (machine_in p gens plan s) (event n k)
 
   -- a row load that found a record is Look
   abbrev pub LoadFound : Type 0

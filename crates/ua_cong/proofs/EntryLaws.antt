@@ -1,41 +1,24 @@
--- Rows that are entered, and principal congruences that become known.
-use Rattle.std.proofs.Common.{◌≡◌, ℕ, ◌+◌, ◌≤◌, List, [], ◌∷◌, ◌++◌, length, sym, ap, ◌∙◌, subst, arith, ⊎_elim, append-nil, length-append}
-use Rattle.std.specs.Prelude.{Some, slice_get, slice_index_or, Contains}
+-- Principal congruences that become known.
+use Rattle.std.proofs.Common.{◌≡◌, ℕ, ◌+◌, ◌≤◌, List, [], ◌∷◌, ◌++◌, length, sym, ap, ◌∙◌, subst, arith, length-append}
+use Rattle.std.specs.Prelude.{Some, slice_get, slice_index_or}
 use Rattle.std.specs.List.{AllByRecursion}
 use Rattle.std.proofs.lemmas.List.{get_or_append_left}
-use Rattle.std.proofs.lemmas.List.Elements.{Contains-push}
 use Rattle.std.proofs.lemmas.Option.{get_or_from_slice_get, slice_get_within}
 use Rattle.ua_table.specs.Algebras.{FiniteAlgebra}
-use Rattle.ua_table.proofs.Lists.{slice_get-push, all_append, all_weaker, all_from_contains, Contains-cases, Contains-none}
+use Rattle.ua_table.proofs.Lists.{all_append, all_weaker, all_from_contains}
 use Rattle.ua_part.specs.Partitions.{Partition}
 use Rattle.ua_cong.specs.declared.known.Known.{Known}
 use Rattle.ua_cong.specs.Closings.{AreElements, IsPrincipal}
-use Rattle.ua_cong.specs.Entries.{IsEntered}
+use Rattle.ua_rows.specs.RowLists.{GoesOnWith}
 use Rattle.ua_cong.specs.Known.{IsKnownPair, IsKnown}
 use Rattle.ua_cong.specs.Principals.{IsPrincipalCongruence}
 
-pub entered_there : (old : List Partition) (p : Partition) → Contains old p → IsEntered old p old
-entered_there old p c = record { more = []; is = sym (append-nil old); one = omega arith; same = λ q k. absurd (Contains-none q k); there = c }
-
-pub entered_new : (old : List Partition) (p : Partition) (new : List Partition) → new ≡ old ++ p ∷ [] → IsEntered old p new
-entered_new old p new is = record {
-  more = p ∷ [];
-  is = is;
-  one = omega arith;
-  same = λ q c. ⊎_elim (λ e. sym e) (λ k. absurd (Contains-none q k)) (Contains-cases p q [] c);
-  there = subst (λ (ps : List Partition). Contains ps p) (sym is) (Contains-push old p);
-}
-
-entry_few : (old : List Partition) (p : Partition) (new : List Partition) → IsEntered old p new → length new ≤ length old + 1
+entry_few : (old : List Partition) (p : Partition) (new : List Partition) → GoesOnWith old p new → length new ≤ length old + 1
 entry_few old p new e = let n = length-append old e.more in let is = ap length e.is in let one = e.one in omega (arith, n, is, one)
-
--- what is pushed stands at its place
-pub pushed_at : (old new : List Partition) (p : Partition) (place : ℕ) → new ≡ old ++ p ∷ [] → place ≡ length old → slice_get new place ≡ Some p
-pushed_at old new p place is at = subst (λ (ps : List Partition). slice_get ps place ≡ Some p) (sym is) (subst (λ k. slice_get (old ++ p ∷ []) k ≡ Some p) (sym at) (slice_get-push old p))
 
 -- ---- one pair more
 
-module _ (a : FiniteAlgebra) (old new : Known) (first second place : ℕ) (row : Partition) (known : IsKnown a old) (elements : AreElements a (first, second)) (principal : IsPrincipal a (first, second, row)) (e : IsEntered old.rows.items row new.rows.items) (at : slice_get new.rows.items place ≡ Some row) where
+module _ (a : FiniteAlgebra) (old new : Known) (first second place : ℕ) (row : Partition) (known : IsKnown a old) (elements : AreElements a (first, second)) (principal : IsPrincipal a (first, second, row)) (e : GoesOnWith old.rows.items row new.rows.items) (at : slice_get new.rows.items place ≡ Some row) where
   -- what is known of a pair stays so
   kept_pair : (entry : ℕ × ℕ × ℕ) → IsKnownPair a old.rows.items entry → IsKnownPair a new.rows.items entry
   kept_pair entry h =

@@ -2,5 +2,4 @@ pub mod Closings
 pub mod States
 pub mod Principals
 pub mod Known
-pub mod Entries
 pub mod Extensions

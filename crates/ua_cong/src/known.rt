@@ -1,9 +1,8 @@
 //! Principal congruences that are known.
 
-ghost use Rattle.std.specs.Prelude.{◌≡◌, ◌+◌, ◌<◌, [], ◌∷◌, ◌++◌, length, slice_get, Some, IfOk, OnOk};
+ghost use Rattle.std.specs.Prelude.{◌≡◌, ◌+◌, ◌<◌, [], ◌∷◌, ◌++◌, length, OnOk};
 ghost use Rattle.ua_table.specs.Algebras.{FiniteAlgebra};
 ghost use Rattle.ua_cong.specs.Closings.{AreElements, IsPrincipal};
-ghost use Rattle.ua_cong.specs.Entries.{IsEntered};
 ghost use Rattle.ua_cong.specs.Known.{IsKnown, known_pairs};
 
 use std::alloc::{AllocError, Global};
@@ -32,21 +31,6 @@ impl Known {
     }
 }
 
-/// Enters a row, unless it is there, and answers its place.
-pub fn enter(rows: &mut Rows, row: &[Elem]) -> Result<u32, AllocError>
-    requires width { length row.now ≡ rows.old.width }
-    requires room { length rows.old.items < u32.MAX }
-    ensures width { rows.new.width ≡ rows.old.width }
-    ensures entered { OnOk result (IsEntered rows.old.items row.now rows.new.items) }
-    ensures place { IfOk result (λ place. slice_get rows.new.items place ≡ Some row.now) }
-{
-    if let Some(place) = rows.find(row) {
-        return Ok(place);
-    }
-    let place = rows.push(row)?;
-    Ok(place)
-}
-
 /// Takes in the principal congruence of one pair more.
 pub fn learn(
     _algebra: &Algebra,
@@ -63,7 +47,7 @@ pub fn learn(
     ensures pairs { OnOk result (known_pairs known.new ≡ known_pairs known.old ++ (first, second) ∷ []) }
     ensures count { OnOk result (length known.new.pairs.items ≡ length known.old.pairs.items + 1) }
 {
-    let place = enter(&mut known.rows, row)?;
+    let place = known.rows.enter(row)?;
     known.pairs.push((first, second, place))?;
     Ok(())
 }

@@ -6,6 +6,5 @@ mod known;
 mod pairs;
 
 pub use closing::{cg, cg_above};
-pub use known::enter;
 pub use pairs::{distinct_principals, principals};
 pub use ua_prod::{Clash, is_congruence};

@@ -1,6 +1,6 @@
 -- The members of a free algebra.
-use Rattle.std.proofs.Common.{◌≡◌, ℕ, ◌^◌, ◌<◌, List, [], ◌∷◌, length, map, refl, sym, ◌∙◌, subst, arith}
-use Rattle.std.specs.Prelude.{Contains, slice_index}
+use Rattle.std.proofs.Common.{◌≡◌, ℕ, ◌^◌, ◌<◌, List, [], ◌∷◌, length, map, sym, ◌∙◌, subst, arith}
+use Rattle.std.specs.Prelude.{slice_index}
 use Rattle.std.specs.List.{AllByRecursion, range_with_len}
 use Rattle.std.proofs.lemmas.List.{length-map}
 use Rattle.std.proofs.lemmas.List.Elements.{All-from_recursion}
@@ -11,7 +11,7 @@ use Rattle.ua_table.specs.Terms.{Tree, IsTerm, eval}
 use Rattle.ua_table.specs.Generated.{Sg}
 use Rattle.ua_table.proofs.Choices.{range_low}
 use Rattle.ua_table.proofs.FrameLemmas.{arities_of_power, in_power}
-use Rattle.ua_table.proofs.Lists.{Contains-head, Contains-tail, all_at, all_map, all_from_contains}
+use Rattle.ua_table.proofs.Lists.{all_at, all_map, all_from_contains}
 use Rattle.ua_term.specs.Assignments.{assignments, projection, projections, power_of_assignments, term_operation}
 use Rattle.ua_term.proofs.AssignmentLaws.{length_assignments, assignment_in, assignment_from, value_is_operation, maps_agree}
 use Rattle.ua_free.specs.Identities.{AgreeAt, Holds}

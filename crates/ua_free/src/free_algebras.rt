@@ -4,42 +4,19 @@ ghost use Rattle.std.specs.Prelude.{◌≡◌, ◌<◌, ◌≤◌, ◌^◌, IfOk
 ghost use Rattle.std.specs.List.{AllByRecursion};
 ghost use Rattle.ua_table.specs.declared.limits.TheConstants.{SIZE, WIDTH, VARIABLES, BUDGET};
 ghost use Rattle.ua_table.specs.Algebras.{IsVector};
-ghost use Rattle.ua_term.specs.Assignments.{projection, projections, power_of_assignments};
+ghost use Rattle.ua_term.specs.Assignments.{projections, power_of_assignments};
 ghost use Rattle.ua_close.specs.Answers.{IsCause};
 ghost use Rattle.ua_free.specs.Permitted.{MayFree};
 
-use crate::assignments::{advance, count};
 use std::alloc::{AllocError, Global};
 use std::thread::Threads;
 use ua_close::{CloseError, Closure, Gate, Run, close_set, power_within};
 use ua_table::limits::{BUDGET, SIZE, VARIABLES, WIDTH};
-use ua_table::{Algebra, Elem, Frame, Vectors};
-
-/// What each assignment gives to a variable.
-fn projection(
-    alloc: Global,
-    size: u32,
-    variables: u32,
-    variable: u32,
-) -> Result<Vec<Elem>, AllocError>
-    requires some { 0 < size }
-    requires small { size ≤ SIZE }
-    requires named { variable < variables }
-    requires narrow { size ^ variables ≤ WIDTH }
-    ensures { IfOk result (λ row. row.items ≡ projection size variables variable) }
-{
-    let width = size.pow(variables);
-    let mut row = Vec::with_capacity(alloc, width as usize)?;
-    let mut xs = vec![in alloc; 0; variables as usize]?;
-    for _ in 0..width {
-        row.push(xs[variable as usize])?;
-        advance(xs.as_mut_slice(), size);
-    }
-    Ok(row)
-}
+use ua_table::{Algebra, Frame, Vectors};
+use ua_term::{append_values, assignment_count};
 
 /// The projections to all variables, as vectors of so many entries.
-fn projections(alloc: Global, size: u32, variables: u32, width: u32) -> Result<Vectors, AllocError>
+fn projections(alloc: Global, size: u32, variables: u8, width: u32) -> Result<Vectors, AllocError>
     requires some { 0 < size }
     requires small { size ≤ SIZE }
     requires width { width ≡ size ^ variables }
@@ -48,7 +25,8 @@ fn projections(alloc: Global, size: u32, variables: u32, width: u32) -> Result<V
 {
     let mut vectors = Vectors::new(alloc, width);
     for variable in 0..variables {
-        let row = projection(alloc, size, variables, variable)?;
+        let mut row = Vec::with_capacity(alloc, width as usize)?;
+        append_values(&mut row, size, variables, variable)?;
         vectors.add(row.as_slice())?;
     }
     Ok(vectors)
@@ -71,9 +49,8 @@ pub fn generators<'a>(
     ensures admitted { IfOk result (λ made. AllByRecursion (IsVector made.0) made.1.items) }
     ensures cause { IfErr result (IsCause (power_of_assignments a.now k) (projections a.now.size k) budget) }
 {
-    let k = u32::from(k);
-    let width = count(a.size(), k);
-    let frame = power_within(a, width, k, budget)?;
+    let width = assignment_count(a.size(), k);
+    let frame = power_within(a, width, u32::from(k), budget)?;
     let gens = projections(alloc, a.size(), k, frame.width())?;
     Ok((frame, gens))
 }

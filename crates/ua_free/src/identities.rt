@@ -8,12 +8,11 @@ ghost use Rattle.ua_term.specs.Trees.{tree_of};
 ghost use Rattle.ua_free.specs.Identities.{variables_of};
 ghost use Rattle.ua_free.specs.Permitted.{MayHold};
 
-use crate::assignments::{advance, count};
 use std::alloc::{AllocError, Global};
 use thiserror::Error;
 use ua_table::limits::{ASSIGNMENTS, VARIABLES};
-use ua_table::{Algebra, Elem};
-use ua_term::{Term, eval};
+use ua_table::{Algebra, Elem, next_tuple};
+use ua_term::{Term, assignment_count, eval};
 
 /// Why an identity was not tried.
 #[derive(Clone, Copy, Debug, PartialEq, Eq, Error)]
@@ -37,14 +36,14 @@ impl From<AllocError> for HoldsError {
 }
 
 /// One more than the greatest variable of a term, or 0 where it has none.
-fn variables_of(term: &Term) -> u32
+fn variables_of(term: &Term) -> u8
     requires { variables_of (tree_of term.now) ≤ VARIABLES }
     ensures { result ≡ variables_of (tree_of term.now) }
 {
     match term {
-        Term::Var(i) => *i + 1,
+        Term::Var(i) => *i as u8 + 1,
         Term::Op(_, terms) => {
-            let mut most: u32 = 0;
+            let mut most: u8 = 0;
             for i in 0..terms.len() {
                 most = most.max(variables_of(&terms[i]));
             }
@@ -70,16 +69,16 @@ pub fn holds(
     ensures permitted { MayHold a.now (tree_of s.now) (tree_of t.now) result }
 {
     let variables = variables_of(s).max(variables_of(t));
-    let count = count(a.size(), variables);
+    let count = assignment_count(a.size(), variables);
     if count > u128::from(ASSIGNMENTS) {
         return Err(HoldsError::Wide(count));
     }
-    let mut xs = vec![in alloc; 0; variables as usize]?;
+    let mut xs = vec![in alloc; 0; usize::from(variables)]?;
     for _ in 0..count as u64 {
         if eval(a, s, xs.as_slice()) != eval(a, t, xs.as_slice()) {
             return Ok(Some(xs));
         }
-        advance(xs.as_mut_slice(), a.size());
+        next_tuple(xs.as_mut_slice(), a.size());
     }
     Ok(None)
 }

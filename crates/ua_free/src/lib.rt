@@ -1,7 +1,6 @@
 //! Free algebras, and identities at every assignment of elements to variables.
 #![tactic(auto)]
 
-mod assignments;
 mod free_algebras;
 mod identities;
 pub mod laws;

@@ -1,34 +1,17 @@
 -- Fillings of one pattern after another.
-use Rattle.std.proofs.Common.{◌≡◌, ℕ, ◌+◌, ◌^◌, ◌<◌, ◌≤◌, List, [], ◌∷◌, ◌++◌, length, map, take, drop, get_or, refl, sym, ap, ◌∙◌, arith}
+use Rattle.std.proofs.Common.{◌≡◌, ℕ, ◌+◌, ◌^◌, ◌<◌, ◌≤◌, List, [], ◌∷◌, ◌++◌, length, map, take, drop, get_or, sym, ap, ◌∙◌, arith}
 use Rattle.std.specs.Prelude.{slice_index}
 use Rattle.std.specs.List.{flat_map}
 use Rattle.std.proofs.lemmas.Grind.{flat_map-append}
 use Rattle.std.proofs.lemmas.List.{length-map, length-append, length-replicate, map-append, append-nil, take_more, take-append-drop, get_or-map}
 use Rattle.std.proofs.lemmas.List.Folds.{length-flat_map-take}
 use Rattle.std.proofs.lemmas.Simd.{map-map}
-use Rattle.std.proofs.Math.Nat.{one-le-pow, pow-le-pow_right, pow-le-pow_left}
-use Rattle.ua_table.specs.declared.limits.TheConstants.{SIZE}
+use Rattle.std.proofs.Math.Nat.{one-le-pow}
 use Rattle.ua_table.specs.Algebras.{FiniteAlgebra}
 use Rattle.ua_term.specs.Assignments.{assignments, projection}
 use Rattle.ua_term.proofs.AssignmentLaws.{length_assignments, maps_agree}
-use Rattle.ua_identity.specs.declared.limits.TheConstants.{LETTERS}
 use Rattle.ua_identity.specs.Identities.{VariablePattern, filled}
 use Rattle.ua_identity.specs.Patterns.{fillings, all_fillings, place_vector, power}
-
--- ---- how many assignments
-
--- the most that there may be
-pub most_assignments : SIZE ^ LETTERS ≡ 1000000000000
-most_assignments = refl
-
-pub few_assignments : (n k : ℕ) → n ≤ SIZE → k ≤ LETTERS → n ^ k ≤ 1000000000000
-few_assignments n k small few =
-    let low = pow-le-pow_left small k in
-    let some : 0 < SIZE = omega arith in
-    let up : SIZE ^ k ≤ SIZE ^ LETTERS = pow-le-pow_right some few in
-    omega (arith, low, up, most_assignments)
-
--- ---- one pattern more
 
 -- one piece more
 pub pieces_more : {X Y : Type 0} (g : X → List Y) (xs : List X) (i : ℕ) (d : X) → i < length xs → flat_map g (take (i + 1) xs) ≡ flat_map g (take i xs) ++ g (get_or xs i d)

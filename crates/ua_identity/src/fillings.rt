@@ -1,9 +1,8 @@
 //! What stands at the places of terms under patterns.
 
-ghost use Rattle.std.specs.Prelude.{◌≡◌, ◌+◌, ◌*◌, ◌<◌, ◌≤◌, ◌^◌, ◌++◌, length, map, replicate, IfOk, OnOk};
-ghost use Rattle.std.specs.List.{AllByRecursion, flat_map, range_with_len};
+ghost use Rattle.std.specs.Prelude.{◌≡◌, ◌*◌, ◌<◌, ◌≤◌, ◌^◌, length, map, IfOk};
+ghost use Rattle.std.specs.List.{AllByRecursion, range_with_len};
 ghost use Rattle.ua_table.specs.declared.limits.TheConstants.{SIZE, WIDTH};
-ghost use Rattle.ua_term.specs.Assignments.{projection};
 ghost use Rattle.ua_identity.specs.declared.limits.TheConstants.{LETTERS};
 ghost use Rattle.ua_identity.specs.Identities.{VariablePattern};
 ghost use Rattle.ua_identity.specs.Patterns.{all_fillings, place_vector};
@@ -12,16 +11,7 @@ ghost use Rattle.ua_identity.specs.Patterns as fillings;
 use crate::patterns::{Pattern, Patterned};
 use std::alloc::{AllocError, Global};
 use ua_table::{Elem, Vectors};
-
-/// How many assignments of so many elements to so many variables there are.
-pub fn count(size: u32, variables: u8) -> u128
-    requires size { size ≤ SIZE }
-    requires variables { variables ≤ LETTERS }
-    ensures count { result ≡ size ^ variables }
-    ensures small { result ≤ SIZE ^ LETTERS }
-{
-    u128::from(size).pow(u32::from(variables))
-}
+use ua_term::{append_values, assignment_count};
 
 /// How many coordinates a vector has that has one for each of these patterns and each assignment of its
 /// variables. It takes no memory.
@@ -32,51 +22,9 @@ pub fn width_of<P: Patterned>(size: u32, list: &[P]) -> u128
 {
     let mut width = 0;
     for item in list {
-        width += count(size, item.pattern().variables());
+        width += assignment_count(size, item.pattern().variables());
     }
     width
-}
-
-/// Appends an element so often.
-fn append_run(row: &mut Vec<Elem>, x: Elem, often: u32) -> Result<(), AllocError>
-    ensures { OnOk result (row.new.items ≡ row.old.items ++ replicate often x) }
-{
-    for _ in 0..often {
-        row.push(x)?;
-    }
-    Ok(())
-}
-
-/// Appends each of so many elements so often.
-fn append_round(row: &mut Vec<Elem>, size: u32, often: u32) -> Result<(), AllocError>
-    requires { size ≤ SIZE }
-    ensures { OnOk result (row.new.items ≡ row.old.items ++ flat_map (replicate often) (range_with_len 0 size)) }
-{
-    for x in 0..size {
-        append_run(row, x as Elem, often)?;
-    }
-    Ok(())
-}
-
-/// Appends what each assignment gives to a variable, in lexicographic order of the assignments.
-pub fn append_values(
-    row: &mut Vec<Elem>,
-    size: u32,
-    variables: u8,
-    variable: u8,
-) -> Result<(), AllocError>
-    requires some { 0 < size }
-    requires small { size ≤ SIZE }
-    requires named { variable < variables }
-    requires narrow { size ^ variables ≤ WIDTH }
-    ensures { OnOk result (row.new.items ≡ row.old.items ++ projection size variables variable) }
-{
-    // The variables behind it go through all their values before it goes on.
-    let often = size.pow(u32::from(variables - 1 - variable));
-    for _ in 0..size.pow(u32::from(variable)) {
-        append_round(row, size, often)?;
-    }
-    Ok(())
 }
 
 /// What stands at a place under each pattern and each assignment, pattern first.

@@ -9,11 +9,12 @@ ghost use Rattle.ua_identity.specs.Patterns.{all_fillings};
 ghost use Rattle.ua_identity.specs.Kinds as kinds;
 ghost use Rattle.ua_identity.specs.KindTables.{pattern_at, number_of, own_of, link_of, IsPartOf};
 
-use crate::fillings::{append_values, start_of};
+use crate::fillings::start_of;
 use crate::patterns::Pattern;
 use std::alloc::{AllocError, Global};
 use std::marker::Model;
 use ua_table::Elem;
+use ua_term::append_values;
 
 /// How a term of a chain is linked to the next: the one at the first pattern is the other at the second, by
 /// the patterns' numbers.

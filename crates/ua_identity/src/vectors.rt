@@ -1,9 +1,10 @@
 //! The vectors of the arguments and of the values of a condition.
 
 use crate::conditions::Condition;
-use crate::fillings::{append_values, place_vectors, width_of};
+use crate::fillings::{place_vectors, width_of};
 use std::alloc::{AllocError, Global};
 use ua_table::{Algebra, Elem, Vectors};
+use ua_term::append_values;
 
 impl Condition {
     ghost use Rattle.std.specs.Prelude.{◌≡◌, ◌*◌, ◌<◌, ◌≤◌, ◌^◌, length, IfOk};

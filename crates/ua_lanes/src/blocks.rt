@@ -4,8 +4,9 @@ ghost use Rattle.std.specs.Prelude.{◌≡◌, ℕ, ◌<◌, ◌≤◌, ◌-◌,
 ghost use Rattle.std.specs.List.{AllByRecursion, range_with_len};
 ghost use Rattle.ua_lanes.specs.Tiles.{word_at, IsSomeKeyAt};
 
-use crate::fronts::{SEED, guesses, mix_all, second_guess};
+use crate::fronts::{guesses, mix_all, second_guess};
 use crate::tiles::{Tile, line_words};
+use ua_rows::SEED;
 
 /// The bits of sixteen lanes.
 const ALL: u32 = 0xFFFF;
@@ -36,6 +37,10 @@ pub(crate) fn is_at(key: &[u64], values: &[[u64; 16]], lane: usize) -> bool
     requires as_many { length key.now ≡ length values.now }
     ensures { IsTrue result → (j : ℕ) → j < length key.now → slice_index key.now j ≡ slice_index (slice_index_or values.now j []) lane }
 {
+    // Many vectors have one word, for which a loop would take longer to begin and end than to run.
+    if key.len() == 1 {
+        return key[0] == values[0][lane];
+    }
     let mut bits = 0;
     for j in 0..key.len() {
         bits |= key[j] ^ values[j][lane];

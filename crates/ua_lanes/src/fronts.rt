@@ -6,6 +6,7 @@ ghost use Rattle.std.specs.List.{AllByRecursion};
 
 use crate::tiles::LANES;
 use std::alloc::{AllocError, Global};
+use ua_rows::{SEED, mixed};
 
 /// How many slots the front has at least for each vector: twice as many where vectors have so many words that what
 /// the front forgets takes long to compute.
@@ -16,17 +17,6 @@ const LONG: usize = 9;
 
 /// How many slots the first front has.
 pub(crate) const FRONT: usize = 256;
-
-pub(crate) const SEED: u64 = 0x9E37_79B9_7F4A_7C15;
-
-const FACTOR: u64 = 0xA076_1D64_78BD_642F;
-
-/// A hash and a word, mixed.
-#[inline(always)]
-fn mixed(hash: u64, word: u64) -> u64 {
-    let (low, high) = (hash ^ word).carrying_mul(FACTOR, 0);
-    low ^ high
-}
 
 /// A hash with the word at a place: those at even places are only taken in, and mixed with the word behind them.
 /// A product for every two words is enough to guess by.

@@ -9,9 +9,9 @@ ghost use Rattle.ua_lanes.specs.Windows.{tuple_of, AreBitsOf};
 
 use crate::long_lines::write_long_lines;
 use crate::quad_lists::Quads;
-use crate::quads::ENTRIES;
 use crate::windows::agree;
 use std::alloc::{AllocError, Global};
+use ua_rows::ENTRIES;
 use ua_table::{Elem, Frame};
 
 /// The lines of an operation at some tuples.

@@ -10,10 +10,11 @@ ghost use Rattle.ua_lanes.specs.Quads.{AreLongLines};
 
 use crate::blocks::known_lanes;
 use crate::fronts::{FRONT, enter, first_bits, hash_of, reserve_slots};
-use crate::quads::{ENTRIES, entries_of, word_of, write_values};
+use crate::quads::write_values;
 use crate::tiles::LANES;
 use std::alloc::{AllocError, Global};
 use std::marker::Model;
+use ua_rows::{ENTRIES, elements_of, number_of};
 use ua_table::Elem;
 
 /// The entry of a vector, and 0 past its end.
@@ -29,7 +30,7 @@ fn word_from(v: &[Elem], x: usize) -> u64
     requires { x + 3 < 2 ^ 64 }
     ensures { (e : ℕ) → e < 4 → slice_index (lanes_of result) e ≡ slice_index v.now (x + e) }
 {
-    word_of([
+    number_of([
         entry_or_zero(v, x),
         entry_or_zero(v, x + 1),
         entry_or_zero(v, x + 2),
@@ -143,7 +144,7 @@ impl Quads {
         ensures { result ≡ slice_index (slice_index_or self.now.items i []) x }
     {
         let word = word_in(self.keys.as_slice(), i * self.words + x / ENTRIES);
-        entries_of(word)[x % ENTRIES]
+        elements_of(word)[x % ENTRIES]
     }
 
     /// The entries of some vectors at a coordinate, with zeros after them.

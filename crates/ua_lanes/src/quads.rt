@@ -5,37 +5,10 @@ ghost use Rattle.std.specs.List.{AllByRecursion};
 ghost use Rattle.ua_rows.specs.Words.{lanes_of};
 ghost use Rattle.ua_lanes.specs.Quads.{IsBelow, values_in_word};
 
-use crate::fronts::{SEED, mix_all};
+use crate::fronts::mix_all;
 use crate::tiles::LANES;
+use ua_rows::{SEED, elements_of, number_of};
 use ua_table::Elem;
-
-/// How many entries a word holds.
-pub(crate) const ENTRIES: usize = 4;
-
-/// The word of four entries, of which the first is its lowest part.
-#[inline(always)]
-pub(crate) fn word_of(entries: [Elem; 4]) -> u64
-    ensures { lanes_of result ≡ entries }
-{
-    let [a, b, c, d] = entries;
-    u64::from(a)
-        + u64::from(b) * 65_536
-        + u64::from(c) * 4_294_967_296
-        + u64::from(d) * 281_474_976_710_656
-}
-
-/// The entries of a word.
-#[inline(always)]
-pub(crate) fn entries_of(word: u64) -> [Elem; 4]
-    ensures { result ≡ lanes_of word }
-{
-    [
-        (word % 65_536) as Elem,
-        (word / 65_536 % 65_536) as Elem,
-        (word / 4_294_967_296 % 65_536) as Elem,
-        (word / 281_474_976_710_656 % 65_536) as Elem,
-    ]
-}
 
 /// The values of four lines of a size at the entries of a word.
 #[inline(always)]
@@ -44,8 +17,8 @@ fn value_of(lines: &[Elem], size: usize, word: u64) -> u64
     requires below { IsBelow size word }
     ensures { lanes_of result ≡ values_in_word lines.now size word }
 {
-    let [a, b, c, d] = entries_of(word);
-    word_of([
+    let [a, b, c, d] = elements_of(word);
+    number_of([
         lines[a as usize],
         lines[size + b as usize],
         lines[2 * size + c as usize],

@@ -1,16 +1,16 @@
 -- How many lower covers a place has.
-use Rattle.std.proofs.Common.{◌≡◌, ◌≢◌, ℕ, ◌+◌, ◌<◌, ◌≤◌, Bool, true, cond, List, [], ◌∷◌, ◌++◌, length, map, set, take, get_or, replicate, sym, ap, ◌∙◌, subst, arith, ⊎_elim}
+use Rattle.std.proofs.Common.{◌≡◌, ◌≢◌, ℕ, ◌+◌, ◌<◌, ◌≤◌, List, [], ◌∷◌, ◌++◌, length, map, set, take, get_or, replicate, sym, ap, ◌∙◌, subst, arith, ⊎_elim}
 use Rattle.std.specs.Prelude.{◌==◌, ◌↔◌, Contains}
 use Rattle.std.specs.List.{AllByRecursion, filter, range_with_len}
 use Rattle.std.specs.List.Sorted.{IsStrictlyIncreasing}
-use Rattle.std.proofs.lemmas.Bool.{cases_lt, cases_eq, cases_Bool, eq-eqb, ne_eqb, eqb-true}
+use Rattle.std.proofs.lemmas.Bool.{cases_lt, cases_eq, eq-eqb, ne_eqb, eqb-true}
 use Rattle.std.proofs.lemmas.List.{length-set, get_or-set_same, get_or-set_other, length-replicate, get_or-replicate, length-take-le, take_all}
 use Rattle.std.proofs.lemmas.List.FromFn.{fill_by_all}
 use Rattle.std.proofs.lemmas.List.Sums.{count_by-le-length, length-filter, count_by_more_yes, count_by_more_no}
-use Rattle.std.proofs.lemmas.List.Elements.{Contains-push, Contains-append_left, Contains-push_cases}
-use Rattle.ua_table.proofs.Lists.{all_at, Contains-head, Contains-tail}
-use Rattle.ua_lattice.specs.Lattices.{AreIrreducible}
-use Rattle.ua_lattice.specs.Places.{lower_covers}
+use Rattle.std.proofs.lemmas.List.Elements.{Contains-get_or, Contains-push, Contains-append_left, Contains-push_cases}
+use Rattle.ua_table.proofs.Lists.{all_at}
+use Rattle.ua_part.proofs.RelatedLaws.{passed_from}
+use Rattle.ua_lattice.specs.Lattices.{AreIrreducible, lower_covers}
 use Rattle.ua_lattice.proofs.LeastLaws.{increasing_push}
 
 -- ---- counts
@@ -55,24 +55,13 @@ module _ (covers : List (ℕ × ℕ)) (n k : ℕ) (counts : List ℕ) (h : AreCo
 
 -- ---- what is counted
 
-some_pass : (p : ℕ × ℕ → Bool) (xs : List (ℕ × ℕ)) → 0 < length (filter p xs) → (x : ℕ × ℕ) × Contains xs x × (p x ≡ true)
-some_pass p [] h = absurd (omega (arith, h))
-some_pass p (x ∷ xs) h =
-    ⊎_elim
-    (λ yes. (x, Contains-head x xs, yes))
-    (λ no.
-    let rest : length (filter p (x ∷ xs)) ≡ length (filter p xs) = ap (λ b. length (cond b (x ∷ filter p xs) (filter p xs))) no in
-    let t = some_pass p xs (omega (arith, h, rest)) in
-    (t.0, Contains-tail x t.0 xs t.1, t.2))
-    (cases_Bool (p x))
-
 -- what stands above in a pair is one of the places
 pub counted_within : (covers : List (ℕ × ℕ)) (n j : ℕ) → AllByRecursion (λ (pair : ℕ × ℕ). pair.1 < n) covers → lower_covers covers j ≡ 1 → j < n
 counted_within covers n j within one =
     let many = length-filter (λ (pair : ℕ × ℕ). pair.1 == j) covers in
-    let x = some_pass (λ (pair : ℕ × ℕ). pair.1 == j) covers (omega (arith, many, one)) in
-    let is = eqb-true x.0.1 j x.2 in
-    subst (λ (i : ℕ). i < n) is (all_at (λ (pair : ℕ × ℕ). pair.1 < n) covers x.0 within x.1)
+    let first = get_or (filter (λ (pair : ℕ × ℕ). pair.1 == j) covers) 0 (0, 0) in
+    let x = passed_from (λ (pair : ℕ × ℕ). pair.1 == j) first covers (Contains-get_or (filter (λ (pair : ℕ × ℕ). pair.1 == j) covers) 0 (0, 0) (omega (arith, many, one))) in
+    subst (λ (i : ℕ). i < n) (eqb-true first.1 j x.1) (all_at (λ (pair : ℕ × ℕ). pair.1 < n) covers first within x.0)
 
 -- ---- the irreducible ones
 

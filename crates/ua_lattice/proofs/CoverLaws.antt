@@ -10,9 +10,9 @@ use Rattle.ua_table.proofs.Lists.{all_at, all_append, all_from_contains, all_wea
 use Rattle.ua_part.specs.Partitions.{Partition, IsPartition, LiesBelow, IsJoin}
 use Rattle.ua_part.proofs.PartitionLaws.{below_through, below_both, below_from_leaders, leaders_from_below}
 use Rattle.ua_prod.specs.Congruences.{IsCongruence}
-use Rattle.ua_lattice.specs.Lattices.{IsCongruenceList, Covers}
+use Rattle.ua_lattice.specs.Lattices.{IsCongruenceList, IsCover, at}
 use Rattle.ua_lattice.specs.Joins.{HasJoins, IsSpannedLattice}
-use Rattle.ua_lattice.specs.Places.{at, AreOrdered, IsJoinPlace, HasJoinPlace, AreJoinPlaces, AreJoinPushed, AreLeast, AreUpperCovers}
+use Rattle.ua_lattice.specs.Places.{AreOrdered, IsJoinPlace, HasJoinPlace, AreJoinPlaces, AreJoinPushed, AreLeast, AreUpperCovers}
 use Rattle.ua_lattice.proofs.OrderLaws.{partition_at, same_place}
 
 -- ---- joins at places
@@ -163,32 +163,34 @@ module _ (a : FiniteAlgebra) (generators list : List Partition) (whole : IsCongr
           (j.0, j.1, j.2.least r (congruence_of r c).partition up g.2)
 
       module _ (least : List ℕ) (l : AreLeast list places least) where
-        is_cover : (j : ℕ) → Contains least j → (j < length list) × Covers list (at list i) (at list j)
+        is_cover : (j : ℕ) → Contains least j → (j < length list) × IsCover a (at list i) (at list j)
         is_cover j c =
             let inside = ((l.all j).0 c).0 in
             let lowest = ((l.all j).0 c).1 in
             let p = place j inside in (
               p.within,
               record {
+                lower = congruence_of (at list i) here;
+                upper = congruence_of (at list j) (Contains-get_or list j [] p.within);
                 below = p.join.left;
                 differ = λ e. differs j inside (sym e);
-                next = λ r cr up down apart.
-                    let k = join_between r cr up apart in
+                next = λ r hr up down apart.
+                    let k = join_between r ((whole.all r).1 hr) up apart in
                     let is = lowest k.0 k.1 (below_through (at list k.0) r (at list j) k.2 down) in
-                    below_both r (at list j) (congruence_of r cr).partition (partition_at list list_ordered j p.within) down (subst (λ m. LiesBelow (at list m) r) is k.2);
+                    below_both r (at list j) hr.partition (partition_at list list_ordered j p.within) down (subst (λ m. LiesBelow (at list m) r) is k.2);
               },
             )
 
-        is_least : (j : ℕ) → (j < length list) × Covers list (at list i) (at list j) → Contains least j
+        is_least : (j : ℕ) → (j < length list) × IsCover a (at list i) (at list j) → Contains least j
         is_least j both = (l.all j).1 (subst (Contains places) (only first.0 first.1 first.2) first.1, only)
           where
             only : (c : ℕ) → Contains places c → LiesBelow (at list c) (at list j) → c ≡ j
             only c inside below =
                 let p = place c inside in
-                same_place list list_ordered c j p.within both.0 (both.1.next (at list c) (Contains-get_or list c [] p.within) p.join.left below (differs c inside))
+                same_place list list_ordered c j p.within both.0 (both.1.next (at list c) (congruence_of (at list c) (Contains-get_or list c [] p.within)) p.join.left below (differs c inside))
 
             first : (k : ℕ) × Contains places k × LiesBelow (at list k) (at list j)
             first = join_between (at list j) (Contains-get_or list j [] both.0) both.1.below (λ e. both.1.differ (sym e))
 
-        pub upper_covers : AreUpperCovers list i least
+        pub upper_covers : AreUpperCovers a list i least
         upper_covers = record { in_order = l.in_order; all = λ j. (is_cover j, is_least j) }

@@ -12,7 +12,7 @@ use Rattle.ua_part.specs.Partitions.{Partition, IsPartition, SameBlock, LiesBelo
 use Rattle.ua_part.proofs.PartitionLaws.{same_itself, below_itself, below_through, below_both, identity-IsPartition, identity-same}
 use Rattle.ua_prod.specs.Congruences.{IsCongruence}
 use Rattle.ua_prod.proofs.CongruenceLaws.{identity-IsCongruence}
-use Rattle.ua_cong.specs.Entries.{IsEntered}
+use Rattle.ua_rows.specs.RowLists.{GoesOnWith}
 use Rattle.ua_cong.proofs.Normal.{join-size}
 use Rattle.ua_lattice.specs.Lattices.{IsJoinClosed, IsJoinedWith}
 use Rattle.ua_lattice.specs.Joins.{IsJoinEntered, GoesOnWithJoins, HasJoins, IsSpanned, IsSpannedLattice, AreAmong}
@@ -43,7 +43,7 @@ identity_join n p r hp size j = below_both r p j.partition hp (j.least p hp (ide
 pub join_there : (old : List Partition) (p q r : Partition) → Contains old r → IsJoin p q r → IsJoinEntered old p q old
 join_there old p q r c j = record { more = []; is = sym (append-nil old); one = omega arith; joins = λ s k. absurd (Contains-none s k); there = (r, c, j) }
 
-pub join_entered : (old : List Partition) (p q r : Partition) (new : List Partition) → IsJoin p q r → IsEntered old r new → IsJoinEntered old p q new
+pub join_entered : (old : List Partition) (p q r : Partition) (new : List Partition) → IsJoin p q r → GoesOnWith old r new → IsJoinEntered old p q new
 join_entered old p q r new j e = record { more = e.more; is = e.is; one = e.one; joins = λ s c. subst (IsJoin p q) (sym (e.same s c)) j; there = (r, e.there, j) }
 
 -- ---- a list that goes on with joins

@@ -9,10 +9,11 @@ use Rattle.std.specs.declared.cmp.Ordering.TheVariants.{Less, Equal, Greater}
 use Rattle.std.proofs.lemmas.Bool.{cases_lt, lt-ltb}
 use Rattle.std.proofs.lemmas.Map.Keys.{sorted_from_strictly_increasing}
 use Rattle.std.proofs.lemmas.List.Elements.{Contains-append_left, Contains-append_right, Contains-append_cases}
+use Rattle.ua_table.specs.Algebras.{FiniteAlgebra}
 use Rattle.ua_table.proofs.Lists.{all_append, all_from_contains, all_weaker, all_map, Contains-head, Contains-tail, Contains-map, Contains-map_from, Contains-none}
 use Rattle.ua_part.specs.Partitions.{Partition}
-use Rattle.ua_lattice.specs.Lattices.{by_places, Covers, AreCovers}
-use Rattle.ua_lattice.specs.Places.{at, AreUpperCovers, AreCoversOfFirst, pairs_from}
+use Rattle.ua_lattice.specs.Lattices.{by_places, IsCover, AreCovers, at}
+use Rattle.ua_lattice.specs.Places.{AreUpperCovers, AreCoversOfFirst, pairs_from}
 
 -- one sorted list and another behind it
 sorted_append : {K : Type 0} (c : K → K → Ordering) (xs ys : List K) → IsStrictlySortedBy c xs → IsStrictlySortedBy c ys → ((x y : K) → Contains xs x → Contains ys y → c x y ≡ Less) → IsStrictlySortedBy c (xs ++ ys)
@@ -41,21 +42,21 @@ sorted_pairs n (j ∷ js) h = (
 
 -- ---- the covers of the first places
 
-pub covers_none : (list : List Partition) (pairs : List (ℕ × ℕ)) → pairs ≡ [] → AreCoversOfFirst list 0 pairs
+pub covers_none : (a : FiniteAlgebra) (list : List Partition) (pairs : List (ℕ × ℕ)) → pairs ≡ [] → AreCoversOfFirst a list 0 pairs
 unfolding IsStrictlySortedBy
-covers_none list pairs empty = subst (AreCoversOfFirst list 0) (sym empty) (record {
+covers_none a list pairs empty = subst (AreCoversOfFirst a list 0) (sym empty) (record {
   in_order = tt;
   all = λ i j. (λ c. absurd (Contains-none (i, j) c), λ both. absurd (let w = both.0 in omega (arith, w)));
 })
 
-module _ (list : List Partition) (n : ℕ) (pairs : List (ℕ × ℕ)) (least : List ℕ) (h : AreCoversOfFirst list n pairs) (u : AreUpperCovers list n least) where
+module _ (a : FiniteAlgebra) (list : List Partition) (n : ℕ) (pairs : List (ℕ × ℕ)) (least : List ℕ) (h : AreCoversOfFirst a list n pairs) (u : AreUpperCovers a list n least) where
   -- a new pair has the new place first
   new_pair : (pair : ℕ × ℕ) → Contains (pairs_from n least) pair → (pair.0 ≡ n) × Contains least pair.1
   new_pair pair c =
       let k = Contains-map_from (λ (j : ℕ). (n, j)) pair least c in
       (ap (λ (p : ℕ × ℕ). p.0) (sym k.2), subst (Contains least) (ap (λ (p : ℕ × ℕ). p.1) k.2) k.1)
 
-  pub covers_more : AreCoversOfFirst list (n + 1) (pairs ++ pairs_from n least)
+  pub covers_more : AreCoversOfFirst a list (n + 1) (pairs ++ pairs_from n least)
   covers_more = record {
     in_order = sorted_append by_places pairs (pairs_from n least) h.in_order (sorted_pairs n least (sorted_from_strictly_increasing least u.in_order)) (λ x y cx cy.
         let low = ((h.all x.0 x.1).0 cx).0 in
@@ -68,18 +69,18 @@ module _ (list : List Partition) (n : ℕ) (pairs : List (ℕ × ℕ)) (least : 
           let k = new_pair (i, j) new in
           let b = (u.all j).0 k.1 in
           let is = k.0 in
-          (omega (arith, is), b.0, subst (λ m. Covers list (at list m) (at list j)) (sym is) b.1))
+          (omega (arith, is), b.0, subst (λ m. IsCover a (at list m) (at list j)) (sym is) b.1))
           (Contains-append_cases pairs (pairs_from n least) (i, j) c)),
       (λ b. ⊎_elim
           (λ low. Contains-append_left pairs (pairs_from n least) (i, j) ((h.all i j).1 (low, b.1, b.2)))
           (λ high.
           let w = b.0 in
           let is : n ≡ i = omega (arith, w, high) in
-          let there = (u.all j).1 (b.1, subst (λ m. Covers list (at list m) (at list j)) (sym is) b.2) in
+          let there = (u.all j).1 (b.1, subst (λ m. IsCover a (at list m) (at list j)) (sym is) b.2) in
           Contains-append_right pairs (pairs_from n least) (i, j) (subst (λ m. Contains (pairs_from n least) (m, j)) is (Contains-map (λ (k : ℕ). (n, k)) j least there)))
           (cases_lt i n)),
     );
   }
 
-pub covers_all : (list : List Partition) (n : ℕ) (pairs : List (ℕ × ℕ)) → length list ≡ n → AreCoversOfFirst list n pairs → AreCovers list pairs
-covers_all list n pairs all h = subst (λ m. AreCoversOfFirst list m pairs → AreCovers list pairs) all (λ g. record { in_order = g.in_order; all = g.all }) h
+pub covers_all : (a : FiniteAlgebra) (list : List Partition) (n : ℕ) (pairs : List (ℕ × ℕ)) → length list ≡ n → AreCoversOfFirst a list n pairs → AreCovers a list pairs
+covers_all a list n pairs all h = subst (λ m. AreCoversOfFirst a list m pairs → AreCovers a list pairs) all (λ g. record { in_order = g.in_order; all = g.all }) h

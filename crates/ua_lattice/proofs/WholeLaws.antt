@@ -55,5 +55,5 @@ module _ (rows list : List Partition) (h : IsArranged rows list) where
       }
 
 -- the places in the covers are places of the list
-pub covers_within : (list : List Partition) (covers : List (ℕ × ℕ)) → AreCovers list covers → AllByRecursion (λ (pair : ℕ × ℕ). pair.1 < length list) covers
-covers_within list covers h = all_from_contains (λ (pair : ℕ × ℕ). pair.1 < length list) covers (λ pair c. ((h.all pair.0 pair.1).0 c).1)
+pub covers_within : (a : FiniteAlgebra) (list : List Partition) (covers : List (ℕ × ℕ)) → AreCovers a list covers → AllByRecursion (λ (pair : ℕ × ℕ). pair.1 < length list) covers
+covers_within a list covers h = all_from_contains (λ (pair : ℕ × ℕ). pair.1 < length list) covers (λ pair c. ((h.all pair.0 pair.1).0 c).1)

@@ -24,25 +24,35 @@ pub record IsCongruenceList (a : FiniteAlgebra) (list : List Partition) : Type 0
   pub in_order : IsStrictlySortedBy by_blocks list
   pub all : (p : Partition) → Contains list p ↔ IsCongruence a p
 
--- q covers p among these: p lies below q, they differ, and no third lies between
-pub record Covers (list : List Partition) (p q : Partition) : Type 0 where
-  pub below : LiesBelow p q
-  pub differ : p ≢ q
-  pub next : (r : Partition) → Contains list r → LiesBelow p r → LiesBelow r q → r ≢ p → r ≡ q
+-- beta covers alpha in the lattice of congruences: it lies above, and no third lies between
+pub record IsCover (a : FiniteAlgebra) (alpha beta : Partition) : Type 0 where
+  pub lower : IsCongruence a alpha
+  pub upper : IsCongruence a beta
+  pub below : LiesBelow alpha beta
+  pub differ : alpha ≢ beta
+  pub next : (r : Partition) → IsCongruence a r → LiesBelow alpha r → LiesBelow r beta → r ≢ alpha → r ≡ beta
+
+-- the partition at a place
+abbrev pub at : List Partition → ℕ → Partition
+at list i = slice_index_or list i []
 
 -- by the first place, then by the second
 abbrev pub by_places : ℕ × ℕ → ℕ × ℕ → Ordering
 by_places x y = ordering_then (nat_cmp x.0 y.0) (nat_cmp x.1 y.1)
 
 -- the pairs of places (i, j) where the j-th covers the i-th, ascending
-pub record AreCovers (list : List Partition) (pairs : List (ℕ × ℕ)) : Type 0 where
+pub record AreCovers (a : FiniteAlgebra) (list : List Partition) (pairs : List (ℕ × ℕ)) : Type 0 where
   pub in_order : IsStrictlySortedBy by_places pairs
-  pub all : (i j : ℕ) → Contains pairs (i, j) ↔ ((i < length list) × (j < length list) × Covers list (slice_index_or list i []) (slice_index_or list j []))
+  pub all : (i j : ℕ) → Contains pairs (i, j) ↔ ((i < length list) × (j < length list) × IsCover a (at list i) (at list j))
+
+-- how many of the covers have this place above
+abbrev pub lower_covers : List (ℕ × ℕ) → ℕ → ℕ
+lower_covers pairs j = count_by (λ (pair : ℕ × ℕ). pair.1 == j) pairs
 
 -- the places that have exactly one lower cover, ascending
 pub record AreIrreducible (pairs : List (ℕ × ℕ)) (places : List ℕ) : Type 0 where
   pub in_order : IsStrictlyIncreasing places
-  pub all : (j : ℕ) → Contains places j ↔ (count_by (λ (pair : ℕ × ℕ). pair.1 == j) pairs ≡ 1)
+  pub all : (j : ℕ) → Contains places j ↔ (lower_covers pairs j ≡ 1)
 
 -- each two of the list have their join in it
 abbrev pub IsJoinClosed : List Partition → Type 0
@@ -57,7 +67,7 @@ pub record IsJoinedWith (list : List Partition) (p : Partition) (more : List Par
 pub record IsWholeLattice (a : FiniteAlgebra) (budget : ℕ) (list : List Partition) (covers : List (ℕ × ℕ)) (irreducibles : List ℕ) : Type 0 where
   pub all_of_them : IsCongruenceList a list
   pub within : length list ≤ budget
-  pub covering : AreCovers list covers
+  pub covering : AreCovers a list covers
   pub irreducible : AreIrreducible covers irreducibles
 
 -- one congruence more than the budget

@@ -1,13 +1,10 @@
 -- Places in a list of partitions: which hold joins, and which cover which.
-use Rattle.std.specs.Prelude.{◌≡◌, ℕ, ◌<◌, ◌↔◌, ◌==◌, count_by, List, [], ◌++◌, length, map, slice_index_or, Contains}
+use Rattle.std.specs.Prelude.{◌≡◌, ℕ, ◌<◌, ◌↔◌, List, ◌++◌, length, map, Contains}
 use Rattle.std.specs.List.{AllByRecursion}
 use Rattle.std.specs.List.Sorted.{IsStrictlySortedBy, IsStrictlyIncreasing}
+use Rattle.ua_table.specs.Algebras.{FiniteAlgebra}
 use Rattle.ua_part.specs.Partitions.{Partition, IsPartition, LiesBelow, IsJoin}
-use Rattle.ua_lattice.specs.Lattices.{by_blocks, Covers, by_places}
-
--- the partition at a place
-abbrev pub at : List Partition → ℕ → Partition
-at list i = slice_index_or list i []
+use Rattle.ua_lattice.specs.Lattices.{by_blocks, at, IsCover, by_places}
 
 -- partitions of equally many elements, each once, in order
 pub record AreOrdered (list : List Partition) : Type 0 where
@@ -49,14 +46,14 @@ pub record AreLeast (list : List Partition) (places least : List ℕ) : Type 0 w
   pub all : (j : ℕ) → Contains least j ↔ (Contains places j × IsLeastAmong list places j)
 
 -- the places that cover the i-th, ascending
-pub record AreUpperCovers (list : List Partition) (i : ℕ) (places : List ℕ) : Type 0 where
+pub record AreUpperCovers (a : FiniteAlgebra) (list : List Partition) (i : ℕ) (places : List ℕ) : Type 0 where
   pub in_order : IsStrictlyIncreasing places
-  pub all : (j : ℕ) → Contains places j ↔ ((j < length list) × Covers list (at list i) (at list j))
+  pub all : (j : ℕ) → Contains places j ↔ ((j < length list) × IsCover a (at list i) (at list j))
 
 -- the covers of the first n
-pub record AreCoversOfFirst (list : List Partition) (n : ℕ) (pairs : List (ℕ × ℕ)) : Type 0 where
+pub record AreCoversOfFirst (a : FiniteAlgebra) (list : List Partition) (n : ℕ) (pairs : List (ℕ × ℕ)) : Type 0 where
   pub in_order : IsStrictlySortedBy by_places pairs
-  pub all : (i j : ℕ) → Contains pairs (i, j) ↔ ((i < n) × (j < length list) × Covers list (at list i) (at list j))
+  pub all : (i j : ℕ) → Contains pairs (i, j) ↔ ((i < n) × (j < length list) × IsCover a (at list i) (at list j))
 
 -- the places go on with nothing or with that of the join of the i-th with q, and have it then, unless q lies below the i-th
 pub record AreJoinPushed (list : List Partition) (i : ℕ) (q : Partition) (old new : List ℕ) : Type 0 where
@@ -70,7 +67,3 @@ pub record AreJoinPushed (list : List Partition) (i : ℕ) (q : Partition) (old 
 -- the place with each of others behind it
 abbrev pub pairs_from : ℕ → List ℕ → List (ℕ × ℕ)
 pairs_from i places = map (λ (j : ℕ). (i, j)) places
-
--- how many of the covers have this place above
-abbrev pub lower_covers : List (ℕ × ℕ) → ℕ → ℕ
-lower_covers pairs j = count_by (λ (pair : ℕ × ℕ). pair.1 == j) pairs

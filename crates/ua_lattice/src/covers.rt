@@ -4,9 +4,9 @@ ghost use Rattle.std.specs.Prelude.{◌≡◌, ◌<◌, ◌≤◌, ◌^◌, ◌+
 ghost use Rattle.std.specs.List.{AllByRecursion};
 ghost use Rattle.std.specs.List.Sorted.{IsStrictlyIncreasing};
 ghost use Rattle.ua_part.specs.Partitions.{Partition, IsPartition};
-ghost use Rattle.ua_lattice.specs.Lattices.{IsCongruenceList, AreCovers};
+ghost use Rattle.ua_lattice.specs.Lattices.{IsCongruenceList, AreCovers, at};
 ghost use Rattle.ua_lattice.specs.Joins.{HasJoins, IsSpannedLattice};
-ghost use Rattle.ua_lattice.specs.Places.{at, AreOrdered, AreJoinPushed, AreJoinPlaces, pairs_from};
+ghost use Rattle.ua_lattice.specs.Places.{AreOrdered, AreJoinPushed, AreJoinPlaces, pairs_from};
 ghost use Rattle.ua_table.specs.declared.limits.TheConstants.{SIZE};
 
 use crate::joiner::{Joiner, lies_below};
@@ -64,30 +64,6 @@ fn push_join(
     Ok(())
 }
 
-/// Notes the places of the joins of row i with the generators that do not lie below it.
-fn push_joins(
-    rows: &Rows,
-    joiner: &mut Joiner,
-    i: u32,
-    generators: &[Part],
-    places: &mut Vec<u32>,
-) -> Result<(), AllocError>
-    requires named { i < length rows.now.items }
-    requires partition { IsPartition (at rows.now.items i) }
-    requires joins { AllByRecursion (λ q. HasJoins rows.now.items q rows.now.items) generators.now }
-    requires sizes { AllByRecursion (λ (q : Partition). length q ≡ rows.now.width) generators.now }
-    requires joiner { length joiner.old.row.items ≡ rows.now.width }
-    requires few { rows.now.width ≤ SIZE }
-    requires empty { length places.old.items ≡ 0 }
-    ensures joiner { length joiner.new.row.items ≡ length joiner.old.row.items }
-    ensures places { OnOk result (AreJoinPlaces rows.now.items generators.now i places.new.items) }
-{
-    for k in 0..generators.len() {
-        push_join(rows, joiner, i, &generators[k], places)?;
-    }
-    Ok(())
-}
-
 /// The places of the joins of row i with the generators that do not lie below it, ascending.
 fn joins_above(
     rows: &Rows,
@@ -107,7 +83,9 @@ fn joins_above(
     ensures in_order { OnOk result (IsStrictlyIncreasing places.new.items) }
 {
     places.clear();
-    push_joins(rows, joiner, i, generators, places)?;
+    for k in 0..generators.len() {
+        push_join(rows, joiner, i, &generators[k], places)?;
+    }
     places.sort_unstable();
     places.dedup();
     Ok(())
@@ -136,7 +114,7 @@ pub fn covers_of(
     requires spanned { IsSpannedLattice algebra.now generators.now list.now }
     requires count { length list.now < 2 ^ 32 }
     requires joiner { length joiner.old.row.items ≡ algebra.now.size }
-    ensures { IfOk result (λ covers. AreCovers list.now covers.items) }
+    ensures { IfOk result (λ covers. AreCovers algebra.now list.now covers.items) }
 {
     let rows = rows_of(alloc, joiner, algebra.size(), list)?;
     let mut covers = Vec::new(alloc);

@@ -2,8 +2,7 @@
 
 ghost use Rattle.std.specs.Prelude.{◌≡◌, ◌==◌, ◌<◌, ◌^◌, ℕ, map, IfOk};
 ghost use Rattle.std.specs.List.{AllByRecursion, range_with_len};
-ghost use Rattle.ua_lattice.specs.Lattices.{AreIrreducible};
-ghost use Rattle.ua_lattice.specs.Places.{lower_covers};
+ghost use Rattle.ua_lattice.specs.Lattices.{AreIrreducible, lower_covers};
 
 use std::alloc::{AllocError, Global};
 

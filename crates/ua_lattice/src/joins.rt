@@ -10,7 +10,6 @@ ghost use Rattle.ua_table.specs.declared.limits.TheConstants.{SIZE};
 
 use crate::joiner::{Joiner, lies_below};
 use std::alloc::{AllocError, Global};
-use ua_cong::enter;
 use ua_part::Part;
 use ua_rows::Rows;
 use ua_table::Algebra;
@@ -46,7 +45,7 @@ fn enter_join(rows: &mut Rows, joiner: &mut Joiner, i: u32, part: &Part) -> Resu
         return Ok(());
     }
     joiner.join(row, part);
-    enter(rows, joiner.row.as_slice())?;
+    rows.enter(joiner.row.as_slice())?;
     Ok(())
 }
 

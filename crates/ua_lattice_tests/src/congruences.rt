@@ -2,7 +2,7 @@
 
 use std::alloc::Global;
 use std::test::Fail;
-use ua_cong::{cg, distinct_principals, enter, is_congruence, principals};
+use ua_cong::{cg, distinct_principals, is_congruence, principals};
 use ua_rows::Rows;
 use ua_table::{Algebra, Name, OpTable};
 
@@ -73,11 +73,11 @@ fn different_ones(rt: HostRuntime) -> Result<(), Fail> {
 #[test]
 fn entered(rt: HostRuntime) -> Result<(), Fail> {
     let mut rows = Rows::new(rt.alloc(), 3);
-    assert_eq!(rt; enter(&mut rows, &[0, 0, 2])?, 0);
+    assert_eq!(rt; rows.enter(&[0, 0, 2])?, 0);
     assert_eq!(rt; rows.len(), 1);
-    assert_eq!(rt; enter(&mut rows, &[0, 1, 1])?, 1);
+    assert_eq!(rt; rows.enter(&[0, 1, 1])?, 1);
     assert_eq!(rt; rows.len(), 2);
-    assert_eq!(rt; enter(&mut rows, &[0, 0, 2])?, 0);
+    assert_eq!(rt; rows.enter(&[0, 0, 2])?, 0);
     assert_eq!(rt; rows.len(), 2);
     Ok(())
 }

@@ -17,7 +17,7 @@ use Rattle.ua_table.proofs.Lists.{all_at, all_weaker, all_map, all_append, Conta
 use Rattle.ua_table.proofs.Rows.{slices_of_rows}
 use Rattle.ua_table.proofs.SliceLaws.{bound_laws, slices_partition}
 use Rattle.ua_table.proofs.Units.{place_from}
-use Rattle.ua_listing.specs.Searches.{height_in, height_number, IsReached, IsNearTop, IsSearch, IsVisited, ReachesMore, IsTop, MayVisit, HasReachedBy, AreGeneratorsVisited, AreConstantsVisited, no_arguments, application, IsTupleVisited, IsSliceVisited, AreSlicesVisited, IsTable, IsSearchOf, HasReachedIn, MayVisitIn, GoesOnTo}
+use Rattle.ua_listing.specs.Searches.{height_in, height_number, IsReached, IsNearTop, IsSearch, IsVisited, ReachesMore, IsTop, MayVisit, HasReachedBy, AreGeneratorsVisited, AreConstantsVisited, no_arguments, application, IsTupleVisited, IsSliceVisited, AreSlicesVisited, IsRowTable, IsSearchOf, HasReachedIn, MayVisitIn, GoesOnTo}
 use Rattle.ua_listing.specs.declared.searches.Search.{Search}
 use Rattle.ua_listing.specs.declared.searches.Table.{Table}
 use Rattle.ua_listing.proofs.MarkLaws.{marked_below}
@@ -264,7 +264,7 @@ order_few p gens vs s is = let o = is.once in let b = total_below s.reached.item
 
 -- ---- one slice, as the code walks it
 
-module _ (t : Table) (m k : ℕ) (table : IsTable t) (after : bound t.shape m ≤ k) (below : k < bound t.shape (m + 1)) where
+module _ (t : Table) (m k : ℕ) (table : IsRowTable t) (after : bound t.shape m ≤ k) (below : k < bound t.shape (m + 1)) where
   slice_here : IsSliceOf t.shape m k
   slice_here = slice_between t.shape m k table.limits after below
 

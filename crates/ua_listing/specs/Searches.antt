@@ -128,7 +128,7 @@ abbrev pub AreSlicesVisited : Product → List Vector → List Vector → Search
 AreSlicesVisited p gens vs s n = (k : ℕ) → k < n → IsSliceVisited p gens vs s k
 
 -- vectors of the product, each once, few enough for the numbering of their tuples
-pub record IsTable (t : Table) : Type 0 where
+pub record IsRowTable (t : Table) : Type 0 where
   pub product : IsProduct t.operations
   pub shape : t.shape ≡ arities t.operations
   pub limits : IsShape t.shape

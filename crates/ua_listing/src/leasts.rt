@@ -10,7 +10,7 @@ ghost use Rattle.ua_table.specs.Numbering.{IsShape};
 ghost use Rattle.ua_table.specs.Orders.{IsLeast};
 ghost use Rattle.ua_table.specs.Slices.{bound, IsMark};
 ghost use Rattle.ua_listing.specs.Leasts.{IsClosedWithin};
-ghost use Rattle.ua_listing.specs.Searches.{height_number, IsNearTop, IsTop, ReachesMore, IsTable, IsSearchOf, MayVisitIn, HasReachedIn, GoesOnTo, GeneratorsVisitedIn, ConstantsVisitedIn, SliceVisitedIn, SlicesVisitedIn, IsWholeSearch};
+ghost use Rattle.ua_listing.specs.Searches.{height_number, IsNearTop, IsTop, ReachesMore, IsRowTable, IsSearchOf, MayVisitIn, HasReachedIn, GoesOnTo, GeneratorsVisitedIn, ConstantsVisitedIn, SliceVisitedIn, SlicesVisitedIn, IsWholeSearch};
 
 use crate::listing::{Listing, moved_arguments};
 use crate::searches::{Search, Table};
@@ -39,7 +39,7 @@ fn table_of<'a>(
 ) -> Result<Table<'a>, AllocError>
     requires admitted { AllByRecursion (IsVector frame.now) gens.now.items }
     requires closed { IsClosedWithin frame.now gens.now.items list.now }
-    ensures table { IfOk result IsTable }
+    ensures table { IfOk result IsRowTable }
     ensures operations { IfOk result (λ table. table.operations ≡ frame.now) }
     ensures gens { IfOk result (λ table. table.gens.now ≡ gens.now) }
     ensures rows { IfOk result (λ table. table.rows.items ≡ vectors_of list.now) }
@@ -62,7 +62,7 @@ fn visit(
     args: [u32; 4],
     height: u32,
 ) -> Result<(), AllocError>
-    requires table { IsTable table.now }
+    requires table { IsRowTable table.now }
     requires width { length scratch.old ≡ length table.now.operations }
     requires search { IsSearchOf table.now search.old }
     requires top { IsTop search.old height }
@@ -82,7 +82,7 @@ fn visit(
 
 /// Reaches the generators.
 fn visit_generators(table: &Table, search: &mut Search) -> Result<(), AllocError>
-    requires table { IsTable table.now }
+    requires table { IsRowTable table.now }
     requires search { IsSearchOf table.now search.old }
     requires top { IsTop search.old 0 }
     ensures goes_on { OnOk result (GoesOnTo table.now search.old search.new 0) }
@@ -102,7 +102,7 @@ fn visit_constants(
     scratch: &mut Scratch,
     search: &mut Search,
 ) -> Result<(), AllocError>
-    requires table { IsTable table.now }
+    requires table { IsRowTable table.now }
     requires width { length scratch.old ≡ length table.now.operations }
     requires search { IsSearchOf table.now search.old }
     requires top { IsTop search.old 1 }
@@ -129,7 +129,7 @@ fn visit_slice(
     s: u64,
     height: u32,
 ) -> Result<(), AllocError>
-    requires table { IsTable table.now }
+    requires table { IsRowTable table.now }
     requires width { length scratch.old ≡ length table.now.operations }
     requires search { IsSearchOf table.now search.old }
     requires row { m < length search.old.order.items }
@@ -164,7 +164,7 @@ fn visit_row(
     m: u32,
     from: u64,
 ) -> Result<u64, AllocError>
-    requires table { IsTable table.now }
+    requires table { IsRowTable table.now }
     requires width { length scratch.old ≡ length table.now.operations }
     requires search { IsSearchOf table.now search.old }
     requires row { m < length search.old.order.items }
@@ -190,7 +190,7 @@ fn visit_row(
 
 /// Reaches the rows that operations give at rows that are reached, until there are no more.
 fn visit_rows(table: &Table, scratch: &mut Scratch, search: &mut Search) -> Result<(), AllocError>
-    requires table { IsTable table.now }
+    requires table { IsRowTable table.now }
     requires width { length scratch.old ≡ length table.now.operations }
     requires search { IsSearchOf table.now search.old }
     requires top { IsTop search.old 1 }

@@ -2,7 +2,7 @@
 
 ghost use Rattle.std.specs.Prelude.{◌≡◌, ◌<◌, ◌↔◌, ◌++◌, [], ◌∷◌, length, replicate, set, slice_get, Some, true, false, IfOk, OnOk, IsTrue};
 ghost use Rattle.ua_table.specs.Origins.{origin_value};
-ghost use Rattle.ua_listing.specs.Searches.{IsNamed, IsBefore, IsTop, IsTable, IsSearchOf, MayVisitIn, HasReachedIn};
+ghost use Rattle.ua_listing.specs.Searches.{IsNamed, IsBefore, IsTop, IsRowTable, IsSearchOf, MayVisitIn, HasReachedIn};
 
 use std::alloc::{AllocError, Global};
 use ua_rows::{Operations, Rows};
@@ -96,7 +96,7 @@ impl Search {
         height: u32,
         origin: Origin,
     ) -> Result<(), AllocError>
-        requires table { IsTable table.now }
+        requires table { IsRowTable table.now }
         requires search { IsSearchOf table.now self.old }
         requires top { IsTop self.old height }
         requires origin { MayVisitIn table.now self.old height origin }

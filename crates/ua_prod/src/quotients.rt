@@ -13,8 +13,8 @@ use std::alloc::{AllocError, Global};
 use ua_part::Part;
 use ua_table::{Algebra, Elem, Name};
 
-/// The least members of the blocks, and for each element the number of its block.
-fn by_blocks(alloc: Global, p: &Part) -> Result<Renumbering, AllocError>
+/// The least members of the blocks, ascending, and for each element the number of its block.
+pub fn by_blocks(alloc: Global, p: &Part) -> Result<Renumbering, AllocError>
     requires { length p.now ≤ SIZE }
     ensures members { IfOk result (λ r. r.members.items ≡ leaders p.now) }
     ensures numbers { IfOk result (λ r. r.numbers.items ≡ map (blocks_below p.now) p.now) }

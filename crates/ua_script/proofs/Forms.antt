@@ -7,7 +7,7 @@ use Rattle.ua_table.specs.Names.{is_name}
 use Rattle.ua_text.specs.declared.symbols.Role.TheVariants as roles
 use Rattle.ua_text.specs.declared.tokens.Place.{Place}
 use Rattle.ua_text.specs.Pieces.{Placed}
-use Rattle.ua_text.specs.Signs.{Wanted, sign, AreSpelled, Front}
+use Rattle.ua_text.specs.Signs.{Wanted, IsSign, sign, AreSpelled, Front}
 use Rattle.ua_text.proofs.SpelledLemmas.{spelled_left, spelled_right}
 use Rattle.ua_term.specs.Phrases.{Phrase, IsNested}
 use Rattle.ua_term.specs.Terms.{term}
@@ -35,7 +35,7 @@ use Rattle.ua_script.specs.declared.commands.FirstWord.TheVariants as firsts
 use Rattle.ua_operands.specs.Reading.{IsShort, IsShortVector, IsShortBlock, IsNamed, ArePointsShort}
 use Rattle.ua_script.specs.Reading.{IsShortConstruction, IsReadableItem, is_certified, first_text, first_words, found_first}
 use Rattle.ua_script.proofs.CommandLemmas.{close_of}
-use Rattle.ua_script.proofs.Beginnings.{begun}
+use Rattle.ua_script.proofs.Beginnings.{begun, its_word}
 use Rattle.ua_script.proofs.Shortness.{short_vector, short_vectors, short_part, short_construction, short_points}
 
 -- the parts of a `close`, and the tokens behind its word
@@ -373,8 +373,9 @@ pub plain_front : (rest text ws : List Wanted) (ts : List Placed) → rest ≡ t
 plain_front rest text ws ts e f = subst (λ z. Front ts (z ++ ws) []) e f
 
 -- the parts of the command whose word was found
-pub form_found : {v : ℕ} (c : Command) (r : IsReadableItem v (items.Command c)) (p : is_certified c ≡ false) (text : List ℕ) (found : Option FirstWord) (first : FirstWord) → text ≡ (begun c).word → found ≡ found_first text first_words → found ≡ Some first → IsForm first c (begun c).rest
+pub form_found : {v : ℕ} (c : Command) (r : IsReadableItem v (items.Command c)) (p : is_certified c ≡ false) (text : List ℕ) (found : Option FirstWord) (first : FirstWord) → IsSign (begun c).first.sign text → found ≡ found_first text first_words → found ≡ Some first → IsForm first c (begun c).rest
 form_found c r p text found first t e s =
     let m = form_of c r p in
-    let is : m.first ≡ first = let h = sym m.found ∙ sym (ap (λ z. found_first z first_words) t) ∙ sym e ∙ s in cc in
+    let b = begun c in
+    let is : m.first ≡ first = let h = sym m.found ∙ sym (ap (λ z. found_first z first_words) (its_word b.first b.word text b.spelled t)) ∙ sym e ∙ s in cc in
     subst (λ z. IsForm z c (begun c).rest) is m.parts

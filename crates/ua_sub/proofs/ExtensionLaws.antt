@@ -14,7 +14,7 @@ use Rattle.ua_term.specs.Steps.{StepList}
 use Rattle.ua_close.specs.declared.memberships.Answer.TheVariants.{Yes}
 use Rattle.ua_close.specs.Memberships.{Tells}
 use Rattle.ua_sub.specs.Members.{singles}
-use Rattle.ua_sub.specs.Homs.{both, two, with_images, IsGraph, IsMap, IsClash}
+use Rattle.ua_sub.specs.Homs.{both, two, with_images, IsGraph, IsMap, IsPairClash}
 use Rattle.ua_sub.specs.Extensions.{elements_in, images_in, IsExtension}
 use Rattle.ua_sub.proofs.HomLaws.{length-with_images}
 use Rattle.ua_sub.proofs.MemberLaws.{column_singles}
@@ -30,7 +30,7 @@ no_more p gens b pairs map_is more =
 abbrev pub StepLaw : Type 0
 StepLaw = (p : Product) (gens : List Vector) (v : Vector) (b : ℕ) (s : StepList) → Tells p gens v b (Yes s) → Sg p gens v
 
-pub no_graph : StepLaw → (p : Product) (gens : List Vector) (x y z : ℕ) (first second : StepList) → IsClash p gens x y z first second → ¬ IsGraph p gens
+pub no_graph : StepLaw → (p : Product) (gens : List Vector) (x y z : ℕ) (first second : StepList) → IsPairClash p gens x y z first second → ¬ IsGraph p gens
 no_graph law p gens x y z first second clash graph = clash.apart (graph x y z (law p gens (two (x, y)) 0 first clash.first_steps) (law p gens (two (x, z)) 0 second clash.second_steps))
 
 -- ---- pairs

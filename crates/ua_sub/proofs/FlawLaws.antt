@@ -1,100 +1,28 @@
--- The tuples of an operation one after another, and the first at which a map does not go with it.
-use Rattle.std.proofs.Common.{◌≡◌, ◌≢◌, ⊎_elim, ℕ, zero, suc, ◌+◌, ◌-◌, ◌*◌, ◌^◌, ◌<◌, ◌≤◌, List, [], ◌∷◌, ◌++◌, length, take, drop, set, replicate, get_or, Some, refl, sym, ap, ◌∙◌, subst, arith, length-set}
+-- The first tuple of an operation at which a map does not go with it.
+use Rattle.std.proofs.Common.{◌≡◌, ◌≢◌, ⊎_elim, ℕ, ◌+◌, ◌-◌, ◌^◌, ◌<◌, ◌≤◌, List, [], ◌∷◌, ◌++◌, length, take, drop, set, replicate, get_or, Some, refl, sym, ap, ◌∙◌, subst, arith}
 use Rattle.std.specs.Prelude.{◌↔◌, slice_index, slice_get}
 use Rattle.std.specs.List.{AllByRecursion}
 use Rattle.std.specs.Cmp.Lexicographic.{slice_cmp}
 use Rattle.std.specs.Ordering.{nat_cmp, ordering_then}
 use Rattle.std.specs.declared.cmp.Ordering.{Ordering}
 use Rattle.std.specs.declared.cmp.Ordering.TheVariants.{Less, Equal, Greater}
-use Rattle.std.proofs.Math.Nat.{pow-suc}
 use Rattle.std.proofs.lemmas.Bool.{cases_lt, cases_eq}
-use Rattle.std.proofs.lemmas.List.{get_or-take, length-map, take-append-drop, take_at, drop_at, drop-set, take-set-le, drop_more, length-drop, take_more, take_more_set, map-append}
-use Rattle.std.proofs.lemmas.List.Elements.{All-from_recursion, recursion_from_All, All-set}
+use Rattle.std.proofs.lemmas.List.{length-map, length-replicate, take-replicate, drop-replicate, take-append-drop, take_at, drop_at, take_more, take_more_set, map-append}
+use Rattle.std.proofs.lemmas.List.Elements.{All-from_recursion}
 use Rattle.std.proofs.lemmas.Option.{slice_get_within}
 use Rattle.ua_table.specs.Algebras.{Operation, FiniteAlgebra, IsAlgebra, arities_of, value_at, numeral, signature}
 use Rattle.ua_table.specs.Tables.{IsTable}
 use Rattle.ua_table.proofs.ApplyLemmas.{arities_at, numeral-below}
-use Rattle.ua_table.proofs.Codes.{same_digits, numeral-cons}
+use Rattle.ua_table.proofs.Codes.{same_digits, numeral_zeros}
+use Rattle.ua_table.proofs.Lists.{all_replicate}
 use Rattle.ua_prod.proofs.ClashLaws.{arity_is, size_is, value_is}
-use Rattle.ua_prod.proofs.Numerals.{numeral_place, numeral_set, digits_less, cmp-append, cmp_same}
+use Rattle.ua_prod.proofs.Numerals.{digits_less, cmp-append, cmp_same}
 use Rattle.ua_sub.specs.declared.flaws.HomFlaw.{HomFlaw}
 use Rattle.ua_sub.specs.Flaws.{images_of, GoesWith, IsHom, arguments_in, IsFlaw}
 use Rattle.ua_sub.specs.Searches.{NoFlawOf, IsFirstOf}
 
 abbrev zeros : ℕ → List ℕ
 zeros k = replicate k 0
-
--- ---- the next tuple
-
--- the digits from a place on were the greatest and are 0 now, and those before it are as they were
-pub record IsCarried (n place : ℕ) (old digits : List ℕ) : Type 0 where
-  pub within : place ≤ length old
-  pub count : length digits ≡ length old
-  pub front : take place digits ≡ take place old
-  pub zeros : numeral n (drop place digits) ≡ 0
-  pub full : numeral n (drop place old) + 1 ≡ n ^ (length old - place)
-  pub below : AllByRecursion (λ x. x < n) digits
-
-take_front : (j : ℕ) (xs : List ℕ) → take j (take (suc j) xs) ≡ take j xs
-take_front zero xs = refl
-take_front (suc j) [] = refl
-take_front (suc j) (x ∷ xs) = ap (λ (ys : List ℕ). x ∷ ys) (take_front j xs)
-
-module _ (n place : ℕ) (old digits : List ℕ) (h : IsCarried n (place + 1) old digits) where
-  low : place < length digits
-  low = let w = h.within in let c = h.count in omega (arith, w, c)
-
-  low_old : place < length old
-  low_old = let w = h.within in omega (arith, w)
-
-  front' : take place digits ≡ take place old
-  front' = let s : place + 1 ≡ suc place = omega arith in sym (take_front place digits) ∙ ap (λ (xs : List ℕ). take place xs) (ap (λ k. take k digits) (sym s) ∙ h.front ∙ ap (λ k. take k old) s) ∙ take_front place old
-
-  entry : slice_index digits place ≡ slice_index old place
-  entry = sym (get_or-take (place + 1) digits place 0 (omega arith)) ∙ ap (λ (xs : List ℕ). get_or xs place 0) h.front ∙ get_or-take (place + 1) old place 0 (omega arith)
-
-  -- where there is a greater digit at the place, the tuple with it is the next one
-  pub carried_done : numeral n (set digits place (slice_index digits place + 1)) ≡ numeral n old + 1
-  carried_done =
-      let x = slice_index old place in
-      let new = numeral_set n place digits low (slice_index digits place + 1) in
-      let was = numeral_place n place old low_old in
-      let rest : length digits - 1 - place ≡ length old - (place + 1) = (let c = h.count in omega (arith, c)) in
-      let rest_old : length old - 1 - place ≡ length old - (place + 1) = omega arith in
-      let top = numeral n (take place old) * n + slice_index old place in
-      let one : (numeral n (take place digits) * n + (slice_index digits place + 1)) * n ^ (length digits - 1 - place) ≡ (numeral n (take place old) * n + (slice_index old place + 1)) * n ^ (length old - (place + 1)) =
-      λ i. (numeral n (front' i) * n + (entry i + 1)) * n ^ rest i in
-      let two : (numeral n (take place old) * n + slice_index old place) * n ^ (length old - 1 - place) ≡ (numeral n (take place old) * n + slice_index old place) * n ^ (length old - (place + 1)) =
-      ap (λ k. (numeral n (take place old) * n + slice_index old place) * n ^ k) rest_old in
-      let spread : (numeral n (take place old) * n + (slice_index old place + 1)) * n ^ (length old - (place + 1)) ≡ (numeral n (take place old) * n + slice_index old place) * n ^ (length old - (place + 1)) + n ^ (length old - (place + 1)) = omega arith in
-      omega (arith, new, was, one, two, spread, h.zeros, h.full)
-
-  -- where there is none, the place is carried over too
-  pub carried_more : (changed : List ℕ) → changed ≡ set digits place 0 → n ≤ slice_index digits place + 1 → IsCarried n place old changed
-  carried_more changed is high =
-      let digit : slice_index digits place < n = All-from_recursion (λ x. x < n) digits h.below place 0 low in
-      let head : drop place (set digits place 0) ≡ 0 ∷ drop (place + 1) digits = drop-set digits place 0 low in
-      let cons = numeral-cons n 0 (drop (place + 1) digits) in
-      let s : suc place ≡ place + 1 = omega arith in
-      let old_head : drop place old ≡ slice_index old place ∷ drop (place + 1) old = drop_more old place 0 low_old in
-      let old_cons = numeral-cons n (slice_index old place) (drop (place + 1) old) in
-      let old_long : length (drop (place + 1) old) ≡ length old - (place + 1) = length-drop (place + 1) old in
-      let power : n ^ length (drop (place + 1) old) ≡ n ^ (length old - (place + 1)) = ap (λ k. n ^ k) old_long in
-      let more : length old - place ≡ suc (length old - (place + 1)) = (let l = low_old in omega (arith, l)) in
-      let greater : n ^ (length old - place) ≡ n ^ (length old - (place + 1)) * n = ap (λ k. n ^ k) more ∙ pow-suc n (length old - (place + 1)) in
-      let last : slice_index old place + 1 ≡ n = omega (arith, digit, high, entry) in
-      let product : slice_index old place * n ^ length (drop (place + 1) old) ≡ slice_index old place * n ^ (length old - (place + 1)) = ap (λ k. slice_index old place * k) power in
-      let whole : n ^ (length old - (place + 1)) * n ≡ n ^ (length old - (place + 1)) * (slice_index old place + 1) = ap (λ k. n ^ (length old - (place + 1)) * k) (sym last) in
-      let spread : n ^ (length old - (place + 1)) * (slice_index old place + 1) ≡ slice_index old place * n ^ (length old - (place + 1)) + n ^ (length old - (place + 1)) = omega arith in
-      let full_old : numeral n (drop place old) ≡ numeral n (slice_index old place ∷ drop (place + 1) old) = ap (numeral n) old_head in
-      subst (IsCarried n place old) (sym is) (record {
-        within = (let l = low_old in omega (arith, l));
-        count = length-set digits place 0 ∙ h.count;
-        front = take-set-le place digits place 0 (omega arith) ∙ front';
-        zeros = ap (numeral n) head ∙ (let z = h.zeros in let e : 0 * n ^ length (drop (place + 1) digits) ≡ 0 = omega arith in omega (arith, cons, z, e));
-        full = omega (arith, full_old, old_cons, product, h.full, greater, whole, spread);
-        below = recursion_from_All (λ x. x < n) (set digits place 0) (All-set (λ x. x < n) digits place 0 (omega (arith, digit)) (All-from_recursion (λ x. x < n) digits h.below));
-      })
 
 -- ---- an operation of two algebras of one signature
 
@@ -116,14 +44,6 @@ images_more images args list i x before low within is =
 
 -- ---- flaws by the number of their arguments
 
-numeral_zeros : (n k : ℕ) → numeral n (zeros k) ≡ 0
-numeral_zeros n zero = refl
-numeral_zeros n (suc k) = (let cons = numeral-cons n 0 (zeros k) in let rest = numeral_zeros n k in let e : 0 * n ^ length (zeros k) ≡ 0 = omega arith in omega (arith, cons, rest, e))
-
-all_zeros : (n k : ℕ) → 0 < n → AllByRecursion (λ x. x < n) (zeros k)
-all_zeros n zero some = tt
-all_zeros n (suc k) some = (some, all_zeros n k some)
-
 -- the arguments are those of a number, and no flaw of the operation has arguments of a smaller one
 pub record IsAtTuple (a b : FiniteAlgebra) (images : List ℕ) (f count index : ℕ) (args : List ℕ) : Type 0 where
   pub arity : slice_index (arities_of a) f ≡ count
@@ -135,25 +55,15 @@ pub record IsAtTuple (a b : FiniteAlgebra) (images : List ℕ) (f count index : 
 
 pub tuple_first : (a b : FiniteAlgebra) (images : List ℕ) (f count : ℕ) → 0 < a.size → count ≤ 4 → slice_index (arities_of a) f ≡ count → IsAtTuple a b images f count 0 (zeros 4)
 tuple_first a b images f count some few arity =
-    let e : count + (4 - count) ≡ 4 = omega (arith, few) in
-    let cut : zeros 4 ≡ zeros count ++ zeros (4 - count) = ap zeros (sym e) ∙ zeros-add count (4 - count) in
-    let front : take count (zeros 4) ≡ zeros count = ap (take count) cut ∙ take_at (zeros count) (zeros (4 - count)) count (length-zeros count) in
+    let front : take count (zeros 4) ≡ zeros count = take-replicate count 4 0 few in
     record {
       arity = arity;
-      long = ap length front ∙ length-zeros count;
-      unused = ap (drop count) cut ∙ drop_at (zeros count) (zeros (4 - count)) count (length-zeros count);
-      below = subst (AllByRecursion (λ x. x < a.size)) (sym front) (all_zeros a.size count some);
+      long = ap length front ∙ length-replicate count 0;
+      unused = drop-replicate count 4 0;
+      below = subst (AllByRecursion (λ x. x < a.size)) (sym front) (all_replicate (λ x. x < a.size) count 0 some);
       number = λ w. ap (numeral a.size) front ∙ numeral_zeros a.size count;
       none = λ other flaw op_is less. absurd (omega (arith, less));
     }
-  where
-    zeros-add : (i j : ℕ) → zeros (i + j) ≡ zeros i ++ zeros j
-    zeros-add zero j = ap zeros (let e : 0 + j ≡ j = omega arith in e)
-    zeros-add (suc i) j = let e : suc i + j ≡ suc (i + j) = omega arith in ap zeros e ∙ ap (λ (xs : List ℕ). 0 ∷ xs) (zeros-add i j)
-
-    length-zeros : (k : ℕ) → length (zeros k) ≡ k
-    length-zeros zero = refl
-    length-zeros (suc k) = ap suc (length-zeros k)
 
 module _ (a b : FiniteAlgebra) (images : List ℕ) (f count : ℕ) (o : Operation) (alg : IsAlgebra a) (stands : slice_get a.operations f ≡ Some o) (table : IsTable o) where
   -- the arguments of a flaw, and their number

@@ -18,7 +18,7 @@ use Rattle.ua_close.specs.Needed.{rank_at, AreStepsFor}
 use Rattle.ua_close.specs.Memberships.{AreStepsTo}
 use Rattle.ua_close.proofs.MetLaws.{meets_more}
 use Rattle.ua_close.proofs.NeedLaws.{position_is, rank_below, one_rank}
-use Rattle.ua_sub.specs.Homs.{both, two, with_images, vector_at, ClashInOrder, IsFirstClash, IsMap, IsClash, IsListedClash}
+use Rattle.ua_sub.specs.Homs.{both, two, with_images, vector_at, ClashInOrder, IsFirstPairClash, IsMap, IsPairClash, IsListedClash}
 use Rattle.ua_sub.specs.Permitted.{MayMapPairs, MayMap}
 use Rattle.ua_sub.specs.declared.homs.HomError.{HomError}
 use Rattle.ua_sub.specs.declared.homs.HomError.TheVariants.{Signature, Wide, OutOfMemory}
@@ -203,8 +203,8 @@ map_is p gens b rows pairs closed unmet same = record {
     they_clash x y z apart = or_left (list_any (clashes (two (x, y))) (two (x, z) ∷ [])) (has_clash (two (x, z) ∷ [])) (or_left (clashes (two (x, y)) (two (x, z))) false (clash_from (two (x, y)) (two (x, z)) refl apart))
 
 -- of the rows of a clash
-pub clash_is : (p : Product) (gens : List Vector) (rows : List Row) (earlier later : ℕ) (q r : ℕ × ℕ) (first second : StepList) → IsFirstClash rows earlier later → slice_get (vectors_of rows) earlier ≡ Some (two q) → slice_get (vectors_of rows) later ≡ Some (two r) → AreStepsTo p gens (two q) first → AreStepsTo p gens (two r) second → AreStepsFor (arities p) rows earlier first.items → AreStepsFor (arities p) rows later second.items
-    → IsClash p gens q.0 q.1 r.1 first second × IsListedClash (arities p) rows q.0 q.1 r.1 first second
+pub clash_is : (p : Product) (gens : List Vector) (rows : List Row) (earlier later : ℕ) (q r : ℕ × ℕ) (first second : StepList) → IsFirstPairClash rows earlier later → slice_get (vectors_of rows) earlier ≡ Some (two q) → slice_get (vectors_of rows) later ≡ Some (two r) → AreStepsTo p gens (two q) first → AreStepsTo p gens (two r) second → AreStepsFor (arities p) rows earlier first.items → AreStepsFor (arities p) rows later second.items
+    → IsPairClash p gens q.0 q.1 r.1 first second × IsListedClash (arities p) rows q.0 q.1 r.1 first second
 clash_is p gens rows earlier later q r first second clash at_q at_r to_q to_r for_q for_r =
     let q_is : vector_at rows earlier ≡ two q = get_or_from_slice_get (vectors_of rows) earlier (two q) [] at_q in
     let r_is : vector_at rows later ≡ two r = get_or_from_slice_get (vectors_of rows) later (two r) [] at_r in

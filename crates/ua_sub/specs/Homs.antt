@@ -35,7 +35,7 @@ pub record IsMap (p : Product) (gens : List Vector) (b : ℕ) (pairs : List (ℕ
   pub graph : IsGraph p gens
 
 -- steps to two pairs that give x the images y and z, which differ
-pub record IsClash (p : Product) (gens : List Vector) (x y z : ℕ) (first second : StepList) : Type 0 where
+pub record IsPairClash (p : Product) (gens : List Vector) (x y z : ℕ) (first second : StepList) : Type 0 where
   pub apart : y ≢ z
   pub first_steps : AreStepsTo p gens (two (x, y)) first
   pub second_steps : AreStepsTo p gens (two (x, z)) second
@@ -48,7 +48,7 @@ pub record IsExceedingGraph (p : Product) (gens : List Vector) (b : ℕ) (rows :
 -- a map, a clash, or pairs beyond the budget without one
 abbrev pub Maps : Product → List Vector → ℕ → Hom → Type 0
 Maps p gens b (Map pairs) = IsMap p gens b pairs
-Maps p gens b (Clash x y z first second) = IsClash p gens x y z first second
+Maps p gens b (Clash x y z first second) = IsPairClash p gens x y z first second
 Maps p gens b Exceeds = (rows : List Row) × IsExceedingGraph p gens b rows
 
 -- the vector of the row at a position
@@ -63,7 +63,7 @@ pub record ClashInOrder (rows : List Row) (i j : ℕ) : Type 0 where
   pub clash : IsTrue (clashes (vector_at rows i) (vector_at rows j))
 
 -- of all pairs of rows that clash, the one whose later row was found first
-pub record IsFirstClash (rows : List Row) (i j : ℕ) : Type 0 where
+pub record IsFirstPairClash (rows : List Row) (i j : ℕ) : Type 0 where
   pub clash : ClashInOrder rows i j
   pub first : (k l : ℕ) → ClashInOrder rows k l → rank_at rows j ≤ rank_at rows l
 
@@ -71,7 +71,7 @@ pub record IsFirstClash (rows : List Row) (i j : ℕ) : Type 0 where
 pub record IsListedClash (ks : List ℕ) (rows : List Row) (x y z : ℕ) (first second : StepList) : Type 0 where
   pub earlier : ℕ
   pub later : ℕ
-  pub clash : IsFirstClash rows earlier later
+  pub clash : IsFirstPairClash rows earlier later
   pub stands : slice_get (vectors_of rows) earlier ≡ Some (two (x, y))
   pub stands_later : slice_get (vectors_of rows) later ≡ Some (two (x, z))
   pub first_steps : AreStepsFor ks rows earlier first.items
@@ -94,5 +94,5 @@ IsSerialHom p gens b Exceeds = (rows : List Row) × IsExceedingGraph p gens b ro
 -- a clash that is the first of these rows
 abbrev pub IsClashOf : Product → List Vector → List Row → Hom → Type 0
 IsClashOf p gens rows (Map pairs) = ⊥
-IsClashOf p gens rows (Clash x y z first second) = IsClash p gens x y z first second × IsListedClash (arities p) rows x y z first second
+IsClashOf p gens rows (Clash x y z first second) = IsPairClash p gens x y z first second × IsListedClash (arities p) rows x y z first second
 IsClashOf p gens rows Exceeds = ⊥

@@ -1,13 +1,12 @@
 //! Whether a map is a homomorphism, and where it is none.
 
-ghost use Rattle.std.specs.Prelude.{◌≡◌, ◌+◌, ◌^◌, ◌<◌, ◌≤◌, ◌↔◌, length, slice_index, IsOk, IfErr, IfSome, IfNone};
+ghost use Rattle.std.specs.Prelude.{◌≡◌, ◌<◌, ◌↔◌, length, slice_index, IsOk, IfErr, IfSome, IfNone};
 ghost use Rattle.std.specs.List.{AllByRecursion};
-ghost use Rattle.ua_table.specs.declared.limits.TheConstants.{SIZE};
 ghost use Rattle.ua_table.specs.Algebras.{signature, arities_of, numeral};
 ghost use Rattle.ua_sub.specs.Flaws.{images_of, IsHom, IsFirstFlaw};
 ghost use Rattle.ua_sub.specs.Searches.{IsFirstOf, NoFlawOf};
 
-use ua_table::{Algebra, Elem, OpTable};
+use ua_table::{Algebra, Elem, OpTable, next_tuple};
 
 /// Arguments of an operation at which a map does not go with it: the image of the value is not the value at the
 /// images. The places of `args` past the arity hold 0.
@@ -15,22 +14,6 @@ use ua_table::{Algebra, Elem, OpTable};
 pub struct HomFlaw {
     pub op: u32,
     pub args: [Elem; 4],
-}
-
-/// The next tuple of elements below the size, in lexicographic order, and the first one behind the last.
-fn next_tuple(args: &mut [Elem], size: u32)
-    requires small { size ≤ SIZE }
-    requires below { AllByRecursion (λ x. x < size) args.old }
-    ensures next { numeral size args.old + 1 < size ^ length args.old → numeral size args.new ≡ numeral size args.old + 1 }
-    ensures below { AllByRecursion (λ x. x < size) args.new }
-{
-    for place in (0..args.len()).rev() {
-        args[place] += 1;
-        if u32::from(args[place]) < size {
-            return;
-        }
-        args[place] = 0;
-    }
 }
 
 /// The value of an operation at the images of these elements.

@@ -6,7 +6,7 @@ ghost use Rattle.ua_table.specs.Algebras.{Vector, IsVector};
 ghost use Rattle.ua_table.specs.Counting.{EachOnceBelow};
 ghost use Rattle.ua_table.specs.Listings.{vectors_of, ranks_of, IsListing};
 ghost use Rattle.ua_work.specs.Goals.{Meets};
-ghost use Rattle.ua_sub.specs.Homs.{two, with_images, ClashInOrder, IsFirstClash, IsClashOf};
+ghost use Rattle.ua_sub.specs.Homs.{two, with_images, ClashInOrder, IsFirstPairClash, IsClashOf};
 ghost use Rattle.ua_sub.specs.Permitted.{MayMapPairs};
 
 use std::alloc::{AllocError, Global};
@@ -122,7 +122,7 @@ fn first_clash(list: &Listing) -> (u32, u32)
     requires widths { AllByRecursion (λ (v : Vector). length v ≡ 2) (vectors_of list.now) }
     requires ranks { EachOnceBelow (length list.now) (ranks_of list.now) }
     requires met { Meets Goal.Clash (vectors_of list.now) }
-    ensures { IsFirstClash list.now result.0 result.1 }
+    ensures { IsFirstPairClash list.now result.0 result.1 }
 {
     for rank in 0..list.len() {
         let later = list.position(rank);

@@ -7,7 +7,7 @@ ghost use Rattle.ua_table.specs.Generated.{HasMoreThan};
 ghost use Rattle.ua_table.specs.Listings.{Row};
 ghost use Rattle.ua_term.specs.Steps.{StepList};
 ghost use Rattle.ua_sub.specs.Members.{AreMembers};
-ghost use Rattle.ua_sub.specs.Homs.{both, with_images, IsGraph, IsMap, IsClash, IsExceedingGraph};
+ghost use Rattle.ua_sub.specs.Homs.{both, with_images, IsGraph, IsMap, IsPairClash, IsExceedingGraph};
 ghost use Rattle.ua_sub.specs.Extensions.{IsExtension};
 
 use ua_close::laws::memberships;
@@ -26,7 +26,7 @@ pub fn members()
 pub fn answers()
     ensures map { (p : Product) (gens : List Vector) (b : ℕ) (pairs : List (ℕ × ℕ)) → IsMap p gens b pairs → ¬ HasMoreThan p gens b }
     ensures exceeds { (p : Product) (gens : List Vector) (b : ℕ) (rows : List Row) → IsExceedingGraph p gens b rows → HasMoreThan p gens b }
-    ensures clash { (p : Product) (gens : List Vector) (x y z : ℕ) (first second : StepList) → IsClash p gens x y z first second → ¬ IsGraph p gens }
+    ensures clash { (p : Product) (gens : List Vector) (x y z : ℕ) (first second : StepList) → IsPairClash p gens x y z first second → ¬ IsGraph p gens }
 {
     memberships();
 }

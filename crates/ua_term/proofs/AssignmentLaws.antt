@@ -1,12 +1,13 @@
 -- Assignments by their numbers, and the values of terms at all of them.
-use Rattle.std.proofs.Common.{◌≡◌, ℕ, zero, suc, ◌+◌, ◌-◌, ◌*◌, ◌^◌, ◌<◌, List, [], ◌∷◌, length, map, get_or, replicate, refl, sym, ap, ◌∙◌, arith, Some}
+use Rattle.std.proofs.Common.{◌≡◌, ℕ, zero, suc, ◌+◌, ◌-◌, ◌*◌, ◌^◌, ◌<◌, ◌≤◌, List, [], ◌∷◌, length, map, get_or, replicate, refl, sym, ap, ◌∙◌, arith, Some}
 use Rattle.std.specs.Prelude.{Contains, slice_get, slice_index}
 use Rattle.std.specs.List.{AllByRecursion, range_with_len}
-use Rattle.std.proofs.lemmas.List.{ext_get_or, get_or-map, length-map, length-replicate}
+use Rattle.std.proofs.lemmas.List.{ext_get_or, get_or-map, get_or_default, length-map, length-replicate}
 use Rattle.std.proofs.lemmas.List.FromFn.{length-map-range_with_len, get_or-map-range_with_len}
 use Rattle.std.proofs.lemmas.Option.{slice_get-get_or}
 use Rattle.std.proofs.lemmas.Simd.{map-map}
-use Rattle.std.proofs.Math.Nat.{pow-suc, pow-zero}
+use Rattle.std.proofs.Math.Nat.{pow-suc, pow-zero, pow-le-pow_left, pow-le-pow_right}
+use Rattle.ua_table.specs.declared.limits.TheConstants.{SIZE}
 use Rattle.ua_table.specs.Algebras.{Vector, FiniteAlgebra, arities_of, numeral, column}
 use Rattle.ua_table.specs.declared.spans.Span.{Span}
 use Rattle.ua_table.specs.Numbering.{choices}
@@ -67,14 +68,15 @@ pub within_from : (n : ℕ) (xs : List ℕ) → AllByRecursion (λ x. x < n) xs 
 within_from n [] h = tt
 within_from n (x ∷ xs) h = (omega arith, omega (arith, h.0), within_from n xs h.1)
 
-pub within_is : (n k : ℕ) (xs : List ℕ) → IsInSpans (elements n k) xs → IsAssignment n k xs
-within_is n zero [] h = record { count = refl; elements = tt }
-within_is n zero (x ∷ xs) h = absurd h
-within_is n (suc k) [] h = absurd h
-within_is n (suc k) (x ∷ xs) h = let r = within_is n k xs h.2 in record { count = ap suc r.count; elements = (omega (arith, h.1), r.elements) }
-
 pub length_assignments : (n k : ℕ) → length (assignments n k) ≡ n ^ k
 length_assignments n k = ap length (sym (tuples_are n k)) ∙ length_tuples (elements n k) ∙ many_is n k
+
+-- so many elements and variables have no more than the most
+pub few_assignments : (n k most : ℕ) → n ≤ SIZE → k ≤ most → n ^ k ≤ SIZE ^ most
+few_assignments n k most small few =
+    let some : 0 < SIZE = omega arith in
+    let up : SIZE ^ k ≤ SIZE ^ most = pow-le-pow_right some few in
+    omega (arith, pow-le-pow_left small k, up)
 
 pub assignment_below : (n k : ℕ) (xs : List ℕ) → IsAssignment n k xs → numeral n xs < n ^ k
 assignment_below n k xs h = let l = numeral-below n xs h.elements in let e : n ^ length xs ≡ n ^ k = ap (λ m. n ^ m) h.count in omega (arith, l, e)
@@ -125,12 +127,7 @@ value_is_operation a k t h =
     ext_get_or 0 (term_value (power_of_assignments a k) (projections a.size k) t) (term_operation a k t) (long ∙ sym count ∙ sym (length-map (assignments a.size k) (λ xs. eval a xs t))) (λ i l.
     let low : i < a.size ^ k = omega (arith, l, long) in
     let within : i < length (assignments a.size k) = omega (arith, low, count) in
-    let stands = assignment_from a.size k (get_or (assignments a.size k) i []) (i, within, get_or_default (assignments a.size k) i within) in
+    let stands = assignment_from a.size k (get_or (assignments a.size k) i []) (i, within, get_or_default (assignments a.size k) i (get_or (assignments a.size k) i []) [] within) in
     value_is_eval (power_of_assignments a k) (projections a.size k) i a (slice_get-replicate (a.size ^ k) i a low) t
     ∙ ap (λ ys. eval a ys t) (column_is a.size k i within stands.count)
     ∙ sym (get_or-map (λ xs. eval a xs t) (assignments a.size k) i [] 0 within))
-  where
-    get_or_default : (xs : List (List ℕ)) (i : ℕ) → i < length xs → get_or xs i (get_or xs i []) ≡ get_or xs i []
-    get_or_default [] i l = refl
-    get_or_default (x ∷ xs) zero l = refl
-    get_or_default (x ∷ xs) (suc i) l = get_or_default xs i (omega (arith, l))

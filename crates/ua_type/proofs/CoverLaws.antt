@@ -9,23 +9,10 @@ use Rattle.ua_table.proofs.Lists.{all_append}
 use Rattle.ua_close.specs.declared.close.CloseError.{CloseError}
 use Rattle.ua_close.specs.declared.close.CloseError.TheVariants.{Wide, OutOfMemory}
 use Rattle.ua_part.specs.Partitions.{Partition}
-use Rattle.ua_lattice.specs.Lattices.{IsCongruenceList, AreCovers, IsWholeLattice}
-use Rattle.ua_lattice.specs.Places.{at}
+use Rattle.ua_lattice.specs.Lattices.{IsCover, at, AreCovers, IsWholeLattice}
 use Rattle.ua_type.specs.declared.typings.Typed.{Typed}
-use Rattle.ua_type.specs.Quotients.{IsCover}
 use Rattle.ua_type.specs.Permitted.{MayType, MayTypes, places_of, IsRow}
 use Rattle.ua_type.specs.Tables.{MayTable}
-
-pub cover_is : (a : FiniteAlgebra) (list : List Partition) (pairs : List (ℕ × ℕ)) (i j : ℕ) → IsCongruenceList a list → AreCovers list pairs → Contains pairs (i, j) → IsCover a (at list i) (at list j)
-cover_is a list pairs i j all covers c =
-    let h = (covers.all i j).0 c in
-    record {
-      lower = (all.all (at list i)).0 (i, h.0, get_or_default list i (at list i) [] h.0);
-      upper = (all.all (at list j)).0 (j, h.1, get_or_default list j (at list j) [] h.1);
-      below = h.2.below;
-      differ = h.2.differ;
-      next = λ r cr low high apart. h.2.next r ((all.all r).1 cr) low high apart;
-    }
 
 module _ (a : FiniteAlgebra) (budget : ℕ) (list : List Partition) (covers : List (ℕ × ℕ)) (k : ℕ) (rows : List (ℕ × ℕ × Typed)) where
   -- the rows are those of the first k covers
@@ -55,7 +42,7 @@ module _ (a : FiniteAlgebra) (budget : ℕ) (list : List Partition) (covers : Li
 
 -- ---- the covers, by their places
 
-module _ (a : FiniteAlgebra) (list : List Partition) (covers : List (ℕ × ℕ)) (all : IsCongruenceList a list) (are : AreCovers list covers) (k : ℕ) (w : k < length covers) where
+module _ (a : FiniteAlgebra) (list : List Partition) (covers : List (ℕ × ℕ)) (are : AreCovers a list covers) (k : ℕ) (w : k < length covers) where
   abbrev cover : ℕ × ℕ
   cover = get_or covers k (0, 0)
 
@@ -75,7 +62,7 @@ module _ (a : FiniteAlgebra) (list : List Partition) (covers : List (ℕ × ℕ)
   upper_read q read = read ∙ get_or_default list cover.1 q [] upper_within
 
   pub cover_read : (p q : Partition) → p ≡ get_or list cover.0 p → q ≡ get_or list cover.1 q → IsCover a p q
-  cover_read p q p_is q_is = subst (λ r. IsCover a r q) (sym (lower_read p p_is)) (subst (IsCover a (at list cover.0)) (sym (upper_read q q_is)) (cover_is a list covers cover.0 cover.1 all are contained))
+  cover_read p q p_is q_is = subst (λ r. IsCover a r q) (sym (lower_read p p_is)) (subst (IsCover a (at list cover.0)) (sym (upper_read q q_is)) ((are.all cover.0 cover.1).0 contained).2)
 
   pub type_read : (p q : Partition) (budget : ℕ) (r : Result Typed CloseError) → p ≡ get_or list cover.0 p → q ≡ get_or list cover.1 q → MayType a p q budget r → MayType a (at list cover.0) (at list cover.1) budget r
   type_read p q budget r p_is q_is h = subst (λ s. MayType a s (at list cover.1) budget r) (lower_read p p_is) (subst (λ s. MayType a p s budget r) (upper_read q q_is) h)

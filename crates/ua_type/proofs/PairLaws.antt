@@ -12,7 +12,8 @@ use Rattle.ua_close.proofs.KindLaws.{closed_exists}
 use Rattle.ua_part.specs.Partitions.{Partition}
 use Rattle.ua_prod.specs.Congruences.{IsCongruence}
 use Rattle.ua_type.specs.Subtraces.{constants, pair_generators, Generates, IsBefore, HasSubtrace}
-use Rattle.ua_type.specs.Quotients.{IsCover, quotient_by, image_of}
+use Rattle.ua_lattice.specs.Lattices.{IsCover}
+use Rattle.ua_type.specs.Quotients.{quotient_by, image_of}
 use Rattle.ua_type.proofs.Descent.{subtrace_exists}
 use Rattle.ua_type.proofs.QuotientLaws.{quotient-IsAlgebra}
 use Rattle.ua_type.proofs.ImageLaws.{image-IsCongruence, image_differs}

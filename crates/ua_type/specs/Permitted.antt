@@ -5,8 +5,7 @@ use Rattle.ua_table.specs.Algebras.{FiniteAlgebra}
 use Rattle.ua_close.specs.declared.close.CloseError.{CloseError}
 use Rattle.ua_close.specs.declared.close.CloseError.TheVariants.{Wide, OutOfMemory}
 use Rattle.ua_part.specs.Partitions.{Partition}
-use Rattle.ua_lattice.specs.Lattices.{IsWholeLattice, IsExceedingList}
-use Rattle.ua_lattice.specs.Places.{at}
+use Rattle.ua_lattice.specs.Lattices.{IsWholeLattice, IsExceedingList, at}
 use Rattle.ua_type.specs.declared.subtraces.Trace.{Trace}
 use Rattle.ua_type.specs.declared.typings.Typed.{Typed}
 use Rattle.ua_type.specs.declared.tables.Types.{Types}

@@ -1,18 +1,9 @@
--- Covers of congruences, and what they make of a quotient.
-use Rattle.std.specs.Prelude.{◌≡◌, ◌≢◌, ℕ, map, slice_index}
+-- What a congruence and another above it make of a quotient.
+use Rattle.std.specs.Prelude.{ℕ, map, slice_index}
 use Rattle.ua_table.specs.Algebras.{FiniteAlgebra}
-use Rattle.ua_part.specs.Partitions.{Partition, LiesBelow}
+use Rattle.ua_part.specs.Partitions.{Partition}
 use Rattle.ua_part.specs.Blocks.{leaders}
-use Rattle.ua_prod.specs.Congruences.{IsCongruence}
 use Rattle.ua_prod.specs.Constructions.{blocks_below, quotient_of}
-
--- beta covers alpha in the lattice of congruences: it lies above, and no third lies between
-pub record IsCover (a : FiniteAlgebra) (alpha beta : Partition) : Type 0 where
-  pub lower : IsCongruence a alpha
-  pub upper : IsCongruence a beta
-  pub below : LiesBelow alpha beta
-  pub differ : alpha ≢ beta
-  pub next : (r : Partition) → IsCongruence a r → LiesBelow alpha r → LiesBelow r beta → r ≢ alpha → r ≡ beta
 
 -- the quotient by a congruence, under the name of the algebra
 abbrev pub quotient_by : FiniteAlgebra → Partition → FiniteAlgebra

@@ -1,12 +1,10 @@
-//! Laws of covers and of subtraces: each function does nothing, and its contract states them.
+//! The law of covers and of subtraces: the function does nothing, and its contract states it.
 
-ghost use Rattle.std.specs.Prelude.{ℕ, List, Contains};
 ghost use Rattle.ua_table.specs.Algebras.{FiniteAlgebra, IsAlgebra};
 ghost use Rattle.ua_part.specs.Partitions.{Partition};
 ghost use Rattle.ua_prod.specs.Congruences.{IsCongruence};
-ghost use Rattle.ua_lattice.specs.Lattices.{IsCongruenceList, AreCovers};
-ghost use Rattle.ua_lattice.specs.Places.{at};
-ghost use Rattle.ua_type.specs.Quotients.{IsCover, quotient_by, image_of};
+ghost use Rattle.ua_lattice.specs.Lattices.{IsCover};
+ghost use Rattle.ua_type.specs.Quotients.{quotient_by, image_of};
 ghost use Rattle.ua_type.specs.Subtraces.{HasSubtrace};
 
 /// A cover has a subtrace: the upper congruence is one of the quotient by the lower one, where some pair of
@@ -14,9 +12,4 @@ ghost use Rattle.ua_type.specs.Subtraces.{HasSubtrace};
 pub fn subtraces()
     ensures exists { (a : FiniteAlgebra) (alpha beta : Partition) → IsAlgebra a → IsCover a alpha beta → HasSubtrace (quotient_by a alpha) (image_of alpha beta) }
     ensures image { (a : FiniteAlgebra) (alpha beta : Partition) → IsAlgebra a → IsCover a alpha beta → IsCongruence (quotient_by a alpha) (image_of alpha beta) }
-{}
-
-/// What the lattice of congruences gives as covers are covers.
-pub fn covers()
-    ensures { (a : FiniteAlgebra) (list : List Partition) (pairs : List (ℕ × ℕ)) (i j : ℕ) → IsCongruenceList a list → AreCovers list pairs → Contains pairs (i, j) → IsCover a (at list i) (at list j) }
 {}

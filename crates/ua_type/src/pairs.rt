@@ -47,8 +47,6 @@ pub fn generated<R: Threads + Sync, G: Gate>(
     requires second { y < b.now.size }
     ensures { MayClose (replicate 2 b.now) (pair_generators b.now x y) run.now.budget run.now.workers result }
 {
-    // The size of an algebra is within its limit.
-    let _size = b.size();
     let Ok(frame) = Frame::power(b, 2) else {
         unreachable!()
     };
@@ -71,8 +69,6 @@ pub fn sought<R: Threads + Sync, G: Gate>(
     requires goal { IsGoal (replicate 2 b.now) goal.now }
     ensures { MayReach (replicate 2 b.now) (pair_generators b.now x y) goal.now run.now.budget run.now.workers result }
 {
-    // The size of an algebra is within its limit.
-    let _size = b.size();
     let Ok(frame) = Frame::power(b, 2) else {
         unreachable!()
     };

@@ -1,17 +1,17 @@
 //! Quotients by the lower of two congruences, with the upper one as a congruence of the quotient.
 
-ghost use Rattle.std.specs.Prelude.{◌≡◌, ◌<◌, ◌≤◌, ◌==◌, [], ◌∷◌, ◌++◌, length, map, slice_index, if◌then◌else◌, IfOk, OnOk};
+ghost use Rattle.std.specs.Prelude.{◌≡◌, ◌<◌, ◌≤◌, length, map, slice_index, IfOk};
 ghost use Rattle.std.specs.List.{AllByRecursion};
 ghost use Rattle.ua_table.specs.declared.limits.TheConstants.{SIZE};
 ghost use Rattle.ua_part.specs.Partitions.{IsByLabels};
-ghost use Rattle.ua_part.specs.Blocks.{leaders};
 ghost use Rattle.ua_prod.specs.Congruences.{IsCongruence};
-ghost use Rattle.ua_type.specs.Quotients.{IsCover, quotient_by};
+ghost use Rattle.ua_lattice.specs.Lattices.{IsCover};
+ghost use Rattle.ua_type.specs.Quotients.{quotient_by};
 ghost use Rattle.ua_type.specs.Images.{IsQuotientOf};
 
 use std::alloc::{AllocError, Global};
 use ua_part::Part;
-use ua_prod::{ProdError, quotient};
+use ua_prod::{ProdError, Renumbering, by_blocks, quotient};
 use ua_table::{Algebra, Elem};
 
 /// The quotient by a congruence, another congruence as one of the quotient, and the least member of each block.
@@ -32,31 +32,6 @@ fn quotient_by(alloc: Global, a: &Algebra, p: &Part) -> Result<Algebra, AllocErr
         Err(ProdError::NotCongruence(_)) => unreachable!(),
         Err(_) => Err(AllocError),
     }
-}
-
-/// Appends an element, if it is the least of its block.
-fn push_leader(list: &mut Vec<Elem>, p: &Part, a: u32) -> Result<(), AllocError>
-    requires within { a < length p.now }
-    requires few { length p.now ≤ SIZE }
-    ensures { OnOk result (list.new.items ≡ list.old.items ++ (if slice_index p.now a == a then a ∷ [] else [])) }
-{
-    if p.rep(a) != a {
-        return Ok(());
-    }
-    list.push(a as Elem)?;
-    Ok(())
-}
-
-/// The least members of the blocks, ascending.
-fn leaders_of(alloc: Global, p: &Part) -> Result<Vec<Elem>, AllocError>
-    requires { length p.now ≤ SIZE }
-    ensures { IfOk result (λ list. list.items ≡ leaders p.now) }
-{
-    let mut list = Vec::new(alloc);
-    for a in 0..p.size() {
-        push_leader(&mut list, p, a)?;
-    }
-    Ok(list)
 }
 
 /// The partition of the places of a list of elements that relates those whose elements are related.
@@ -85,7 +60,10 @@ pub fn quotient_of(
     // The size of an algebra is within its limit.
     let _size = a.size();
     let algebra = quotient_by(alloc, a, lower)?;
-    let leaders = leaders_of(alloc, lower)?;
+    let Renumbering {
+        members: leaders,
+        numbers: _,
+    } = by_blocks(alloc, lower)?;
     let theta = related_places(alloc, upper, leaders.as_slice())?;
     Ok(Quotient {
         algebra,

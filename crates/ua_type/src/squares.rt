@@ -66,8 +66,6 @@ pub fn type_of_subtrace<R: Threads + Sync, G: Gate>(
     requires swap { IsTrue pair.swap ↔ Generates b.now pair.low pair.high pair.high pair.low }
     ensures { MayHaveType b.now run.now.budget pair.low pair.high result }
 {
-    // The size of an algebra is within its limit.
-    let _size = b.size();
     let Ok(frame) = Frame::power(b, 4) else {
         unreachable!()
     };

@@ -1,7 +1,7 @@
 //! The types of all covers.
 
 ghost use Rattle.std.specs.Prelude.{◌≡◌, [], ◌∷◌, ◌++◌, OnOk};
-ghost use Rattle.ua_lattice.specs.Lattices.{IsCongruenceList, AreCovers};
+ghost use Rattle.ua_lattice.specs.Lattices.{AreCovers};
 ghost use Rattle.ua_type.specs.Tables.{MayTable};
 
 use crate::typings::{Typed, type_of};
@@ -38,8 +38,7 @@ pub fn table_of<R: Threads + Sync, G: Gate>(
     covers: &[(u32, u32)],
     run: &Run<G>,
 ) -> Result<Vec<(u32, u32, Typed)>, CloseError>
-    requires list { IsCongruenceList a.now list.now }
-    requires covers { AreCovers list.now covers.now }
+    requires { AreCovers a.now list.now covers.now }
     ensures { MayTable a.now run.now.budget list.now covers.now result }
 {
     let mut rows = Vec::with_capacity(alloc, covers.len())?;

@@ -1,6 +1,6 @@
 //! The type of a cover.
 
-ghost use Rattle.ua_type.specs.Quotients.{IsCover};
+ghost use Rattle.ua_lattice.specs.Lattices.{IsCover};
 ghost use Rattle.ua_type.specs.Permitted.{MayType};
 
 use crate::quotients::quotient_of;

@@ -1,7 +1,7 @@
 //! The first subtraces and the types of single covers.
 
 ghost use Rattle.std.specs.Prelude.{◌<◌, length};
-ghost use Rattle.ua_lattice.specs.Lattices.{IsCongruenceList, AreCovers};
+ghost use Rattle.ua_lattice.specs.Lattices.{AreCovers};
 
 use crate::given::algebra;
 use std::alloc::Global;
@@ -12,7 +12,7 @@ use ua_close::{FreeGate, Run};
 use ua_lattice::{Lattice, congruences};
 use ua_part::Part;
 use ua_table::Algebra;
-use ua_type::{Trace, Typed, laws, subtrace, type_of};
+use ua_type::{Trace, Typed, subtrace, type_of};
 
 /// The first subtrace of a cover and its type, as digits, or an `e` where it is not found.
 fn put_cover<R: Threads + Sync>(
@@ -25,11 +25,9 @@ fn put_cover<R: Threads + Sync>(
     budget: u32,
     text: &mut Vec<u8>,
 ) -> Result<(), Fail>
-    requires list { IsCongruenceList a.now list.now }
-    requires covers { AreCovers list.now covers.now }
+    requires covers { AreCovers a.now list.now covers.now }
     requires within { k < length covers.now }
 {
-    laws::covers();
     let run = Run::new(budget, 2, &FreeGate).ok_or("a number out of its limits")?;
     let (i, j) = covers[k];
     let (lower, upper) = (&list[i as usize], &list[j as usize]);

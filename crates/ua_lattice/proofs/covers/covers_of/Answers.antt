@@ -9,7 +9,7 @@ use Rattle.ua_lattice.proofs.PairLaws.{covers_none, covers_more, covers_all}
 use Rattle.ua_lattice.proofs.covers.covers_of.Goals as goal
 
 pub loop-i-init : goal.loop-i-init
-loop-i-init c = record { covers = covers_none c.args.list.now c.new-covers.result.items c.new-covers.ensures.items; joiner = c.in_ok-rows.ensures.joiner }
+loop-i-init c = record { covers = covers_none c.args.algebra.now c.args.list.now c.new-covers.result.items c.new-covers.ensures.items; joiner = c.in_ok-rows.ensures.joiner }
 
 pub joins_above-requires-clause-joins : goal.joins_above-requires-clause-joins
 joins_above-requires-clause-joins c =
@@ -48,11 +48,11 @@ loop-i-preserved c =
     let upper = upper_covers a generators list c.requires.list c.requires.spanned i within places h least l in
     let new = c.in_ok-push_pairs.ensures ∙ ap (λ (js : List ℕ). c.loop-i.covers.items ++ pairs_from i js) c.as_slice-in-loop-i.ensures.value in
     record {
-      covers = subst (AreCoversOfFirst list (i + 1)) (sym new) (covers_more list i c.loop-i.covers.items least c.loop-i.invariant.covers upper);
+      covers = subst (AreCoversOfFirst a list (i + 1)) (sym new) (covers_more a list i c.loop-i.covers.items least c.loop-i.invariant.covers upper);
       joiner = c.in_ok-joins_above.ensures.joiner ∙ c.loop-i.invariant.joiner;
     }
 
 pub returns : goal.returns
 returns c =
     let all : length c.args.list.now ≡ c.loop-i.i = (let rows = ap length c.in_ok-rows.ensures.rows in let end = c.len-i-end.ensures.len in omega arith) in
-    covers_all c.args.list.now c.loop-i.i c.loop-i.covers.items all c.loop-i.invariant.covers
+    covers_all c.args.algebra.now c.args.list.now c.loop-i.i c.loop-i.covers.items all c.loop-i.invariant.covers

@@ -4,7 +4,7 @@ use Rattle.std.proofs.lemmas.Bool.{iff_false}
 use Rattle.std.proofs.lemmas.Option.{get_or_from_slice_get, slice_get_within}
 use Rattle.std.proofs.lemmas.List.Elements.{Contains-get_or}
 use Rattle.ua_part.specs.Partitions.{Partition, IsPartition, LiesBelow, IsJoin}
-use Rattle.ua_lattice.specs.Places.{at}
+use Rattle.ua_lattice.specs.Lattices.{at}
 use Rattle.ua_lattice.proofs.CoverLaws.{joins_equal, none_pushed, one_pushed}
 use Rattle.ua_lattice.proofs.covers.push_join.Goals as goal
 

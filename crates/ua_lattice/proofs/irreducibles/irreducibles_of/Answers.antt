@@ -1,7 +1,7 @@
 use Rattle.std.proofs.Common.{◌≡◌, ◌+◌, ◌<◌, ◌∙◌, ℕ, List, Vec, Global, length, get_or, sym, ap, arith, subst}
 use Rattle.std.specs.List.{AllByRecursion}
 use Rattle.std.proofs.lemmas.List.FromFn.{length-map-range_with_len, get_or-map-range_with_len}
-use Rattle.ua_lattice.specs.Places.{lower_covers}
+use Rattle.ua_lattice.specs.Lattices.{lower_covers}
 use Rattle.ua_lattice.proofs.CountLaws.{AreIrreducibleOfFirst, irreducible_yes, irreducible_no, irreducible_all}
 use Rattle.ua_lattice.proofs.irreducibles.irreducibles_of.Goals as goal
 use Rattle.ua_lattice.proofs.irreducibles.irreducibles_of.Goals.{then-index-eq1+in_ok-push, else-index-eq1}

@@ -27,4 +27,4 @@ returns-clause-entered c =
     let join = c.as_slice.result.now in
     let row : q ≡ c.row-row.result.now = get_or_from_slice_get old c.args.i c.row-row.result.now [] c.row-row.ensures.row in
     let is : IsJoin q p join = subst (λ (r : Partition). IsJoin r p join) (sym row) (subst (IsJoin c.row-row.result.now p) (sym c.as_slice.ensures.value) c.join.ensures.join) in
-    join_entered old q p join c.enter.new.rows.items is c.in_ok-enter.ensures.entered
+    join_entered old q p join c.enter.new.self.items is c.in_ok-enter.ensures.entered

@@ -50,9 +50,9 @@ pub irreducibles_of-requires-clause-within : goal.irreducibles_of-requires-claus
 irreducibles_of-requires-clause-within g c =
     let list = c.in_ok-list.list.items in
     let covers = c.in_ok-covers.covers.items in
-    let h = subst (λ (ps : List Partition). AreCovers ps covers) c.as_slice-2.ensures.value c.in_ok-covers.ensures in
+    let h = subst (λ (ps : List Partition). AreCovers c.args.a.now ps covers) c.as_slice-2.ensures.value c.in_ok-covers.ensures in
     let n : length list ≡ c.len.result = (let l = c.len.ensures in let k = c.in_ok-list.list.ok.0 in omega (arith, l, k)) in
-    subst (λ (ps : List (ℕ × ℕ)). AllByRecursion (λ (pair : ℕ × ℕ). pair.1 < c.len.result) ps) (sym c.as_slice-3.ensures.value) (subst (λ m. AllByRecursion (λ (pair : ℕ × ℕ). pair.1 < m) covers) n (covers_within list covers h))
+    subst (λ (ps : List (ℕ × ℕ)). AllByRecursion (λ (pair : ℕ × ℕ). pair.1 < c.len.result) ps) (sym c.as_slice-3.ensures.value) (subst (λ m. AllByRecursion (λ (pair : ℕ × ℕ). pair.1 < m) covers) n (covers_within c.args.a.now list covers h))
 
 pub irreducibles_of-requires-clause-count : goal.irreducibles_of-requires-clause-count
 irreducibles_of-requires-clause-count g c =
@@ -77,6 +77,6 @@ returns g c =
     record {
       all_of_them = congruence_list rows list c.in_ok-list.ensures a c.take_in_all.new.found.generators.items (c.in_ok-whole.ensures.found whole) c.in_ok-parts.parts.items c.in_ok-parts.ensures.all parts;
       within = omega (arith, long, few);
-      covering = subst (λ (ps : List Partition). AreCovers ps covers) c.as_slice-2.ensures.value c.in_ok-covers.ensures;
+      covering = subst (λ (ps : List Partition). AreCovers a ps covers) c.as_slice-2.ensures.value c.in_ok-covers.ensures;
       irreducible = subst (λ (ps : List (ℕ × ℕ)). AreIrreducible ps irreducibles) c.as_slice-3.ensures.value c.in_ok-irreducibles.ensures;
     }

@@ -4,7 +4,7 @@ use Rattle.std.proofs.lemmas.Bool.{false≢true, iff_false}
 use Rattle.std.proofs.lemmas.List.Elements.{All-from_recursion}
 use Rattle.std.proofs.lemmas.List.{get_or_default}
 use Rattle.ua_part.specs.Partitions.{Partition, LiesBelow}
-use Rattle.ua_lattice.specs.Places.{at}
+use Rattle.ua_lattice.specs.Lattices.{at}
 use Rattle.ua_lattice.proofs.LeastLaws.{place_of}
 use Rattle.ua_lattice.proofs.least.lies_above_one.Goals as goal
 

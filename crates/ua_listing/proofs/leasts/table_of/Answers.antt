@@ -7,7 +7,7 @@ use Rattle.ua_table.specs.Algebras.{Vector, FiniteAlgebra, Product, IsProduct, I
 use Rattle.ua_table.specs.Numbering.{IsShape, Fits}
 use Rattle.ua_table.proofs.SliceLaws.{bound_laws}
 use Rattle.ua_listing.specs.Leasts.{IsClosedWithin}
-use Rattle.ua_listing.specs.Searches.{IsTable}
+use Rattle.ua_listing.specs.Searches.{IsRowTable}
 use Rattle.ua_listing.specs.declared.searches.Table.{Table}
 use Rattle.ua_table.specs.Counting.{EachOnceBelow, numbers_below}
 use Rattle.ua_table.specs.Listings.{Row, vectors_of}
@@ -40,7 +40,7 @@ module _ (p : Product) (gens : List Vector) (old : List Row) (closed : IsClosedW
   rows_low : length t.rows.items ≤ closed.budget
   rows_low = let e = ap (length {A = Vector}) rows in let n = length-map old (λ (r : Row). r.vector) in let w = closed.closed.within in omega (arith, e, n, w)
 
-  table_is : IsTable t
+  table_is : IsRowTable t
   table_is = record {
     product = subst IsProduct (sym operations) product;
     shape = shape ∙ ap arities (sym operations);

@@ -8,13 +8,13 @@ use Rattle.ua_table.specs.Slices.{bound}
 use Rattle.ua_table.proofs.SliceLaws.{bound_laws}
 use Rattle.ua_listing.specs.declared.searches.Search.{Search}
 use Rattle.ua_listing.specs.declared.searches.Table.{Table}
-use Rattle.ua_listing.specs.Searches.{height_in, height_number, IsTable, IsSearchOf, GoesOnTo}
+use Rattle.ua_listing.specs.Searches.{height_in, height_number, IsRowTable, IsSearchOf, GoesOnTo}
 use Rattle.ua_listing.proofs.MarkLaws.{marked_below}
 use Rattle.ua_table.proofs.Members.{member_at}
 use Rattle.ua_listing.proofs.VisitLaws.{order_few, height_kept, top_of, goes_on_start, goes_on_chain, slices_more}
 use Rattle.ua_listing.proofs.leasts.visit_row.Goals as goal
 
-module _ (t : Table) (s : Search) (m : ℕ) (table : IsTable t) (is : IsSearchOf t s) (row : m < length s.order.items) where
+module _ (t : Table) (s : Search) (m : ℕ) (table : IsRowTable t) (is : IsSearchOf t s) (row : m < length s.order.items) where
   few : m + 1 ≤ length t.rows.items
   few = let n = order_few t.operations t.gens.now.items t.rows.items s is in omega (arith, n, row)
 

@@ -65,13 +65,13 @@ loop-value-preserved c =
     let table = c.arity.ensures.table in
     let k = c.from-count.result in
     let old = take c.from-count.result c.loop-value.args in
-    let new = c.next_tuple.new.args in
+    let new = c.next_tuple.new.xs in
     let within : c.loop-value.value-index < length o.values = omega (arith, c.loop-value-test.true, ap length c.values-value-items.ensures.values) in
     let value = ap (λ vs. slice_index vs c.loop-value.value-index) c.values-value-items.ensures.values in
     let goes = goes_here a b c.args.images.now c.args.op k o alg.algebra stands table c.loop-value.value-index c.loop-value.args c.loop-value.invariant within c.op-other.result.now c.op-other.ensures.algebra.algebra c.op-other.ensures.operation c.from.result c.value_at_images.result (c.from.ensures ∙ value) c.value_at_images.ensures in
     let same : c.size.result ≡ a.size = c.size.ensures.size ∙ size_is a c.args.op o alg.algebra stands in
-    let long : length c.next_tuple.new.args ≡ c.from-count.result = c.next_tuple.auto.args ∙ c.loop-value.invariant.long in
-    let front : take c.from-count.result (c.next_tuple.new.args ++ drop c.from-count.result c.loop-value.args) ≡ c.next_tuple.new.args = take_at new (drop k c.loop-value.args) k long in
+    let long : length c.next_tuple.new.xs ≡ c.from-count.result = c.next_tuple.auto.xs ∙ c.loop-value.invariant.long in
+    let front : take c.from-count.result (c.next_tuple.new.xs ++ drop c.from-count.result c.loop-value.args) ≡ c.next_tuple.new.xs = take_at new (drop k c.loop-value.args) k long in
     tuple_more a b c.args.images.now c.args.op k o alg.algebra stands table c.loop-value.value-index c.loop-value.args c.loop-value.invariant within _ (goes.1 c.if-images-from.false)
     (ap length front ∙ long)
     (drop_at new (drop k c.loop-value.args) k long)

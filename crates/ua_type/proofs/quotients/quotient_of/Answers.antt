@@ -16,7 +16,7 @@ related_places-requires-clause-elements c =
     let p = c.args.lower.now in
     let q = c.args.upper.now in
     let n : length p ≡ length q = c.requires.lower.size ∙ sym c.requires.upper.size in
-    subst (AllByRecursion (λ x. x < length q)) (sym (c.as_slice.ensures.value ∙ c.in_ok-leaders.ensures)) (subst (λ m. AllByRecursion (λ x. x < m) (leaders p)) n (all_leaders_below p))
+    subst (AllByRecursion (λ x. x < length q)) (sym (c.as_slice.ensures.value ∙ c.in_ok-leaders.ensures.members)) (subst (λ m. AllByRecursion (λ x. x < m) (leaders p)) n (all_leaders_below p))
 
 pub returns : goal.returns
 returns c =
@@ -25,12 +25,12 @@ returns c =
     let q = c.args.upper.now in
     let h = c.requires in
     let labels = map (slice_index q) (leaders p) in
-    let made : IsByLabels labels c.in_ok-theta.theta = subst (λ (ls : List ℕ). IsByLabels (map (slice_index q) ls) c.in_ok-theta.theta) (c.as_slice.ensures.value ∙ c.in_ok-leaders.ensures) c.in_ok-theta.ensures in
+    let made : IsByLabels labels c.in_ok-theta.theta = subst (λ (ls : List ℕ). IsByLabels (map (slice_index q) ls) c.in_ok-theta.theta) (c.as_slice.ensures.value ∙ c.in_ok-leaders.ensures.members) c.in_ok-theta.ensures in
     let is : c.in_ok-theta.theta ≡ image_of p q = one_partition labels c.in_ok-theta.theta (image_of p q) made (image-IsByLabels a p q h.lower h.upper h.below) in
     record {
       algebra_is = c.in_ok-algebra.ensures;
       theta_is = is;
-      leaders_are = c.in_ok-leaders.ensures;
+      leaders_are = c.in_ok-leaders.ensures.members;
       congruence = subst (λ b. IsCongruence b c.in_ok-theta.theta) (sym c.in_ok-algebra.ensures) (subst (IsCongruence (quotient_by a p)) (sym is) (image-IsCongruence a p q c.size-size.ensures.algebra.algebra h.lower h.upper h.below));
       relates_two = subst RelatesTwo (sym is) (image_differs a p q h.lower h.upper h.below h.differ);
     }

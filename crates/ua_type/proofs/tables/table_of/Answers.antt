@@ -5,13 +5,13 @@ use Rattle.ua_type.proofs.CoverLaws.{row_more, refused_here, lower_within, upper
 use Rattle.ua_type.proofs.tables.table_of.Goals as goal
 
 pub bounds-list-i : goal.bounds-list-i
-bounds-list-i g c = lower_within c.args.a.now c.args.list.now c.args.covers.now c.requires.list c.requires.covers c.loop-k.k (omega (arith, c.loop-k-test.true))
+bounds-list-i g c = lower_within c.args.a.now c.args.list.now c.args.covers.now c.requires c.loop-k.k (omega (arith, c.loop-k-test.true))
 
 pub bounds-list-j : goal.bounds-list-j
-bounds-list-j g c = upper_within c.args.a.now c.args.list.now c.args.covers.now c.requires.list c.requires.covers c.loop-k.k (omega (arith, c.loop-k-test.true))
+bounds-list-j g c = upper_within c.args.a.now c.args.list.now c.args.covers.now c.requires c.loop-k.k (omega (arith, c.loop-k-test.true))
 
 pub type_of-requires-after_bounds : goal.type_of-requires-after_bounds
-type_of-requires-after_bounds g c _ _ = cover_read c.args.a.now c.args.list.now c.args.covers.now c.requires.list c.requires.covers c.loop-k.k (omega (arith, c.loop-k-test.true)) c.index-list-i.result c.index-list-j.result c.index-list-i.is c.index-list-j.is
+type_of-requires-after_bounds g c _ _ = cover_read c.args.a.now c.args.list.now c.args.covers.now c.requires c.loop-k.k (omega (arith, c.loop-k-test.true)) c.index-list-i.result c.index-list-j.result c.index-list-i.is c.index-list-j.is
 
 pub returns-in_err-typed : goal.returns-in_err-typed
 returns-in_err-typed g c =
@@ -24,7 +24,7 @@ returns-in_err-typed g c =
     let e = c.in_err-typed.field-0.0 in
     let p = err_from_is_err_and c.from_residual-in_err-typed.result c.from_residual-in_err-typed.ensures.1 in
     rw (p.1, p.2) (refused_here a budget list covers k c.loop-k.rows.items (get_or covers k (0, 0)) w refl c.loop-k.invariant e
-    (type_read a list covers c.requires.list c.requires.covers k w c.index-list-i.result c.index-list-j.result budget (Err e) c.index-list-i.is c.index-list-j.is c.in_err-typed.ensures.permitted))
+    (type_read a list covers c.requires k w c.index-list-i.result c.index-list-j.result budget (Err e) c.index-list-i.is c.index-list-j.is c.in_err-typed.ensures.permitted))
 
 pub loop-k-preserved : goal.loop-k-preserved
 loop-k-preserved g c =
@@ -35,4 +35,4 @@ loop-k-preserved g c =
     let k = c.loop-k.k in
     let w : c.loop-k.k < length c.args.covers.now = omega (arith, c.loop-k-test.true) in
     row_more a budget list covers k c.loop-k.rows.items (get_or covers k (0, 0)) w refl c.loop-k.invariant c.push_row.new.rows.items c.in_ok-typed.typed c.in_ok-push_row.ensures
-    (type_read a list covers c.requires.list c.requires.covers k w c.index-list-i.result c.index-list-j.result budget (Ok c.in_ok-typed.typed) c.index-list-i.is c.index-list-j.is c.in_ok-typed.ensures.permitted)
+    (type_read a list covers c.requires k w c.index-list-i.result c.index-list-j.result budget (Ok c.in_ok-typed.typed) c.index-list-i.is c.index-list-j.is c.in_ok-typed.ensures.permitted)

@@ -53,7 +53,7 @@ returns c =
     let w = ap (λ (v : QuadVectors). v.width) c.self.view_is in
     let low : i < here.count = (let r = c.requires.vector in omega (arith, r, n, same)) in
     let within : x < here.width = (let r = c.requires.coordinate in omega (arith, r, w)) in
-    ap (λ (ls : List ℕ). slice_index ls (x % 4)) (c.entries_of.ensures ∙ ap lanes_of (c.word_in-word.ensures ∙ ap (λ (ks : List ℕ). slice_index ks (i * here.words + x / 4)) c.as_slice.ensures.value))
+    ap (λ (ls : List ℕ). slice_index ls (x % 4)) (c.elements_of.ensures ∙ ap lanes_of (c.word_in-word.ensures ∙ ap (λ (ks : List ℕ). slice_index ks (i * here.words + x / 4)) c.as_slice.ensures.value))
     ∙ ap (λ m. quad_entry here.keys.items m i x) c.self.invariant.words_are
     ∙ sym (entry_at here.width here.keys.items here.count i x low within)
     ∙ ap (λ (v : QuadVectors). slice_index (slice_index_or v.items i []) x) c.self.view_is

@@ -8,7 +8,7 @@ use Rattle.ua_listing.specs.declared.searches.Search.{Search}
 use Rattle.ua_listing.specs.declared.searches.Table.{Table}
 use Rattle.ua_table.specs.declared.origins.Origin.{Origin}
 use Rattle.ua_table.specs.declared.origins.Origin.TheVariants.{Gen}
-use Rattle.ua_listing.specs.Searches.{IsMarked, height_in, origin_in, IsBefore, IsTable, IsTop, IsSearchOf, MayVisitIn, HasReachedIn}
+use Rattle.ua_listing.specs.Searches.{IsMarked, height_in, origin_in, IsBefore, IsRowTable, IsTop, IsSearchOf, MayVisitIn, HasReachedIn}
 use Rattle.ua_listing.proofs.MarkLaws.{mark_is}
 use Rattle.ua_listing.proofs.SearchLaws.{entered, improved, stays}
 use Rattle.ua_listing.proofs.searches.Search.reach.Goals as goal
@@ -47,7 +47,7 @@ height_read s q x h e = get_or_default s.heights.items q 0 x h ∙ sym e
 origin_read : (s : Search) (q : ℕ) (o : Origin) → q < length s.origins.items → o ≡ get_or s.origins.items q o → origin_in s q ≡ o
 origin_read s q o h e = get_or_default s.origins.items q (Gen 0) o h ∙ sym e
 
-module _ (t : Table) (s : Search) (q h : ℕ) (o : Origin) (table : IsTable t) (is : IsSearchOf t s) (top : IsTop s h) (may : MayVisitIn t s h o) (row : slice_get t.rows.items q ≡ Some (origin_value t.operations t.gens.now.items t.rows.items o))
+module _ (t : Table) (s : Search) (q h : ℕ) (o : Origin) (table : IsRowTable t) (is : IsSearchOf t s) (top : IsTop s h) (may : MayVisitIn t s h o) (row : slice_get t.rows.items q ≡ Some (origin_value t.operations t.gens.now.items t.rows.items o))
     (index : Bool) (index_is : index ≡ get_or s.reached.items q index) (marked : index ≡ true) where
   low : q < length t.rows.items
   low = slice_get_within t.rows.items q (origin_value t.operations t.gens.now.items t.rows.items o) row
