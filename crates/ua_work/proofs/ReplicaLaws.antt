@@ -4,10 +4,10 @@ use Rattle.std.specs.Prelude.{Contains, slice_index, IsTrue, IfSome, IfNone, sli
 use Rattle.std.specs.List.{AllByRecursion}
 use Rattle.std.specs.declared.alloc.Global.{Global}
 use Rattle.std.proofs.lemmas.Option.{slice_get_within, get_or_from_slice_get}
-use Rattle.ua_table.specs.Algebras.{Vector, IsVector, arities, apply}
+use Rattle.ua_table.specs.Algebras.{Vector, FiniteAlgebra, IsVector, arities, apply}
 use Rattle.ua_table.specs.declared.origins.Origin.{Origin}
 use Rattle.ua_table.specs.declared.origins.Origin.TheVariants.{Gen, Op}
-use Rattle.ua_table.proofs.Lists.{found, All-slice_get, all_append, Contains-slice_get}
+use Rattle.ua_table.proofs.Lists.{AllZip-length, found, All-slice_get, all_append, Contains-slice_get}
 use Rattle.ua_rows.specs.RowLists.{RowList, rows_at}
 use Rattle.ua_rows.proofs.OperationLaws.{applied_vector}
 use Rattle.ua_rows.proofs.AppliedLaws.{contains_by}
@@ -98,6 +98,10 @@ value_vector r (Op f args) replica h =
     let places = take (slice_index (arities r.operations) f) args in
     applied_vector r.operations f (values_in r) places (value_in r (Op f args)) replica.product h.operation h.count (value_vectors r replica)
     (subst (λ n. AllByRecursion (λ a. a < n) places) (sym (length-rows_at r.rows.items r.places.items)) h.earlier) refl
+
+-- and has its width
+pub value_long : (r : Replica) (o : Origin) → IsReplica r → IsOriginIn r o → length (value_in r o) ≡ length r.operations
+value_long r o replica h = sym (AllZip-length (λ (a : FiniteAlgebra) x. x < a.size) r.operations (value_in r o) (value_vector r o replica h))
 
 all_new : (P : Vector → Type 0) (rows : List Vector) (v : Vector) → AllByRecursion P rows → P v → AllByRecursion P (with_new rows v)
 all_new P rows v all h = ⊎_elim

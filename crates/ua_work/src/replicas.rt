@@ -192,21 +192,42 @@ impl<'a> Replica<'a> {
         self.has_scratch()
     }
 
-    /// Whether the value of a unary operation at a record is the value of a record. If it is none, the scratch
-    /// has it. It takes no memory.
+    /// Writes the value of a unary operation at a record into the scratch. It is copied where it was computed
+    /// before, and is given. It takes no memory.
     #[inline(always)]
-    pub(crate) fn has_unary(&mut self, op: u32, a: u32) -> bool
+    fn apply_unary(&mut self, op: u32, a: u32, value: Option<&Scratch>)
         requires replica { IsReplica self.old }
         requires unary { slice_index (arities self.old.operations) op ≡ 1 }
         requires origin { IsOriginIn self.old (Op op (a ∷ 0 ∷ 0 ∷ 0 ∷ [])) }
+        requires value { IfSome value (λ v. v.now ≡ value_in self.old (Op op (a ∷ 0 ∷ 0 ∷ 0 ∷ []))) }
+        ensures replica { IsReplica self.new }
+        ensures same { self.new ≡ record self.old { scratch = self.new.scratch } }
+        ensures value { self.new.scratch ≡ value_in self.old (Op op (a ∷ 0 ∷ 0 ∷ 0 ∷ [])) }
+    {
+        match value {
+            Some(value) => self.scratch.copy_scratch(value),
+            None => {
+                let row = self.places[a as usize];
+                self.operations
+                    .apply(op, &self.rows, &[row], &mut self.scratch);
+            }
+        }
+    }
+
+    /// Whether the value of a unary operation at a record, which is given where it was computed before, is the
+    /// value of a record. If it is none, the scratch has it. It takes no memory.
+    #[inline(always)]
+    pub(crate) fn has_unary(&mut self, op: u32, a: u32, value: Option<&Scratch>) -> bool
+        requires replica { IsReplica self.old }
+        requires unary { slice_index (arities self.old.operations) op ≡ 1 }
+        requires origin { IsOriginIn self.old (Op op (a ∷ 0 ∷ 0 ∷ 0 ∷ [])) }
+        requires value { IfSome value (λ v. v.now ≡ value_in self.old (Op op (a ∷ 0 ∷ 0 ∷ 0 ∷ []))) }
         ensures replica { IsReplica self.new }
         ensures same { self.new ≡ record self.old { scratch = self.new.scratch } }
         ensures value { self.new.scratch ≡ value_in self.old (Op op (a ∷ 0 ∷ 0 ∷ 0 ∷ [])) }
         ensures has { IsTrue result ↔ Contains (values_in self.old) (value_in self.old (Op op (a ∷ 0 ∷ 0 ∷ 0 ∷ []))) }
     {
-        let row = self.places[a as usize];
-        self.operations
-            .apply(op, &self.rows, &[row], &mut self.scratch);
+        self.apply_unary(op, a, value);
         self.has_scratch()
     }
 

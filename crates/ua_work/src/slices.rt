@@ -1,6 +1,6 @@
 //! Settles the tuples of a slice: sees to it that the value of each is the value of a record.
 
-ghost use Rattle.std.specs.Prelude.{◌≡◌, ◌∷◌, [], ◌+◌, ◌-◌, ◌/◌, ◌^◌, ◌<◌, ◌≤◌, ℕ, List, suc, length, slice_index, slice_set, IsTrue, None, MatchOption, ⊤};
+ghost use Rattle.std.specs.Prelude.{◌≡◌, ◌∷◌, [], ◌+◌, ◌-◌, ◌/◌, ◌^◌, ◌<◌, ◌≤◌, ℕ, List, suc, length, slice_index, slice_set, IsTrue, IfSome, None, MatchOption, ⊤};
 ghost use Rattle.std.specs.List.{AllByRecursion};
 ghost use Rattle.ua_table.specs.declared.origins.Origin.{Origin};
 ghost use Rattle.ua_table.specs.declared.origins.Origin.TheVariants.{Op};
@@ -11,16 +11,17 @@ ghost use Rattle.ua_work.specs.Walks.{turn_at};
 ghost use Rattle.ua_work.specs.Runs.{run_of, AreBitsIn, IsRunIn};
 ghost use Rattle.ua_work.specs.Serials.{turn_from};
 ghost use Rattle.ua_work.specs.Harvests.{IsDone};
-ghost use Rattle.ua_work.specs.Replicas.{IsOriginIn, IsReplica, SameClosure};
+ghost use Rattle.ua_work.specs.Replicas.{value_in, IsOriginIn, IsReplica, SameClosure};
 ghost use Rattle.ua_work.specs.KnownBlocks.{AreKnownBlocks};
 ghost use Rattle.ua_work.specs.Workings.{GoesOn, IsFurther, IsSettled, Stops, IsJobOf, Comes, StopsSerial, turn_of};
 
 use crate::harvests::End;
-use crate::known_blocks::KnownBlocks;
+use crate::known_blocks::{KnownBlocks, Told};
 use crate::puts::{Job, put_new};
 use crate::replicas::Replica;
 use crate::runs::{Run, has_bit, run_from, skip, with_number};
 use ua_log::{Board, Seat};
+use ua_rows::Scratch;
 use ua_table::{Claimed, Mark, Origin, Slice};
 
 /// Sees to it that the value of an operation at records is the value of a record.
@@ -177,20 +178,29 @@ fn settle_slice(
     None
 }
 
-/// Sees to it that the value of a unary operation at a record is the value of a record.
+/// Sees to it that the value of a unary operation at a record is the value of a record. The value is given where
+/// it was computed before.
 #[inline(always)]
-fn settle_unary(job: &Job, seat: &mut Seat, replica: &mut Replica, op: u32, a: u32) -> Option<End>
+fn settle_unary(
+    job: &Job,
+    seat: &mut Seat,
+    replica: &mut Replica,
+    op: u32,
+    a: u32,
+    value: Option<&Scratch>,
+) -> Option<End>
     requires home { seat.old.home ≡ job.now.board.now }
     requires job { IsJobOf replica.old job.now }
     requires working { GoesOn job.now.goal.now replica.old seat.old.own }
     requires unary { slice_index (arities replica.old.operations) op ≡ 1 }
     requires origin { IsOriginIn replica.old (Op op (a ∷ 0 ∷ 0 ∷ 0 ∷ [])) }
+    requires value { IfSome value (λ v. v.now ≡ value_in replica.old (Op op (a ∷ 0 ∷ 0 ∷ 0 ∷ []))) }
     ensures closure { SameClosure replica.old replica.new }
     ensures seat { IsFurther seat.old seat.new }
     ensures done { MatchOption result (GoesOn job.now.goal.now replica.new seat.new.own × IsSettled replica.new (Op op (a ∷ 0 ∷ 0 ∷ 0 ∷ []))) (Stops job.now.goal.now job.now.board.now.plan replica.new seat.new.own) }
     ensures lone { IsAlone seat.old.made seat.old.own → Comes replica.old seat.old.own (turn_of replica.old (Op op (a ∷ 0 ∷ 0 ∷ 0 ∷ []))) → MatchOption result (Comes replica.new seat.new.own (turn_of replica.new (Op op (a ∷ 0 ∷ 0 ∷ 0 ∷ [])))) (StopsSerial replica.new seat.new.own) }
 {
-    if replica.has_unary(op, a) {
+    if replica.has_unary(op, a, value) {
         return None;
     }
     let args = [a, 0, 0, 0];
@@ -226,10 +236,11 @@ pub(crate) fn finish(
     replica.shape.slice_from(Board::seen(seat), mark, s);
     let unit = mark.parts;
     if replica.lanes.is_none() && replica.shape.arity(unit.op) == 1 {
-        if blocks.is_known(replica, unit.op, unit.row) {
+        blocks.look_ahead(replica, unit.op, unit.row);
+        let Told::Unknown(value) = blocks.told(unit.op, unit.row) else {
             return None;
-        }
-        return settle_unary(job, seat, replica, unit.op, unit.row);
+        };
+        return settle_unary(job, seat, replica, unit.op, unit.row, value);
     }
     settle_slice(job, seat, replica, mark, s)
 }

@@ -12,7 +12,7 @@ use Rattle.ua_work.specs.KnownBlocks.{AreKnownBlocks}
 use Rattle.ua_work.proofs.WorkLaws.{same_self, places_seen}
 use Rattle.ua_work.proofs.BeginLaws.{both, only, weaker}
 use Rattle.ua_work.proofs.FinishLaws.{grown}
-use Rattle.ua_work.proofs.BlockLaws.{blocks_grown}
+use Rattle.ua_work.proofs.BlockLaws.{blocks_grown, known_told, value_told}
 use Rattle.ua_work.proofs.OneTuple.{operation_low, unary_slice, origin_one, row_low, done_one, comes_one, leaves_one}
 use Rattle.ua_work.proofs.slices.finish.Goals as goal
 
@@ -32,8 +32,8 @@ arity-requires c =
     let within : length t.own.seen ≤ t.home.plan.budget = subst (λ n. n ≤ t.home.plan.budget) c.seen.ensures.seen c.seen.ensures.within in
     operation_low c.args.replica.now c.args.job.now t c.args.s c.slice_from.new.mark c.requires.home c.requires.job c.requires.working.working within c.requires.below e.mark e.earlier e.own
 
-pub is_known-requires-clause-below : goal.is_known-requires-clause-below
-is_known-requires-clause-below c =
+pub look_ahead-requires-clause-below : goal.look_ahead-requires-clause-below
+look_ahead-requires-clause-below c =
     let r = c.args.replica.now in
     let t = c.args.seat.now in
     let k = c.requires.working.working in
@@ -45,8 +45,8 @@ is_known-requires-clause-below c =
     let one = unary_slice r c.args.job.now t c.args.s c.slice_from.new.mark c.requires.home c.requires.job k within c.requires.below e.mark e.earlier e.own (sym c.arity.ensures.arity ∙ c.if-arity-eq1.true) in
     row_low r rows c.args.s unit one count
 
-pub returns-then-is_known-clause-done : goal.returns-then-is_known-clause-done
-returns-then-is_known-clause-done c =
+pub returns-in_default-clause-done : goal.returns-in_default-clause-done
+returns-in_default-clause-done c =
     let r = c.args.replica.now in
     let t = c.args.seat.now in
     let k = c.requires.working.working in
@@ -56,10 +56,10 @@ returns-then-is_known-clause-done c =
     let count = sym (places_seen r t.own k) in
     let within : rows ≤ t.home.plan.budget = subst (λ n. n ≤ t.home.plan.budget) c.seen.ensures.seen c.seen.ensures.within in
     let one = unary_slice r c.args.job.now t c.args.s c.slice_from.new.mark c.requires.home c.requires.job k within c.requires.below e.mark e.earlier e.own (sym c.arity.ensures.arity ∙ c.if-arity-eq1.true) in
-    (c.requires.working, done_one r rows c.args.s unit one r t.own count (same_self r) (prefix_self (values_in r)) k (omega arith) (c.is_known.ensures.known c.if-is_known.true))
+    (c.requires.working, done_one r rows c.args.s unit one r t.own count (same_self r) (prefix_self (values_in r)) k (omega arith) (known_told r c.look_ahead.new.self unit.op unit.row c.told.result c.look_ahead.ensures one.in_range c.told.ensures c.in_default.is))
 
-pub returns-then-is_known-clause-lone : goal.returns-then-is_known-clause-lone
-returns-then-is_known-clause-lone c = λ alone come.
+pub returns-in_default-clause-lone : goal.returns-in_default-clause-lone
+returns-in_default-clause-lone c = λ alone come.
     let r = c.args.replica.now in
     let t = c.args.seat.now in
     let k = c.requires.working.working in
@@ -69,7 +69,18 @@ returns-then-is_known-clause-lone c = λ alone come.
     let count = sym (places_seen r t.own k) in
     let within : rows ≤ t.home.plan.budget = subst (λ n. n ≤ t.home.plan.budget) c.seen.ensures.seen c.seen.ensures.within in
     let one = unary_slice r c.args.job.now t c.args.s c.slice_from.new.mark c.requires.home c.requires.job k within c.requires.below e.mark e.earlier e.own (sym c.arity.ensures.arity ∙ c.if-arity-eq1.true) in
-    leaves_one r rows c.args.s unit one r t.own (same_self r) k (c.is_known.ensures.known c.if-is_known.true) (comes_one r rows c.args.s unit one t.own come)
+    leaves_one r rows c.args.s unit one r t.own (same_self r) k (known_told r c.look_ahead.new.self unit.op unit.row c.told.result c.look_ahead.ensures one.in_range c.told.ensures c.in_default.is) (comes_one r rows c.args.s unit one t.own come)
+
+pub settle_unary-requires-clause-value : goal.settle_unary-requires-clause-value
+settle_unary-requires-clause-value c =
+    let r = c.args.replica.now in
+    let t = c.args.seat.now in
+    let k = c.requires.working.working in
+    let e = c.slice_from.ensures in
+    let unit = c.slice_from.new.mark.parts in
+    let within : length t.own.seen ≤ t.home.plan.budget = subst (λ n. n ≤ t.home.plan.budget) c.seen.ensures.seen c.seen.ensures.within in
+    let one = unary_slice r c.args.job.now t c.args.s c.slice_from.new.mark c.requires.home c.requires.job k within c.requires.below e.mark e.earlier e.own (sym c.arity.ensures.arity ∙ c.if-arity-eq1.true) in
+    value_told r c.look_ahead.new.self unit.op unit.row c.told.result c.look_ahead.ensures one.in_range c.told.ensures c.in-Unknown.value c.in-Unknown.is
 
 pub settle_unary-requires-clause-origin : goal.settle_unary-requires-clause-origin
 settle_unary-requires-clause-origin c =
@@ -101,8 +112,8 @@ returns-then-arity-eq1-clause-blocks c =
     let goal = c.args.job.now.goal.now in
     let o = Op unit.op (unit.row ∷ 0 ∷ 0 ∷ 0 ∷ []) in
     let stops = Stops goal c.args.job.now.board.now.plan new v in
-    weaker c.settle_unary.result (GoesOn goal new v × IsSettled new o) (AreKnownBlocks new c.is_known.new.self) stops
-    (λ h. blocks_grown r new c.is_known.new.self d.closure (grown r new t.own v k h.0.working d.closure d.seat.seen) c.is_known.ensures.blocks) d.done
+    weaker c.settle_unary.result (GoesOn goal new v × IsSettled new o) (AreKnownBlocks new c.look_ahead.new.self) stops
+    (λ h. blocks_grown r new c.look_ahead.new.self d.closure (grown r new t.own v k h.0.working d.closure d.seat.seen) c.look_ahead.ensures) d.done
 
 pub returns-then-arity-eq1-clause-done : goal.returns-then-arity-eq1-clause-done
 returns-then-arity-eq1-clause-done c =

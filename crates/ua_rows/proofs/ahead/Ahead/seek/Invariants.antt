@@ -1,12 +1,12 @@
 use Rattle.std.proofs.Common.{◌≡◌, ◌≤◌, length}
 use Rattle.std.specs.List.{AllByRecursion}
 use Rattle.ua_table.specs.Algebras.{Vector}
-use Rattle.ua_rows.specs.Applied.{AreApplied, AreKnown}
-use Rattle.ua_rows.proofs.ahead.Ahead.known.Given as goal
+use Rattle.ua_rows.specs.Applied.{AreApplied, AreFound}
+use Rattle.ua_rows.proofs.ahead.Ahead.seek.Given as goal
 
 abbrev pub invariant-loop-k : goal.invariant-loop-k
 invariant-loop-k l = record {
-  width : l.self-inside.width ≡ l.fn.self;
+  width : l.self-inside.width ≡ l.fn.self.width;
   room : l.count ≤ length l.self-inside.vectors.items;
   widths : AllByRecursion (λ (v : Vector). length v ≡ l.self-inside.width) l.self-inside.vectors.items;
   applied : AreApplied l.operations l.op l.rows.items l.args l.k l.self-inside.vectors.items;
@@ -14,7 +14,7 @@ invariant-loop-k l = record {
 
 abbrev pub invariant-loop-k-2 : goal.invariant-loop-k-2
 invariant-loop-k-2 l = record {
-  width : l.self-inside.width ≡ l.fn.self;
+  width : l.self-inside.width ≡ l.fn.self.width;
   room : l.count ≤ length l.self-inside.vectors.items;
   widths : AllByRecursion (λ (v : Vector). length v ≡ l.self-inside.width) l.self-inside.vectors.items;
   applied : AreApplied l.operations l.op l.rows.items l.args l.count l.self-inside.vectors.items;
@@ -22,6 +22,6 @@ invariant-loop-k-2 l = record {
 
 abbrev pub invariant-loop-k-3 : goal.invariant-loop-k-3
 invariant-loop-k-3 l = record {
-  long : length l.known ≡ 16;
-  known : AreKnown l.operations l.op l.rows.items l.args l.k l.known;
+  long : length l.found ≡ 16;
+  found : AreFound l.operations l.op l.rows.items l.args l.k l.found;
 }

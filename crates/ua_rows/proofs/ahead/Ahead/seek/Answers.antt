@@ -1,8 +1,8 @@
 use Rattle.std.proofs.Common.{◌≡◌, ◌<◌, [], length, subst, ◌∙◌, arith}
 use Rattle.std.specs.Prelude.{Contains, slice_index_or}
 use Rattle.std.proofs.lemmas.List.{length-set, get_or_default}
-use Rattle.ua_rows.proofs.AppliedLaws.{contains_by, known_more}
-use Rattle.ua_rows.proofs.ahead.Ahead.known.Goals as goal
+use Rattle.ua_rows.proofs.AppliedLaws.{contains_by, found_more}
+use Rattle.ua_rows.proofs.ahead.Ahead.seek.Goals as goal
 
 pub loop-k-3-preserved : goal.loop-k-3-preserved
 loop-k-3-preserved c =
@@ -20,7 +20,7 @@ loop-k-3-preserved c =
     let is : v ≡ slice_index_or vectors k [] = c.index-in-loop-k-3.ensures ∙ get_or_default vectors k v [] within in
     let found = contains_by c.find_scratch.result c.is_some.result rows v c.is_some.ensures c.find_scratch.ensures.found c.find_scratch.ensures.absent in
     record {
-      long = length-set c.loop-k-3.known k c.is_some.result ∙ long;
-      known = known_more p f rows args k c.loop-k-3.known c.is_some.result (omega (arith, low, long)) c.loop-k-3.invariant.known
+      long = length-set c.loop-k-3.found k c.is_some.result ∙ long;
+      found = found_more p f rows args k c.loop-k-3.found c.is_some.result (omega (arith, low, long)) c.loop-k-3.invariant.found
           (λ yes. subst (Contains rows) (is ∙ c.loop-k-2.invariant.applied k here) (found.0 yes));
     }
