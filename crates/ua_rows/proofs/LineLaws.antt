@@ -91,19 +91,20 @@ looked_lanes line word fits bytes low =
         let four = first_element line fourth d high 8 refl low.1.1.1.0 in
         omega (arith, one, two, three, four)
 
--- what is looked up at the elements of one row is what the kernel reads there
+-- what is looked up at an element of one row is what the kernel reads there
+pub line_at : (line cells : List ℕ) (rows : List Vector) (row : Vector) → rows ≡ row ∷ [] → 0 < length cells → IsLineOf cells line → AllByRecursion (AllByRecursion (λ x. x < length cells)) rows
+    → (k : ℕ) → slice_index line (slice_index row k) ≡ looked cells (length cells) rows k
+line_at line cells rows row one some are below k =
+    are.values_are (slice_index row k) (all_or (λ x. x < length cells) row k 0 some (subst (AllByRecursion (AllByRecursion (λ x. x < length cells))) one below).0)
+    ∙ ap (slice_index cells) (let e : slice_index row k ≡ numeral (length cells) (slice_index row k ∷ []) = omega arith in e)
+    ∙ ap (λ (vs : List Vector). looked cells (length cells) vs k) (sym one)
+
+-- and at four of them
 pub line_read : (line cells : List ℕ) (rows : List Vector) (row : Vector) (word found i : ℕ) → rows ≡ row ∷ [] → 0 < length cells → IsLineOf cells line → AllByRecursion (AllByRecursion (λ x. x < length cells)) rows
     → lanes_of word ≡ map (slice_index row) (range_with_len i 4) → lanes_of found ≡ map (slice_index line) (lanes_of word) → lanes_of found ≡ map (looked cells (length cells) rows) (range_with_len i 4)
-line_read line cells rows row word found i one some are below read is = is ∙ ap (map (slice_index line)) read ∙ (λ l. at i l ∷ at (i + 1) l ∷ at (i + 1 + 1) l ∷ at (i + 1 + 1 + 1) l ∷ [])
-  where
-    row_below : AllByRecursion (λ x. x < length cells) row
-    row_below = (subst (AllByRecursion (AllByRecursion (λ x. x < length cells))) one below).0
-
-    at : (k : ℕ) → slice_index line (slice_index row k) ≡ looked cells (length cells) rows k
-    at k =
-        are.values_are (slice_index row k) (all_or (λ x. x < length cells) row k 0 some row_below)
-        ∙ ap (slice_index cells) (let e : slice_index row k ≡ numeral (length cells) (slice_index row k ∷ []) = omega arith in e)
-        ∙ ap (λ (vs : List Vector). looked cells (length cells) vs k) (sym one)
+line_read line cells rows row word found i one some are below read is =
+    let at : (k : ℕ) → slice_index line (slice_index row k) ≡ looked cells (length cells) rows k = line_at line cells rows row one some are below in
+    is ∙ ap (map (slice_index line)) read ∙ (λ l. at i l ∷ at (i + 1) l ∷ at (i + 1 + 1) l ∷ at (i + 1 + 1 + 1) l ∷ [])
 
 -- one reference, and the row behind it
 pub one_behind : (rows : List (Bor (List ℕ))) → length rows ≡ 1 → vectors_behind rows ≡ (get_or rows 0 (record { ref_ptr = (0, 0); now = [] })).now ∷ []

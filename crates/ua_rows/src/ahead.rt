@@ -74,7 +74,7 @@ impl Ahead {
     {
         let count = args.len().min(self.vectors.len()).min(AHEAD);
         for k in 0..count {
-            operations.apply(op, rows, &[args[k]], &mut self.vectors[k]);
+            operations.apply_unary(op, rows, args[k], &mut self.vectors[k]);
         }
         for k in 0..count {
             self.near |= rows.near(self.vectors[k].hash());

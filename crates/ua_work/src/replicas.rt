@@ -209,7 +209,7 @@ impl<'a> Replica<'a> {
             None => {
                 let row = self.places[a as usize];
                 self.operations
-                    .apply(op, &self.rows, &[row], &mut self.scratch);
+                    .apply_unary(op, &self.rows, row, &mut self.scratch);
             }
         }
     }

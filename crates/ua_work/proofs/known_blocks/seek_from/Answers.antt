@@ -14,7 +14,7 @@ returns c =
     let args = slice_range places c.args.first c.min-to.result in
     let told = c.seek.ensures in
     let row : (i : ℕ) → i < length args → (16 * (c.args.first / 16) + i < length r.places.items) × (slice_index args i ≡ slice_index r.places.items (16 * (c.args.first / 16) + i)) = λ i low.
-        (let at = block_row places c.args.first c.min-to.result i c.requires.start low in (subst (λ (l : List ℕ). 16 * (c.args.first / 16) + i < length l) is at.0, at.1 ∙ ap (λ (l : List ℕ). slice_index l (16 * (c.args.first / 16) + i)) is)) in
+    (let at = block_row places c.args.first c.min-to.result i c.requires.start low in (subst (λ (l : List ℕ). 16 * (c.args.first / 16) + i < length l) is at.0, at.1 ∙ ap (λ (l : List ℕ). slice_index l (16 * (c.args.first / 16) + i)) is)) in
     let within : (i : ℕ) → i < length c.seek.new.self.values → i < length args = λ i low. (let few = told.within in omega (arith, low, few)) in
     let origin : (i : ℕ) → i < length args → IsOriginIn r (Op f ((16 * (c.args.first / 16) + i) ∷ 0 ∷ 0 ∷ 0 ∷ [])) = λ i low. unary_origin r f (16 * (c.args.first / 16) + i) c.requires.operation c.requires.unary (row i low).0 in
     record {

@@ -27,4 +27,4 @@ returns-in-None-clause-value c =
     let a = c.args.a in
     let low = unary_low r c.args.op a c.requires.origin c.requires.unary in
     let row : c.index-row.result.now ≡ slice_index r.places.items a = c.index-row.ensures ∙ get_or_default r.places.items a c.index-row.result.now 0 low in
-    c.apply.ensures.value ∙ value_of_rows r c.args.op 1 (a ∷ 0 ∷ 0 ∷ 0 ∷ []) (c.index-row.result.now ∷ []) c.requires.replica c.requires.origin (sym c.requires.unary) (ap (λ k. k ∷ []) row)
+    c.apply_unary.ensures.value ∙ value_of_rows r c.args.op 1 (a ∷ 0 ∷ 0 ∷ 0 ∷ []) (c.index-row.result.now ∷ []) c.requires.replica c.requires.origin (sym c.requires.unary) (ap (λ k. k ∷ []) row)

@@ -1,0 +1,36 @@
+use Rattle.std.proofs.Common.{[], ◌∷◌, length, ap, sym, ◌∙◌, subst}
+use Rattle.std.proofs.lemmas.List.FromFn.{length-map-range_with_len}
+use Rattle.ua_table.specs.Algebras.{Product, IsProduct, IsVector, apply}
+use Rattle.ua_table.proofs.ApplyLemmas.{length-apply}
+use Rattle.ua_rows.specs.RowLists.{rows_at}
+use Rattle.ua_rows.specs.Kernels.{AreKernels}
+use Rattle.ua_rows.proofs.OperationLaws.{fine, applied_vector, kernel_read}
+use Rattle.ua_rows.proofs.prepared.Operations.apply_unary.Goals as goal
+
+pub read-requires-clause-reads : goal.read-requires-clause-reads
+read-requires-clause-reads c = (fine c.args.self.now c.args.op c.in-Some.kernel.now c.args.rows.now.items (c.args.row ∷ []) (c.padded.result.now ∷ []) (length c.args.out.now) (subst IsProduct c.self.view_is c.self.invariant.0) (kernel_read c.args.self.now c.self.inside.kernels.items c.args.op c.deref.result.now c.in-Some.kernel.now (subst (λ (p : Product). AreKernels p c.self.inside.kernels.items) c.self.view_is c.self.invariant.1) c.deref.ensures.value c.in-Some.ensures.lookup.3.0 c.in-Some.ensures.lookup.1 c.requires.operation) c.requires.operation (sym c.requires.unary) c.requires.rows (c.requires.named, tt) (λ l. c.padded.ensures l ∷ []) c.requires.width).reads
+
+pub read-requires-clause-rows : goal.read-requires-clause-rows
+read-requires-clause-rows c = (fine c.args.self.now c.args.op c.in-Some.kernel.now c.args.rows.now.items (c.args.row ∷ []) (c.padded.result.now ∷ []) (length c.args.out.now) (subst IsProduct c.self.view_is c.self.invariant.0) (kernel_read c.args.self.now c.self.inside.kernels.items c.args.op c.deref.result.now c.in-Some.kernel.now (subst (λ (p : Product). AreKernels p c.self.inside.kernels.items) c.self.view_is c.self.invariant.1) c.deref.ensures.value c.in-Some.ensures.lookup.3.0 c.in-Some.ensures.lookup.1 c.requires.operation) c.requires.operation (sym c.requires.unary) c.requires.rows (c.requires.named, tt) (λ l. c.padded.ensures l ∷ []) c.requires.width).lengths
+
+pub read-requires-clause-below : goal.read-requires-clause-below
+read-requires-clause-below c = (fine c.args.self.now c.args.op c.in-Some.kernel.now c.args.rows.now.items (c.args.row ∷ []) (c.padded.result.now ∷ []) (length c.args.out.now) (subst IsProduct c.self.view_is c.self.invariant.0) (kernel_read c.args.self.now c.self.inside.kernels.items c.args.op c.deref.result.now c.in-Some.kernel.now (subst (λ (p : Product). AreKernels p c.self.inside.kernels.items) c.self.view_is c.self.invariant.1) c.deref.ensures.value c.in-Some.ensures.lookup.3.0 c.in-Some.ensures.lookup.1 c.requires.operation) c.requires.operation (sym c.requires.unary) c.requires.rows (c.requires.named, tt) (λ l. c.padded.ensures l ∷ []) c.requires.width).below
+
+pub returns-in-Some-clause-value : goal.returns-in-Some-clause-value
+returns-in-Some-clause-value c = c.read.ensures ∙ (fine c.args.self.now c.args.op c.in-Some.kernel.now c.args.rows.now.items (c.args.row ∷ []) (c.padded.result.now ∷ []) (length c.args.out.now) (subst IsProduct c.self.view_is c.self.invariant.0) (kernel_read c.args.self.now c.self.inside.kernels.items c.args.op c.deref.result.now c.in-Some.kernel.now (subst (λ (p : Product). AreKernels p c.self.inside.kernels.items) c.self.view_is c.self.invariant.1) c.deref.ensures.value c.in-Some.ensures.lookup.3.0 c.in-Some.ensures.lookup.1 c.requires.operation) c.requires.operation (sym c.requires.unary) c.requires.rows (c.requires.named, tt) (λ l. c.padded.ensures l ∷ []) c.requires.width).value
+
+pub returns-in-Some-clause-vector : goal.returns-in-Some-clause-vector
+returns-in-Some-clause-vector c =
+    let all = (fine c.args.self.now c.args.op c.in-Some.kernel.now c.args.rows.now.items (c.args.row ∷ []) (c.padded.result.now ∷ []) (length c.args.out.now) (subst IsProduct c.self.view_is c.self.invariant.0) (kernel_read c.args.self.now c.self.inside.kernels.items c.args.op c.deref.result.now c.in-Some.kernel.now (subst (λ (p : Product). AreKernels p c.self.inside.kernels.items) c.self.view_is c.self.invariant.1) c.deref.ensures.value c.in-Some.ensures.lookup.3.0 c.in-Some.ensures.lookup.1 c.requires.operation) c.requires.operation (sym c.requires.unary) c.requires.rows (c.requires.named, tt) (λ l. c.padded.ensures l ∷ []) c.requires.width) in
+    subst (IsVector c.args.self.now) (sym (c.read.ensures ∙ all.value)) all.vector
+
+pub returns-in-Some-clause-width : goal.returns-in-Some-clause-width
+returns-in-Some-clause-width c = ap length c.read.ensures ∙ length-map-range_with_len _ 0 (length c.args.out.now) ∙ c.requires.width
+
+pub returns-in-None-clause-vector : goal.returns-in-None-clause-vector
+returns-in-None-clause-vector c =
+    applied_vector c.args.self.now c.args.op c.args.rows.now.items (c.args.row ∷ []) c.apply.new.self (subst IsProduct c.self.view_is c.self.invariant.0) c.requires.operation (sym c.requires.unary) c.requires.rows (c.requires.named, tt)
+    (c.apply.ensures ∙ ap (λ (p : Product). apply p c.args.op (rows_at c.args.rows.now.items (c.args.row ∷ []))) c.self.view_is)
+
+pub returns-in-None-clause-width : goal.returns-in-None-clause-width
+returns-in-None-clause-width c = ap length (c.apply.ensures ∙ ap (λ (p : Product). apply p c.args.op (rows_at c.args.rows.now.items (c.args.row ∷ []))) c.self.view_is) ∙ length-apply c.args.self.now c.args.op (rows_at c.args.rows.now.items (c.args.row ∷ []))
