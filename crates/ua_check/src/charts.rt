@@ -32,18 +32,6 @@ fn part<'a>(chart: &Chart<'a>, i: u32, m: usize) -> &'a [Elem]
     chart.rows.part(i, part.from, part.to)
 }
 
-/// Whether a row with the entries of row j at a part may follow row i.
-fn leads(chart: &Chart, link: PatternPair, i: u32, j: u32) -> bool
-    requires chart { IsChartOf chart.now }
-    requires row { i < length chart.now.rows.now.items }
-    requires next { j < length chart.now.rows.now.items }
-    requires first { link.first < length chart.now.kind.now.patterns }
-    requires second { link.second < length chart.now.kind.now.patterns }
-    ensures { result ≡ reached.leads chart.now.size chart.now.kind.now (link_of chart.now.kind.now.patterns link) (row_at chart.now i) (row_at chart.now j) }
-{
-    part(chart, i, link.first) == part(chart, j, link.second)
-}
-
 /// Whether row i has what each term has by itself.
 pub(crate) fn is_own(chart: &Chart, i: u32) -> bool
     requires chart { IsChartOf chart.now }
@@ -65,8 +53,12 @@ pub(crate) fn is_led_to(chart: &Chart, link: PatternPair, positions: &[u32], i: 
     requires second { link.second < length chart.now.kind.now.patterns }
     ensures { result ≡ reached.is_led_to chart.now.size chart.now.kind.now (link_of chart.now.kind.now.patterns link) chart.now.rows.now.items positions.now (row_at chart.now i) }
 {
+    // What this call ensures is that the patterns differ.
+    let _patterns = chart.kind.patterns();
+    let from = chart.kind.part(chart.size, link.first);
+    let entries = part(chart, i, link.second);
     for p in positions {
-        if leads(chart, link, *p, i) {
+        if chart.rows.part(*p, from.from, from.to) == entries {
             return true;
         }
     }

@@ -6,4 +6,4 @@ use Rattle.ua_check.proofs.charts.is_led_to.Given as goal
 
 -- no row so far leads to it
 abbrev pub invariant-loop-p : goal.invariant-loop-p
-invariant-loop-p l = is_led_to l.chart.size l.chart.kind.now (link_of l.chart.kind.now.patterns l.link) l.chart.rows.now.items (take l.p-index l.positions) (row_at l.chart l.i) ≡ false
+invariant-loop-p l = is_led_to l.chart.size l.chart.kind.now (link_of l.chart.kind.now.patterns l.fn.link) l.chart.rows.now.items (take l.p-index l.positions) (row_at l.chart l.i) ≡ false
