@@ -47,7 +47,7 @@ module _ (p : Product) (quads more : QuadVectors) (added : List Vector) (width :
   window_grown w h = record {
     four = h.four;
     lines_long = h.lines_long ∙ (λ i. 4 * sym size i * words_for (sym width i));
-    values_long = h.values_long ∙ ap words_for (sym width);
+    values_long = h.values_long ∙ ap (λ n. 16 * words_for n) (sym width);
     are_lined = λ t. lines_grown w.op w.fixed w.free w.lines.items (h.are_lined t);
   }
 

@@ -10,7 +10,7 @@ use Rattle.std.proofs.lemmas.List.{length-append, length-drop, length-take-le, g
 use Rattle.std.proofs.lemmas.List.FromFn.{length-map-range_with_len, get_or-map-range_with_len, map-range_with_len_more}
 use Rattle.ua_table.specs.Algebras.{Vector}
 use Rattle.ua_rows.specs.Words.{lanes_of, words_for}
-use Rattle.ua_lanes.specs.Tiles.{key_at, IsKeyAt}
+use Rattle.ua_lanes.specs.Tiles.{key_at}
 use Rattle.ua_lanes.specs.Columns.{values_at}
 use Rattle.ua_lanes.specs.Quads.{IsBelow, quad_entry, quad_vector, quad_vectors, AreQuads, AreLongLines, values_in_word}
 use Rattle.ua_rows.proofs.LineLaws.{all_or}
@@ -131,11 +131,11 @@ pushed_invariant width size words count keys key front ready h v key' keys' fron
 
 -- ---- the values of lines at a vector, whose words are a key: they are that vector
 
-module _ (width size words count : ℕ) (keys lines : List ℕ) (f : ℕ → ℕ → ℕ) (block r g lanes : ℕ) (values : List (List ℕ)) (part : List ℕ)
-    (is : words ≡ words_for width) (long : length keys ≡ count * words) (some : 0 < size) (small : AllByRecursion (IsBelow size) keys) (are : AreLongLines size width f lines) (values_long : length values ≡ words)
+module _ (width size words count : ℕ) (keys lines : List ℕ) (f : ℕ → ℕ → ℕ) (block r g lanes : ℕ) (values part : List ℕ)
+    (is : words ≡ words_for width) (long : length keys ≡ count * words) (some : 0 < size) (small : AllByRecursion (IsBelow size) keys) (are : AreLongLines size width f lines)
     (part_is : (k : ℕ) → k < lanes * words → slice_index part k ≡ slice_index keys (16 * block * words + k))
-    (wrote : (j q : ℕ) → j < length values → q < lanes → lanes_of (slice_index (slice_index_or values j []) q) ≡ values_in_word (drop (4 * size * j) lines) size (slice_index part (q * length values + j)))
-    (low : r < lanes) (within : 16 * block + lanes ≤ count) (named : g < count) (row : IsKeyAt keys words g values r) where
+    (wrote : (q j : ℕ) → q < lanes → j < words → lanes_of (slice_index values (q * words + j)) ≡ values_in_word (drop (4 * size * j) lines) size (slice_index part (q * words + j)))
+    (low : r < lanes) (within : 16 * block + lanes ≤ count) (named : g < count) (row : key_at keys words g ≡ key_at values words r) where
   abbrev i : ℕ
   i = 16 * block + r
 
@@ -157,14 +157,14 @@ module _ (width size words count : ℕ) (keys lines : List ℕ) (f : ℕ → ℕ
       let m : (r + 1) * words ≤ lanes * words = mul-le-mul_right words (let l : r + 1 ≤ lanes = omega (arith, low) in l) in
       let m1 : (r + 1) * words ≡ r * words + words = omega arith in
       let spread : 16 * block * words + (r * words + x / 4) ≡ (16 * block + r) * words + x / 4 = search arith in
-      let word : slice_index part (r * length values + x / 4) ≡ slice_index keys ((16 * block + r) * words + x / 4) = ap (λ n. slice_index part (r * n + x / 4)) values_long ∙ part_is (r * words + x / 4) (omega (arith, m, m1, below)) ∙ ap (slice_index keys) spread in
+      let word : slice_index part (r * words + x / 4) ≡ slice_index keys ((16 * block + r) * words + x / 4) = part_is (r * words + x / 4) (omega (arith, m, m1, below)) ∙ ap (slice_index keys) spread in
       let y : ℕ = quad_entry keys words (16 * block + r) x in
       let x_is : 4 * (x / 4) + x % 4 ≡ x = omega arith in
       let place : 4 * size * (x / 4) + (x % 4 * size + y) ≡ (4 * (x / 4) + x % 4) * size + y = search arith in
-      ap (λ w. slice_index (lanes_of w) (x % 4)) (sym (key_index keys words g (x / 4) below) ∙ row (x / 4) below)
-      ∙ ap (λ (ls : List ℕ). slice_index ls (x % 4)) (wrote (x / 4) r (omega (arith, below, values_long)) low)
-      ∙ get_or-map-range_with_len (λ q. slice_index (drop (4 * size * (x / 4)) lines) (q * size + slice_index (lanes_of (slice_index part (r * length values + x / 4))) q)) 0 4 (x % 4) (x % 4) 0 column (omega arith)
-      ∙ get_or-drop (4 * size * (x / 4)) lines (x % 4 * size + slice_index (lanes_of (slice_index part (r * length values + x / 4))) (x % 4)) 0
+      ap (λ w. slice_index (lanes_of w) (x % 4)) (sym (key_index keys words g (x / 4) below) ∙ ap (λ (k : List ℕ). slice_index k (x / 4)) row ∙ key_index values words r (x / 4) below)
+      ∙ ap (λ (ls : List ℕ). slice_index ls (x % 4)) (wrote r (x / 4) low below)
+      ∙ get_or-map-range_with_len (λ q. slice_index (drop (4 * size * (x / 4)) lines) (q * size + slice_index (lanes_of (slice_index part (r * words + x / 4))) q)) 0 4 (x % 4) (x % 4) 0 column (omega arith)
+      ∙ get_or-drop (4 * size * (x / 4)) lines (x % 4 * size + slice_index (lanes_of (slice_index part (r * words + x / 4))) (x % 4)) 0
       ∙ ap (λ w. slice_index lines (4 * size * (x / 4) + (x % 4 * size + slice_index (lanes_of w) (x % 4)))) word
       ∙ ap (slice_index lines) (place ∙ ap (λ n. n * size + y) x_is)
       ∙ are x y inside (entry_below x inside)

@@ -28,7 +28,7 @@ pub record HasLongLines (p : Product) (quads : QuadVectors) (f : ℕ) (fixed : L
 pub record IsLongWindow (p : Product) (quads : QuadVectors) (w : LongWindow) : Type 0 where
   pub four : length w.fixed ≡ 4
   pub lines_long : vec_len w.lines ≡ 4 * quads.size * words_for quads.width
-  pub values_long : vec_len w.values ≡ words_for quads.width
+  pub values_long : vec_len w.values ≡ 16 * words_for quads.width
   pub are_lined : IsTrue w.lined → HasLongLines p quads w.op w.fixed w.free w.lines.items
 
 -- the lines are those of operation f at a tuple where the argument at this place is free

@@ -21,7 +21,7 @@ pub(crate) const FRONT: usize = 256;
 /// A hash with the word at a place: those at even places are only taken in, and mixed with the word behind them.
 /// A product for every two words is enough to guess by.
 #[inline(always)]
-fn with_word(hash: u64, word: u64, place: usize) -> u64 {
+pub(crate) fn with_word(hash: u64, word: u64, place: usize) -> u64 {
     if place % 2 == 0 {
         (hash ^ word).rotate_left(7)
     } else {

@@ -7,6 +7,7 @@
 mod blocks;
 mod columns;
 mod fronts;
+mod key_blocks;
 mod lanes;
 mod large_lanes;
 mod lines;

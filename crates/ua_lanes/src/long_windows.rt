@@ -9,6 +9,7 @@ ghost use Rattle.ua_lanes.specs.Windows.{tuple_of, AreBitsOf};
 
 use crate::long_lines::write_long_lines;
 use crate::quad_lists::Quads;
+use crate::tiles::LANES;
 use crate::windows::agree;
 use std::alloc::{AllocError, Global};
 use ua_rows::ENTRIES;
@@ -25,8 +26,8 @@ pub(crate) struct LongWindow {
     lined: bool,
     /// The lines of the coordinates, each as long as the greatest size.
     lines: Vec<Elem>,
-    /// Room for the words of sixteen values.
-    values: Vec<[u64; 16]>,
+    /// Room for the words of sixteen values, one behind the other.
+    values: Vec<u64>,
 }
 
 impl LongWindow {
@@ -43,7 +44,7 @@ impl LongWindow {
             free: 0,
             lined: false,
             lines: vec![in alloc; 0u16; ENTRIES * size * words]?,
-            values: vec![in alloc; [0u64; 16]; words]?,
+            values: vec![in alloc; 0u64; LANES * words]?,
         })
     }
 

@@ -8,8 +8,8 @@ ghost use Rattle.ua_rows.specs.Words.{lanes_of, words_for};
 ghost use Rattle.ua_lanes.specs.Columns.{values_at};
 ghost use Rattle.ua_lanes.specs.Quads.{AreLongLines};
 
-use crate::blocks::known_lanes;
 use crate::fronts::{FRONT, enter, first_bits, hash_of, reserve_slots};
+use crate::key_blocks::known_keys;
 use crate::quads::write_values;
 use crate::tiles::LANES;
 use std::alloc::{AllocError, Global};
@@ -206,21 +206,22 @@ impl Quads {
 
     /// A bit for each vector of a block of sixteen of which the values of the lines are known to be a vector that
     /// is there. It writes these values as it goes.
-    pub(crate) fn known(&self, lines: &[Elem], block: usize, values: &mut [[u64; 16]]) -> u32
+    pub(crate) fn known(&self, lines: &[Elem], block: usize, values: &mut [u64]) -> u32
         requires block { 16 * block < length self.now.items }
         requires lines { 4 * self.now.size * words_for self.now.width ≤ length lines.now }
-        requires values { length values.old ≡ words_for self.now.width }
+        requires values { length values.old ≡ LANES * words_for self.now.width }
         ensures values { length values.new ≡ length values.old }
         ensures known { (f : ℕ → ℕ → ℕ) → AreLongLines self.now.size self.now.width f lines.now → (r : ℕ) → r < 16 → result / 2 ^ r % 2 ≡ 1 → (16 * block + r < length self.now.items) × Contains self.now.items (values_at f (slice_index_or self.now.items (16 * block + r) [])) }
     {
         let count = (self.count - LANES * block).min(LANES);
         let keys = block_keys(self.keys.as_slice(), self.words, block, count);
-        let hashes = write_values(lines, self.size, keys, count, values);
-        let bits = known_lanes(
+        let hashes = write_values(lines, self.size, keys, self.words, count, values);
+        let bits = known_keys(
             self.keys.as_slice(),
             self.front.as_slice(),
             &hashes,
             values,
+            self.words,
             self.count,
         );
         first_bits(bits, count)

@@ -5,7 +5,7 @@ ghost use Rattle.std.specs.List.{AllByRecursion};
 ghost use Rattle.ua_rows.specs.Words.{lanes_of};
 ghost use Rattle.ua_lanes.specs.Quads.{IsBelow, values_in_word};
 
-use crate::fronts::mix_all;
+use crate::fronts::with_word;
 use crate::tiles::LANES;
 use ua_rows::{SEED, elements_of, number_of};
 use ua_table::Elem;
@@ -26,95 +26,46 @@ fn value_of(lines: &[Elem], size: usize, word: u64) -> u64
     ])
 }
 
-/// The values of four lines at word j of key r.
+/// Writes the values of lines at the words of a key, and answers a hash. The hash only guides a look-up, so nothing
+/// is said of it.
 #[inline(always)]
-fn value_at(lines: &[Elem], size: usize, keys: &[u64], words: usize, j: usize, r: usize) -> u64
-    requires lines { 4 * size ≤ length lines.now }
-    requires key { r * words + j < length keys.now }
-    requires below { AllByRecursion (IsBelow size) keys.now }
-    ensures { lanes_of result ≡ values_in_word lines.now size (slice_index keys.now (r * words + j)) }
+fn write_at(lines: &[Elem], size: usize, key: &[u64], out: &mut [u64]) -> u64
+    requires lines { 4 * size * length key.now ≤ length lines.now }
+    requires as_many { length out.old ≡ length key.now }
+    requires below { AllByRecursion (IsBelow size) key.now }
+    ensures { (j : ℕ) → j < length key.now → lanes_of (slice_index out.new j) ≡ values_in_word (drop (4 * size * j) lines.now) size (slice_index key.now j) }
 {
-    value_of(lines, size, keys[r * words + j])
-}
-
-/// The values of four lines at word j of each key of a whole block, without a loop: most blocks are whole.
-#[inline(always)]
-fn whole_values_at(lines: &[Elem], size: usize, keys: &[u64], words: usize, j: usize) -> [u64; 16]
-    requires lines { 4 * size ≤ length lines.now }
-    requires keys { LANES * words ≤ length keys.now }
-    requires word { j < words }
-    requires below { AllByRecursion (IsBelow size) keys.now }
-    ensures { (r : ℕ) → r < LANES → lanes_of (slice_index result r) ≡ values_in_word lines.now size (slice_index keys.now (r * words + j)) }
-{
-    [
-        value_at(lines, size, keys, words, j, 0),
-        value_at(lines, size, keys, words, j, 1),
-        value_at(lines, size, keys, words, j, 2),
-        value_at(lines, size, keys, words, j, 3),
-        value_at(lines, size, keys, words, j, 4),
-        value_at(lines, size, keys, words, j, 5),
-        value_at(lines, size, keys, words, j, 6),
-        value_at(lines, size, keys, words, j, 7),
-        value_at(lines, size, keys, words, j, 8),
-        value_at(lines, size, keys, words, j, 9),
-        value_at(lines, size, keys, words, j, 10),
-        value_at(lines, size, keys, words, j, 11),
-        value_at(lines, size, keys, words, j, 12),
-        value_at(lines, size, keys, words, j, 13),
-        value_at(lines, size, keys, words, j, 14),
-        value_at(lines, size, keys, words, j, 15),
-    ]
-}
-
-/// The values of four lines at word j of each key of a block.
-#[inline(always)]
-fn values_at(
-    lines: &[Elem],
-    size: usize,
-    keys: &[u64],
-    words: usize,
-    j: usize,
-    count: usize,
-) -> [u64; 16]
-    requires few { count ≤ LANES }
-    requires lines { 4 * size ≤ length lines.now }
-    requires keys { count * words ≤ length keys.now }
-    requires word { j < words }
-    requires below { AllByRecursion (IsBelow size) keys.now }
-    ensures { (r : ℕ) → r < count → lanes_of (slice_index result r) ≡ values_in_word lines.now size (slice_index keys.now (r * words + j)) }
-{
-    if count == LANES {
-        return whole_values_at(lines, size, keys, words, j);
+    let mut hash = SEED;
+    for j in 0..key.len() {
+        let word = value_of(&lines[4 * size * j..], size, key[j]);
+        out[j] = word;
+        hash = with_word(hash, word, j);
     }
-    let mut values = [0; 16];
-    for r in 0..count {
-        values[r] = value_at(lines, size, keys, words, j, r);
-    }
-    values
+    hash
 }
 
-/// Writes the values of lines at the keys of a block, four coordinates a word, and answers a hash for each key.
-/// The hash only guides a look-up, so nothing is said of it.
+/// Writes the values of lines at so many keys of a block, one behind the other, and answers a hash for each key.
 #[inline(always)]
 pub(crate) fn write_values(
     lines: &[Elem],
     size: usize,
     keys: &[u64],
+    words: usize,
     count: usize,
-    out: &mut [[u64; 16]],
+    out: &mut [u64],
 ) -> [u64; 16]
     requires few { count ≤ LANES }
-    requires lines { 4 * size * length out.old ≤ length lines.now }
-    requires keys { count * length out.old ≤ length keys.now }
+    requires lines { 4 * size * words ≤ length lines.now }
+    requires keys { length keys.now ≡ count * words }
+    requires room { length out.old ≡ LANES * words }
     requires below { AllByRecursion (IsBelow size) keys.now }
-    ensures { (j r : ℕ) → j < length out.new → r < count → lanes_of (slice_index (slice_index_or out.new j []) r) ≡ values_in_word (drop (4 * size * j) lines.now) size (slice_index keys.now (r * length out.new + j)) }
+    ensures { (r j : ℕ) → r < count → j < words → lanes_of (slice_index out.new (r * words + j)) ≡ values_in_word (drop (4 * size * j) lines.now) size (slice_index keys.now (r * words + j)) }
 {
-    let words = out.len();
     let mut hashes = [SEED; 16];
-    for j in 0..words {
-        let values = values_at(&lines[4 * size * j..], size, keys, words, j, count);
-        mix_all(&mut hashes, &values, j);
-        out[j] = values;
+    for r in 0..count {
+        let start = r * words;
+        let key = &keys[start..start + words];
+        hashes[r] = write_at(lines, size, key, &mut out[start..start + words]);
     }
     hashes
 }

@@ -4,10 +4,8 @@ use Rattle.std.specs.List.{AllByRecursion}
 use Rattle.std.proofs.Math.Nat.{mul-le-mul_right}
 use Rattle.std.proofs.lemmas.List.FromFn.{length-map-range_with_len}
 use Rattle.ua_table.specs.Algebras.{Vector}
-use Rattle.ua_rows.specs.Words.{words_for}
-use Rattle.ua_lanes.specs.Tiles.{IsSomeKeyAt}
 use Rattle.ua_lanes.specs.Columns.{values_at}
-use Rattle.ua_lanes.specs.Quads.{QuadVectors, quad_vector, AreLongLines}
+use Rattle.ua_lanes.specs.Quads.{QuadVectors, quad_vector, AreLongLines, IsSomeKey}
 use Rattle.ua_lanes.proofs.QuadLaws.{part_index, known_quads}
 use Rattle.ua_lanes.proofs.quad_lists.Quads.known.Goals as goal
 
@@ -47,8 +45,8 @@ block_keys-keys-requires-clause-few c =
     let few = c.self.invariant.few in
     let r = c.requires.block in omega (arith, r, n, same, least, few)
 
-pub known_lanes-bits-requires-clause-named : goal.known_lanes-bits-requires-clause-named
-known_lanes-bits-requires-clause-named c = subst (AllByRecursion (λ r. r ≤ c.self.inside.count - 1)) (sym c.as_slice-3.ensures.value) c.self.invariant.named
+pub known_keys-bits-requires-clause-named : goal.known_keys-bits-requires-clause-named
+known_keys-bits-requires-clause-named c = subst (AllByRecursion (λ r. r ≤ c.self.inside.count - 1)) (sym c.as_slice-3.ensures.value) c.self.invariant.named
 
 pub returns-clause-known : goal.returns-clause-known
 returns-clause-known c f are r low bit =
@@ -68,13 +66,11 @@ returns-clause-known c f are r low bit =
     let values = c.write_values-hashes.new.out in
     let width = ap (λ (v : QuadVectors). v.width) c.self.view_is in
     let size = ap (λ (v : QuadVectors). v.size) c.self.view_is in
-    let words : here.words ≡ words_for c.args.self.now.width = h.words_are ∙ ap words_for width in
-    let values_long : length values ≡ here.words = c.write_values-hashes.auto.out ∙ c.requires.values ∙ sym words in
-    let row : IsSomeKeyAt here.keys.items here.words here.count values r = subst (λ (q : List ℕ × ℕ). IsSomeKeyAt q.0 q.1 here.count values r) (λ i. (c.as_slice-2.ensures.value i, values_long i)) (c.known_lanes-bits.ensures r low told.1) in
+    let row : IsSomeKey here.keys.items here.words here.count values r = subst (λ (ks : List ℕ). IsSomeKey ks here.words here.count values r) c.as_slice-2.ensures.value (c.known_keys-bits.ensures r low told.1) in
     let part = c.block_keys-keys.result.now in
     let part_is : (k : ℕ) → k < lanes * here.words → slice_index part k ≡ slice_index here.keys.items (16 * b * here.words + k) =
     (λ k inside. ap (λ (ks : List ℕ). slice_index ks k) (c.block_keys-keys.ensures.part ∙ ap (λ (ks : List ℕ). slice_range ks (16 * b * here.words) (16 * b * here.words + lanes * here.words)) c.as_slice.ensures.value) ∙ part_index here.keys.items (16 * b * here.words) (lanes * here.words) k inside) in
     let lined : AreLongLines here.size here.width f c.args.lines.now = subst (λ (q : ℕ × ℕ). AreLongLines q.0 q.1 f c.args.lines.now) (λ i. (sym size i, sym width i)) are in
-    let found = known_quads here.width here.size here.words here.count here.keys.items c.args.lines.now f b r row.0 lanes values part h.words_are h.keyed h.some_size h.below lined values_long part_is
-    (λ j q below column. c.write_values-hashes.ensures j q below column) fewer top row.1 row.2 in
+    let found = known_quads here.width here.size here.words here.count here.keys.items c.args.lines.now f b r row.0 lanes values part h.words_are h.keyed h.some_size h.below lined part_is
+    c.write_values-hashes.ensures fewer top row.1 row.2 in
     subst (λ (vs : List Vector). (16 * b + r < length vs) × Contains vs (values_at f (slice_index_or vs (16 * b + r) []))) view (omega (arith, within, all), found)
