@@ -1,5 +1,7 @@
 //! Partitions by labels and by blocks, their lattice, and disjoint sets.
 
+ghost use Rattle.std.specs.Prelude.{◌≡◌, length, IfOk};
+
 use std::alloc::Global;
 use std::test::Fail;
 use ua_part::{DisjointSets, Part, PartError};
@@ -12,29 +14,80 @@ fn blocks(alloc: Global, members: &[&[u32]]) -> Result<Vec<Vec<u32>>, Fail> {
     Ok(list)
 }
 
+fn labelled(alloc: Global) -> Result<Part, Fail>
+    ensures { IfOk result (λ part. length part ≡ 3) }
+{
+    Ok(Part::from_labels(alloc, &[5, 5, 3])?)
+}
+
+fn blocked(alloc: Global) -> Result<Part, Fail>
+    ensures { IfOk result (λ part. length part ≡ 3) }
+{
+    let list = blocks(alloc, &[&[2, 1], &[0]])?;
+    Ok(Part::from_blocks(alloc, 3, list.as_slice())?)
+}
+
+/// A partition by its name.
+fn named(alloc: Global, name: &str) -> Result<Part, Fail>
+    ensures { IfOk result (λ part. length part ≡ 3) }
+{
+    match name {
+        "labelled" => labelled(alloc),
+        "copy" => Ok(labelled(alloc)?.copy(alloc)?),
+        "blocked" => blocked(alloc),
+        "identity" => Ok(Part::identity(alloc, 3)?),
+        _ => Ok(Part::full(alloc, 3)?),
+    }
+}
+
+fn text(alloc: Global, name: &str) -> Result<Vec<u8>, Fail> {
+    let part = match name {
+        "meet" => labelled(alloc)?.meet(alloc, &blocked(alloc)?)?,
+        "join" => labelled(alloc)?.join(alloc, &blocked(alloc)?)?,
+        _ => named(alloc, name)?,
+    };
+    Ok(part.print(alloc)?)
+}
+
+fn is_below(alloc: Global, low: &str, high: &str) -> Result<bool, Fail> {
+    Ok(named(alloc, low)?.le(&named(alloc, high)?))
+}
+
 #[test]
 fn lattice(rt: HostRuntime) -> Result<(), Fail> {
-    let alloc = rt.alloc();
-    let part = Part::from_labels(alloc, &[5, 5, 3])?;
-    assert_eq!(rt; part.print(alloc)?.as_slice(), b"|0 1|2|".as_slice());
-    assert_eq!(rt; part.size(), 3);
-    assert_eq!(rt; part.blocks(), 2);
-    assert_eq!(rt; part.rep(1), 0);
-    assert!(rt; part.same(0, 1));
-    assert!(rt; !part.same(1, 2));
-    let copy = part.copy(alloc)?;
-    assert_eq!(rt; copy.print(alloc)?.as_slice(), b"|0 1|2|".as_slice());
-    let other = Part::from_blocks(alloc, 3, blocks(alloc, &[&[2, 1], &[0]])?.as_slice())?;
-    assert_eq!(rt; other.print(alloc)?.as_slice(), b"|0|1 2|".as_slice());
-    let identity = Part::identity(alloc, 3)?;
-    let full = Part::full(alloc, 3)?;
-    assert_eq!(rt; part.meet(alloc, &other)?.leaders(), identity.leaders());
-    assert_eq!(rt; part.join(alloc, &other)?.leaders(), full.leaders());
-    assert_eq!(rt; identity.print(alloc)?.as_slice(), b"|0|1|2|".as_slice());
-    assert_eq!(rt; full.print(alloc)?.as_slice(), b"|0 1 2|".as_slice());
-    assert!(rt; identity.le(&part));
-    assert!(rt; part.le(&full));
-    assert!(rt; !part.le(&other));
+    for (name, blocks) in [
+        ("labelled", b"|0 1|2|".as_slice()),
+        ("copy", b"|0 1|2|"),
+        ("blocked", b"|0|1 2|"),
+        ("identity", b"|0|1|2|"),
+        ("meet", b"|0|1|2|"),
+        ("full", b"|0 1 2|"),
+        ("join", b"|0 1 2|"),
+    ] {
+        assert_eq!(rt; text(rt.alloc(), name)?.as_slice(), blocks);
+    }
+    Ok(())
+}
+
+#[test]
+fn order(rt: HostRuntime) -> Result<(), Fail> {
+    for (low, high, holds) in [
+        ("identity", "labelled", true),
+        ("labelled", "full", true),
+        ("labelled", "blocked", false),
+    ] {
+        assert_eq!(rt; is_below(rt.alloc(), low, high)?, holds);
+    }
+    Ok(())
+}
+
+#[test]
+fn places(rt: HostRuntime) -> Result<(), Fail> {
+    let part = labelled(rt.alloc())?;
+    let counts = (part.size(), part.blocks(), part.rep(1));
+    let same = (part.same(0, 1), part.same(1, 2));
+    assert_eq!(rt; counts, (3, 2, 0));
+    assert_eq!(rt; same, (true, false));
     Ok(())
 }
 
