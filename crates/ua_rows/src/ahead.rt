@@ -76,9 +76,7 @@ impl Ahead {
         for k in 0..count {
             operations.apply_unary(op, rows, args[k], &mut self.vectors[k]);
         }
-        for k in 0..count {
-            self.near |= rows.near(self.vectors[k].hash());
-        }
+        self.near = rows.near(&self.vectors[..count]);
         let mut found = [false; AHEAD];
         for k in 0..count {
             found[k] = rows.find_scratch(&self.vectors[k]).is_some();

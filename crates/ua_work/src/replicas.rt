@@ -57,6 +57,7 @@ fn reserve_lanes(lanes: &mut Option<Lanes>) -> Result<(), AllocError>
 }
 
 /// Appends a vector to the lanes, where there are any.
+#[inline(always)]
 fn push_lanes(lanes: &mut Option<Lanes>, v: &[Elem])
     requires vector { IfSome lanes.old (λ (l : LaneList). IsVector l.product v.now) }
     requires spare { IfSome lanes.old (λ (l : LaneList). 0 < l.spare) }
@@ -110,6 +111,7 @@ impl<'a> Replica<'a> {
     }
 
     /// Makes room for one more record. After want of memory the replica is as it was.
+    #[inline(always)]
     pub(crate) fn reserve(&mut self) -> Result<(), AllocError>
         requires { IsReplica self.old }
         ensures replica { IsReplica self.new }
@@ -247,6 +249,7 @@ impl<'a> Replica<'a> {
 
     /// Enters a record whose value is in the scratch and is the value of no record, and answers its row. It
     /// takes no memory.
+    #[inline(always)]
     pub(crate) fn enter_new(&mut self) -> u32
         requires replica { IsReplica self.old }
         requires room { HasRoom self.old }

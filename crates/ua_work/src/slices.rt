@@ -233,7 +233,7 @@ pub(crate) fn finish(
     ensures done { MatchOption result (GoesOn job.now.goal.now replica.new seat.new.own × IsDone replica.new.operations replica.new.gens.now.items seat.new.own.seen s) (Stops job.now.goal.now job.now.board.now.plan replica.new seat.new.own) }
     ensures lone { IsAlone seat.old.made seat.old.own → Comes replica.old seat.old.own (turn_from replica.old.shape s) → MatchOption result (Comes replica.new seat.new.own (turn_from replica.new.shape (suc s))) (StopsSerial replica.new seat.new.own) }
 {
-    replica.shape.slice_from(Board::seen(seat), mark, s);
+    replica.shape.advance(Board::seen(seat), mark, s);
     let unit = mark.parts;
     if replica.lanes.is_none() && replica.shape.arity(unit.op) == 1 {
         blocks.look_ahead(replica, unit.op, unit.row);

@@ -14,14 +14,6 @@ invariant-loop-k l = record {
 
 abbrev pub invariant-loop-k-2 : goal.invariant-loop-k-2
 invariant-loop-k-2 l = record {
-  width : l.self-inside.width ≡ l.fn.self.width;
-  room : l.count ≤ length l.self-inside.vectors.items;
-  widths : AllByRecursion (λ (v : Vector). length v ≡ l.self-inside.width) l.self-inside.vectors.items;
-  applied : AreApplied l.operations l.op l.rows.items l.args l.count l.self-inside.vectors.items;
-}
-
-abbrev pub invariant-loop-k-3 : goal.invariant-loop-k-3
-invariant-loop-k-3 l = record {
   long : length l.found ≡ 16;
   found : AreFound l.operations l.op l.rows.items l.args l.k l.found;
 }
