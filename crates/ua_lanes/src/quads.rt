@@ -7,7 +7,8 @@ ghost use Rattle.ua_lanes.specs.Quads.{IsBelow, values_in_word};
 
 use crate::fronts::with_word;
 use crate::tiles::LANES;
-use ua_rows::{SEED, elements_of, number_of};
+use std::simd::prelude::*;
+use ua_rows::{SEED, elements_of};
 use ua_table::Elem;
 
 /// The values of four lines of a size at the entries of a word.
@@ -18,12 +19,14 @@ fn value_of(lines: &[Elem], size: usize, word: u64) -> u64
     ensures { lanes_of result ≡ values_in_word lines.now size word }
 {
     let [a, b, c, d] = elements_of(word);
-    number_of([
+    let values = u16x4::from_array([
         lines[a as usize],
         lines[size + b as usize],
         lines[2 * size + c as usize],
         lines[3 * size + d as usize],
-    ])
+    ]);
+    let [value] = u64x1::from_le_bytes(values.to_le_bytes()).to_array();
+    value
 }
 
 /// Writes the values of lines at the words of a key, and answers a hash. The hash only guides a look-up, so nothing
