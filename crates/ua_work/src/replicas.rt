@@ -86,11 +86,12 @@ fn told_by(lanes: &mut Option<Lanes>, op: u32, args: &[u32; 4], place: usize) ->
 }
 
 impl<'a> Replica<'a> {
-    /// The replica of no record.
+    /// The replica of no record, which is to hold at most so many.
     pub(crate) fn new(
         alloc: Global,
         frame: &'a Frame<'a>,
         gens: &'a Vectors,
+        budget: u32,
     ) -> Result<Replica<'a>, AllocError>
         requires { AllByRecursion (IsVector frame.now) gens.now.items }
         ensures replica { IfOk result IsReplica }
@@ -99,11 +100,13 @@ impl<'a> Replica<'a> {
         ensures empty { IfOk result (λ r. r.places.items ≡ []) }
     {
         let width = frame.width();
+        let mut rows = Rows::new(alloc, width);
+        rows.expect(budget);
         Ok(Replica {
             operations: Operations::new(alloc, frame)?,
             gens,
             shape: frame.shape(alloc)?,
-            rows: Rows::new(alloc, width),
+            rows,
             places: Vec::new(alloc),
             scratch: Scratch::new(alloc, width)?,
             lanes: Lanes::new(alloc, frame)?,

@@ -204,7 +204,7 @@ pub fn work<G: Gate>(
     ensures { IsHarvestFrom frame.now gens.now.items goal.now seat result }
 {
     let width = frame.width();
-    let Ok(replica) = Replica::new(alloc, frame, gens) else {
+    let Ok(replica) = Replica::new(alloc, frame, gens, board.budget()) else {
         return harvest(board, seat, Rows::new(alloc, width), End::OutOfMemory);
     };
     let job = Job {
