@@ -101,7 +101,7 @@ impl<'a> Replica<'a> {
     {
         let width = frame.width();
         let mut rows = Rows::new(alloc, width);
-        rows.expect(budget);
+        rows.expect_at_most(budget);
         Ok(Replica {
             operations: Operations::new(alloc, frame)?,
             gens,
