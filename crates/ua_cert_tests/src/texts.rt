@@ -56,8 +56,14 @@ fn faults(rt: HostRuntime) -> Result<(), Fail> {
 {"gens":[[0,1.0]],"kind":"member","steps":[["gen",0]],"target":[0,0],"width":2} = range gens/0/1
 {"gens":[],"kind":"member","steps":[["gen",1e2]],"target":[0,0],"width":2} = range steps/0/1
 {"gens":[],"kind":"member","steps":[],"target":[0,0,4294967296],"width":2} = range target/2
-{"gens":[],"kind":"member","steps":[],"target":[4294967295],"width":18446744073709551616} = range width
-{"k":-3,"kind":"condition","name":"other","steps":[]} = shape name
+{"gens":[],"kind":"member","steps":[],"target":[4294967295],"width":18446744073709551616} = range width"#;
+    expect_of_json(&rt, alloc, &semilattice(alloc)?, cases)
+}
+
+#[test]
+fn more_faults(rt: HostRuntime) -> Result<(), Fail> {
+    let alloc = rt.alloc();
+    let cases = r#"{"k":-3,"kind":"condition","name":"other","steps":[]} = shape name
 {"k":-3,"kind":"condition","name":"nu","steps":[]} = range k
 {"kind":"chain","name":"nu","terms":[]} = shape name
 {"kind":"chain","name":"hm","terms":[[["gen",0]],[["gen",0],"gen"]]} = shape terms/1/1

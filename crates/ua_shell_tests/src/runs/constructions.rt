@@ -42,7 +42,13 @@ fn made_algebras(rt: HostRuntime) -> Result<(), Fail> {
             end
             algebra T size 2
             op plus 2 = 0 1 1 0
-            end
+            end";
+    rows(&rt, rt.alloc(), MADE, cases)
+}
+
+#[test]
+fn made_parts(rt: HostRuntime) -> Result<(), Fail> {
+    let cases = "
         make X sub S [1] close X 1 [1] count => algebra X size 3
             op mul 2 = 0 1 2 1 2 0 2 0 1
             end
