@@ -47,7 +47,7 @@ fn made_algebras(rt: HostRuntime) -> Result<(), Fail> {
 }
 
 #[test]
-fn made_parts(rt: HostRuntime) -> Result<(), Fail> {
+fn made_subalgebras_and_reducts(rt: HostRuntime) -> Result<(), Fail> {
     let cases = "
         make X sub S [1] close X 1 [1] count => algebra X size 3
             op mul 2 = 0 1 2 1 2 0 2 0 1
