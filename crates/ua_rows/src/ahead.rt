@@ -2,7 +2,7 @@
 
 ghost use Rattle.std.specs.Prelude.{◌≡◌, ◌<◌, ◌≤◌, [], false, length, slice_index, slice_index_or, replicate, IfOk, IfSome, IfNone};
 ghost use Rattle.std.specs.List.{AllByRecursion};
-ghost use Rattle.ua_table.specs.Algebras.{IsVector, arities};
+ghost use Rattle.ua_table.specs.Algebras.{Vector, IsVector, arities};
 ghost use Rattle.ua_rows.specs.Applied.{AreApplied, AreFound};
 
 use crate::{Operations, Rows, Scratch};
@@ -37,6 +37,41 @@ impl Model for Ahead {
     ghost invariant = { λ a. (a.count ≤ length a.vectors.items) × AllByRecursion (λ (v : Vector). length v ≡ a.width) a.vectors.items };
 }
 
+/// Writes the values of a unary operation at some rows to the first vectors, and looks for each of them: which were
+/// found, and bits of what was read on the way.
+///
+/// The buckets of all the values are read before any value is looked for. So close together the reads do
+/// not wait for one another.
+#[inline(always)]
+fn seek_each(
+    operations: &Operations,
+    op: u32,
+    rows: &Rows,
+    args: &[u32],
+    vectors: &mut [Scratch],
+) -> ([bool; AHEAD], u32)
+    requires operation { op < length (arities operations.now) }
+    requires unary { slice_index (arities operations.now) op ≡ 1 }
+    requires few { length args.now ≤ AHEAD }
+    requires named { AllByRecursion (λ a. a < length rows.now.items) args.now }
+    requires rows { AllByRecursion (IsVector operations.now) rows.now.items }
+    requires width { rows.now.width ≡ length operations.now }
+    requires room { length args.now ≤ length vectors.old }
+    requires widths { AllByRecursion (λ (v : Vector). length v ≡ length operations.now) vectors.old }
+    ensures values { AreApplied operations.now op rows.now.items args.now (length args.now) vectors.new }
+    ensures found { AreFound operations.now op rows.now.items args.now (length args.now) result.0 }
+    ensures room { length vectors.new ≡ length vectors.old }
+    ensures widths { AllByRecursion (λ (v : Vector). length v ≡ length operations.now) vectors.new }
+{
+    operations.apply_unary_at_each(op, rows, args, vectors);
+    let near = rows.near(&vectors[..args.len()]);
+    let mut found = [false; AHEAD];
+    for k in 0..args.len() {
+        found[k] = rows.find_scratch(&vectors[k]).is_some();
+    }
+    (found, near)
+}
+
 impl Ahead {
     /// No values, and room for so many of this width, at most `AHEAD`.
     pub fn new(alloc: Global, width: u32, count: usize) -> Result<Ahead, AllocError>
@@ -57,9 +92,6 @@ impl Ahead {
 
     /// Computes the values of a unary operation at some rows, as many of the first as there is room for, and
     /// looks for each among the rows. It takes no memory.
-    ///
-    /// The buckets of all the values are read before any value is looked for. So close together the reads do
-    /// not wait for one another.
     pub fn seek(&mut self, operations: &Operations, op: u32, rows: &Rows, args: &[u32])
         requires operation { op < length (arities operations.now) }
         requires unary { slice_index (arities operations.now) op ≡ 1 }
@@ -73,16 +105,11 @@ impl Ahead {
         ensures found { AreFound operations.now op rows.now.items args.now (length self.new.values) self.new.found }
     {
         let count = args.len().min(self.vectors.len()).min(AHEAD);
-        for k in 0..count {
-            operations.apply_unary(op, rows, args[k], &mut self.vectors[k]);
-        }
-        self.near = rows.near(&self.vectors[..count]);
-        let mut found = [false; AHEAD];
-        for k in 0..count {
-            found[k] = rows.find_scratch(&self.vectors[k]).is_some();
-        }
+        let vectors = self.vectors.as_mut_slice();
+        let (found, near) = seek_each(operations, op, rows, &args[..count], vectors);
         self.count = count;
         self.found = found;
+        self.near = near;
     }
 
     /// Whether value k, where there are so many, was found when it was looked for.
