@@ -1,9 +1,10 @@
 //! Powers and products of several algebras.
 
-use crate::asked::{Call, digits, elements, expect, number, part, put_flag};
+use crate::asked::{Call, digits, elements};
 use crate::tables::operation;
 use std::alloc::Global;
 use std::test::Fail;
+use ua_cases::{expect, number, part, put_flag};
 use ua_table::{Algebra, Frame, FrameError, Name, OpTable};
 
 /// The operation of the algebra with this letter: unary on two and on five elements, binary on two, unary with
@@ -95,7 +96,7 @@ fn powers(rt: HostRuntime) -> Result<(), Fail> {
         1 => 1
         67108864 => 67108864
         67108865 => Width";
-    expect(&rt, rt.alloc(), &Call::Power, cases)
+    expect(rt.alloc(), &Call::Power, cases)
 }
 
 #[test]
@@ -106,7 +107,7 @@ fn vectors_of_products(rt: HostRuntime) -> Result<(), Fail> {
         ab, 101, 5 1 0 => false
         ab, 101, 4 1 => false
         ab, 101, 4 1 0 0 => false";
-    expect(&rt, rt.alloc(), &Call::Admits, cases)
+    expect(rt.alloc(), &Call::Admits, cases)
 }
 
 #[test]
@@ -119,5 +120,5 @@ fn products_refused_in_order(rt: HostRuntime) -> Result<(), Fail> {
         cd, 0 => Signature(1)
         ab, 01 => 2
         b, 0 => 1";
-    expect(&rt, rt.alloc(), &Call::Product, cases)
+    expect(rt.alloc(), &Call::Product, cases)
 }

@@ -1,10 +1,8 @@
-//! Tests of the lowest layer: bytes in and out, tables, frames, and the numbering of tuples.
+//! Tests of tables, of frames, and of the numbering of tuples.
 #![tactic(auto)]
 
 #[cfg(test)]
 mod asked;
-#[cfg(test)]
-mod bytes;
 #[cfg(test)]
 mod frames;
 #[cfg(test)]

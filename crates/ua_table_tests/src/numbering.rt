@@ -3,9 +3,10 @@
 ghost use Rattle.std.specs.Prelude.{◌≡◌, ◌<◌, ◌≤◌, ◌*◌, length, sum};
 ghost use Rattle.ua_table.specs.Numbering.{IsShape};
 
-use crate::asked::{Call, digits, expect, number, part, put_word};
+use crate::asked::{Call, digits};
 use std::alloc::Global;
 use std::test::Fail;
+use ua_cases::{expect, number, part, put_word};
 use ua_table::limits::{ARITY, OPERATIONS};
 use ua_table::{Origin, Shape, Slice, Unit};
 
@@ -206,7 +207,7 @@ fn units(rt: HostRuntime) -> Result<(), Fail> {
         21, 5 => Unit { row: 1, op: 1, place: 0 } 1
         4*64, 255999996 => Unit { row: 999999, op: 63, place: 0 } 1000000000000000000
         4*64, 255999999 => Unit { row: 999999, op: 63, place: 3 } 999997000002999999";
-    expect(&rt, rt.alloc(), &Call::Numbering(Numbering::Unit), cases)
+    expect(rt.alloc(), &Call::Numbering(Numbering::Unit), cases)
 }
 
 #[test]
@@ -222,7 +223,7 @@ fn tuples(rt: HostRuntime) -> Result<(), Fail> {
         3, 7, 3 => [1, 2, 0, 0]
         3, 7, 6 => none
         4*64, 255999996, 999999999999999999 => [999999, 999999, 999999, 999999]";
-    expect(&rt, rt.alloc(), &Call::Numbering(Numbering::Tuple), cases)
+    expect(rt.alloc(), &Call::Numbering(Numbering::Tuple), cases)
 }
 
 #[test]
@@ -234,7 +235,7 @@ fn counts_of_slices(rt: HostRuntime) -> Result<(), Fail> {
         2013, 3000 => 6605333
         00, 3000 => 0
         1, 1000000 => 1000000";
-    expect(&rt, rt.alloc(), &Call::Numbering(Numbering::Bound), cases)
+    expect(rt.alloc(), &Call::Numbering(Numbering::Bound), cases)
 }
 
 #[test]
@@ -244,7 +245,7 @@ fn slices(rt: HostRuntime) -> Result<(), Fail> {
         2, 4097, 8192 => Slice { unit: 8192, from: 0, to: 4096 }
         2, 4097, 8193 => Slice { unit: 8192, from: 4096, to: 4097 }
         2, 4097, 8194 => Slice { unit: 8193, from: 0, to: 4096 }";
-    expect(&rt, rt.alloc(), &Call::Numbering(Numbering::Slice), cases)
+    expect(rt.alloc(), &Call::Numbering(Numbering::Slice), cases)
 }
 
 #[test]
@@ -252,7 +253,7 @@ fn all_tuples_of_some_rows(rt: HostRuntime) -> Result<(), Fail> {
     let cases = "
         3, 70 => 343000
         2041, 12 => 20892";
-    expect(&rt, rt.alloc(), &Call::Numbering(Numbering::Rows), cases)
+    expect(rt.alloc(), &Call::Numbering(Numbering::Rows), cases)
 }
 
 /// The code of an origin is the one that it is unpacked from.
@@ -270,7 +271,7 @@ fn codes(rt: HostRuntime) -> Result<(), Fail> {
         210, 0, 10, 202 => none
         4*64, 5, 19483, 9221536638103649349 => Op { op: 63, args: [19482, 19482, 19482, 19482] } 9221536638103649349
         4*64, 5, 19483, 9221536638103649350 => none";
-    expect(&rt, rt.alloc(), &Call::Numbering(Numbering::Code), cases)
+    expect(rt.alloc(), &Call::Numbering(Numbering::Code), cases)
 }
 
 #[test]
@@ -285,5 +286,5 @@ fn numbers_of_codes(rt: HostRuntime) -> Result<(), Fail> {
         4*64, 0, 19484 => 9223430031652962305 false
         3*9, 4294967295, 1000000 => 9000000004294967296 true
         3*10, 0, 1000000 => 10000000000000000001 false";
-    expect(&rt, rt.alloc(), &Call::Numbering(Numbering::Records), cases)
+    expect(rt.alloc(), &Call::Numbering(Numbering::Records), cases)
 }

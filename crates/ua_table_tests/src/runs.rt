@@ -1,8 +1,9 @@
 //! Runs and gates.
 
-use crate::asked::{Call, expect, number, put_flag};
+use crate::asked::Call;
 use std::sync::atomic::{AtomicU64, Ordering};
 use std::test::Fail;
+use ua_cases::{expect, number, put_flag};
 use ua_table::{Algebra, Frame, FreeGate, Gate, Run, Shape, Vectors};
 
 /// A gate that counts how often it was passed.
@@ -42,7 +43,7 @@ fn limits(rt: HostRuntime) -> Result<(), Fail> {
         1000001, 1 => false
         1, 0 => false
         1, 17 => false";
-    expect(&rt, rt.alloc(), &Call::Run, cases)
+    expect(rt.alloc(), &Call::Run, cases)
 }
 
 #[test]

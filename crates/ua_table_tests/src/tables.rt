@@ -2,19 +2,17 @@
 
 ghost use Rattle.std.specs.Prelude.{◌≡◌, [], length, IfOk};
 
-use crate::asked::{Call, elements, expect, number, part, put_bytes, put_word};
+use crate::asked::{Call, elements};
 use std::alloc::Global;
 use std::test::Fail;
+use ua_cases::{expect, number, part, put_bytes, put_value_of, put_word};
 use ua_table::{Algebra, AlgebraError, Elem, Name, OpTable, TableError, Vectors};
 
 /// The text of a name, or why there is none.
 pub(crate) fn put_name(alloc: Global, asked: &str, text: &mut String) -> Result<(), Fail> {
     match Name::new(alloc, part(asked, 0).as_bytes()) {
         Ok(name) => put_bytes(text, name.text()),
-        Err(error) => {
-            write!(text, "{error:?}")?;
-            Ok(())
-        }
+        Err(error) => put_value_of(text, &error),
     }
 }
 
@@ -31,10 +29,7 @@ pub(crate) fn operation(alloc: Global, asked: &str) -> Result<Result<OpTable, Ta
 pub(crate) fn put_operation(alloc: Global, asked: &str, text: &mut String) -> Result<(), Fail> {
     match operation(alloc, asked)? {
         Ok(_) => put_word(text, "made"),
-        Err(error) => {
-            write!(text, "{error:?}")?;
-            Ok(())
-        }
+        Err(error) => put_value_of(text, &error),
     }
 }
 
@@ -69,10 +64,7 @@ pub(crate) fn put_algebra(alloc: Global, asked: &str, text: &mut String) -> Resu
     let ops = constants(alloc, number(asked, 1)?, part(asked, 2))?;
     match algebra_error(alloc, size, ops)? {
         None => put_word(text, "made"),
-        Some(error) => {
-            write!(text, "{error:?}")?;
-            Ok(())
-        }
+        Some(error) => put_value_of(text, &error),
     }
 }
 
@@ -127,7 +119,7 @@ fn names(rt: HostRuntime) -> Result<(), Fail> {
         a-b => Form
         a b => Form
         é => Form";
-    expect(&rt, rt.alloc(), &Call::Name, cases)
+    expect(rt.alloc(), &Call::Name, cases)
 }
 
 #[test]
@@ -147,7 +139,7 @@ fn operations_refused_in_order(rt: HostRuntime) -> Result<(), Fail> {
         x, 2, 1, 1 0 => made
         x1y, 2, 1, 1 0 => made
         gens, 1000, 0, 999 => made";
-    expect(&rt, rt.alloc(), &Call::Operation, cases)
+    expect(rt.alloc(), &Call::Operation, cases)
 }
 
 /// The sum modulo 3.
@@ -183,7 +175,7 @@ fn algebras_refused_in_order(rt: HostRuntime) -> Result<(), Fail> {
         3, 3, abcba => DuplicateOp(3)
         3, 3, abc => made
         1000, 1, => made";
-    expect(&rt, rt.alloc(), &Call::Algebra, cases)
+    expect(rt.alloc(), &Call::Algebra, cases)
 }
 
 /// An operation on 64 elements with as many values as all together may have.
@@ -213,7 +205,7 @@ fn operations_of_an_algebra(rt: HostRuntime) -> Result<(), Fail> {
         zero => 0
         one => 1
         on => none";
-    expect(&rt, rt.alloc(), &Call::Find, cases)?;
+    expect(rt.alloc(), &Call::Find, cases)?;
     let like_turned = is_like_turned(rt.alloc())?;
     assert!(rt; !like_turned);
     Ok(())

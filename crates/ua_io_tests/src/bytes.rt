@@ -1,10 +1,25 @@
 //! Pieces, faults in mid-stream, and a reader and a writer of std.
 
-use crate::asked::{Call, expect, number, part, put_bytes, put_flag};
 use std::alloc::Global;
 use std::io::{self, Read, Write};
 use std::test::Fail;
+use ua_cases::{Asked, expect, number, part, put_bytes, put_flag, put_value_of};
 use ua_io::{MemSink, MemSource, Source, StdSink, StdSource, WriteFault, read_all, write_all};
+
+/// Which call is made.
+enum Call {
+    Read,
+    Write,
+}
+
+impl Asked for Call {
+    fn put_answer(&self, alloc: Global, asked: &str, text: &mut String) -> Result<(), Fail> {
+        match self {
+            Call::Read => put_read(alloc, asked, text),
+            Call::Write => put_written(alloc, asked, text),
+        }
+    }
+}
 
 /// The calls of a text, each by its number.
 fn calls(alloc: Global, text: &str) -> Result<Vec<u32>, Fail> {
@@ -31,15 +46,12 @@ fn put_all<S: Source>(
 ) -> Result<(), Fail> {
     match read_all(alloc, source, limit) {
         Ok(bytes) => put_bytes(text, bytes.as_slice()),
-        Err(error) => {
-            write!(text, "{error:?}")?;
-            Ok(())
-        }
+        Err(error) => put_value_of(text, &error),
     }
 }
 
 /// All bytes of the source of a text as `3, 1, 9`, where they are within the limit.
-pub(crate) fn put_read(alloc: Global, asked: &str, text: &mut String) -> Result<(), Fail> {
+fn put_read(alloc: Global, asked: &str, text: &mut String) -> Result<(), Fail> {
     let limit = number(asked, 2)?;
     let mut source = source(alloc, asked)?;
     put_all(alloc, &mut source, limit, text)
@@ -61,7 +73,7 @@ fn written(mut sink: MemSink) -> (Vec<u8>, bool) {
 }
 
 /// What the sink of a text takes, and whether it is all.
-pub(crate) fn put_written(alloc: Global, asked: &str, text: &mut String) -> Result<(), Fail> {
+fn put_written(alloc: Global, asked: &str, text: &mut String) -> Result<(), Fail> {
     let (bytes, all) = written(sink(alloc, asked)?);
     put_bytes(text, bytes.as_slice())?;
     text.push(' ')?;
@@ -76,7 +88,7 @@ fn pieces_read(rt: HostRuntime) -> Result<(), Fail> {
         100, 9, 7 => lattice
         5, , 6 => TooLong
         3, 1, 9 => Fault";
-    expect(&rt, rt.alloc(), &Call::Read, cases)
+    expect(rt.alloc(), &Call::Read, cases)
 }
 
 #[test]
@@ -87,7 +99,7 @@ fn pieces_written(rt: HostRuntime) -> Result<(), Fail> {
         9, 100, 9 => lattice true
         9, 3, 1 => lat false
         4, 9, => latt false";
-    expect(&rt, rt.alloc(), &Call::Write, cases)
+    expect(rt.alloc(), &Call::Write, cases)
 }
 
 /// Gives an error, then two bytes, then the end; takes nothing, then an error, then all.

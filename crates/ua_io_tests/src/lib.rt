@@ -1,0 +1,5 @@
+//! Tests of bytes in and out.
+#![tactic(auto)]
+
+#[cfg(test)]
+mod bytes;
