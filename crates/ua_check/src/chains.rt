@@ -246,7 +246,7 @@ pub(crate) fn chain(
     alloc: Global,
     a: &Algebra,
     name: ChainName,
-    terms: &[Listed<CertStep>],
+    terms: &Listed<Listed<CertStep>>,
 ) -> Result<(), CheckError>
     requires few { length terms.now < 2 ^ 32 }
     requires each { AllByRecursion (λ (steps : List CertStep). length steps < 2 ^ 32) terms.now }
@@ -255,5 +255,5 @@ pub(crate) fn chain(
 {
     written();
     let kind = named(alloc, name)?;
-    chain_flaws(alloc, a, &kind, terms)
+    chain_flaws(alloc, a, &kind, terms.as_slice())
 }

@@ -47,31 +47,18 @@ pub fn check(alloc: Global, a: &Algebra, cert: &Cert) -> Result<(), CheckError>
         } => {
             let gens = gens.as_slice();
             let origins = origins.as_slice();
-            listing(
-                alloc,
-                a,
-                gens,
-                origins,
-                ranks.as_slice(),
-                rows.as_slice(),
-                *width,
-            )
+            let ranks = ranks.as_slice();
+            let rows = rows.as_slice();
+            listing(alloc, a, gens, origins, ranks, rows, *width)
         }
-        Cert::Condition { name, k, steps } => condition(alloc, a, *name, *k, steps.as_slice()),
-        Cert::NoCondition { name, k, rows } => no_condition(alloc, a, *name, *k, rows.as_slice()),
-        Cert::Chain { name, terms } => chain(alloc, a, *name, terms.as_slice()),
+        Cert::Condition { name, k, steps } => condition(alloc, a, *name, *k, steps),
+        Cert::NoCondition { name, k, rows } => no_condition(alloc, a, *name, *k, rows),
+        Cert::Chain { name, terms } => chain(alloc, a, *name, terms),
         Cert::NoChain {
             name,
             rows,
             even,
             odd,
-        } => no_chain(
-            alloc,
-            a,
-            *name,
-            rows.as_slice(),
-            even.as_slice(),
-            odd.as_slice(),
-        ),
+        } => no_chain(alloc, a, *name, rows, even, odd),
     }
 }

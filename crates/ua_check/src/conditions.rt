@@ -129,14 +129,14 @@ pub(crate) fn condition(
     a: &Algebra,
     name: CondName,
     k: u32,
-    steps: &[CertStep],
+    steps: &Listed<CertStep>,
 ) -> Result<(), CheckError>
     requires { length steps.now < 2 ^ 32 }
     ensures told { Tells (conditions.condition_flaw a.now name k steps.now) result }
     ensures holds { IsOk result → conditions.WritesTerm a.now name k steps.now }
 {
     written();
-    condition_flaws(alloc, a, name, k, steps)
+    condition_flaws(alloc, a, name, k, steps.as_slice())
 }
 
 /// The first flaw of a certificate that no term meets a condition.
@@ -169,7 +169,7 @@ pub(crate) fn no_condition(
     a: &Algebra,
     name: CondName,
     k: u32,
-    rows: &[Listed<u32>],
+    rows: &Listed<Listed<u32>>,
 ) -> Result<(), CheckError>
     requires { length rows.now < 2 ^ 32 }
     ensures told { Tells (conditions.no_condition_flaw a.now name k rows.now) result }
@@ -179,5 +179,5 @@ pub(crate) fn no_condition(
     laws::conditions();
     // What this call ensures is that the algebra has an element.
     let _size = a.size();
-    no_condition_flaws(alloc, a, name, k, rows)
+    no_condition_flaws(alloc, a, name, k, rows.as_slice())
 }

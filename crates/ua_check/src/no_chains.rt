@@ -153,9 +153,9 @@ pub(crate) fn no_chain(
     alloc: Global,
     a: &Algebra,
     name: ChainName,
-    rows: &[Listed<u32>],
-    even: &[u32],
-    odd: &[u32],
+    rows: &Listed<Listed<u32>>,
+    even: &Listed<u32>,
+    odd: &Listed<u32>,
 ) -> Result<(), CheckError>
     requires { length rows.now < 2 ^ 32 }
     ensures told { Tells (reached.no_chain_flaw a.now name rows.now even.now odd.now) result }
@@ -164,5 +164,12 @@ pub(crate) fn no_chain(
     generated();
     // What this call ensures is that the algebra has an element.
     let _size = a.size();
-    no_chain_flaws(alloc, a, name, rows, even, odd)
+    no_chain_flaws(
+        alloc,
+        a,
+        name,
+        rows.as_slice(),
+        even.as_slice(),
+        odd.as_slice(),
+    )
 }

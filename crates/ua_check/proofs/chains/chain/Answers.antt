@@ -11,7 +11,7 @@ pub chain_flaws-requires-clause-three : goal.chain_flaws-requires-clause-three
 chain_flaws-requires-clause-three c = ap (λ (kind : ChainKind). kind.places) c.in_ok-kind.ensures ∙ three_places c.args.name
 
 pub returns-clause-told : goal.returns-clause-told
-returns-clause-told c = subst (λ kind. Tells (first_refusal (chain_lines c.args.a.now kind c.args.terms.now)) c.chain_flaws.result) c.in_ok-kind.ensures c.chain_flaws.ensures
+returns-clause-told c = subst (λ f. Tells f c.chain_flaws.result) (λ i. first_refusal (chain_lines c.args.a.now (c.in_ok-kind.ensures i) (c.as_slice.ensures i))) c.chain_flaws.ensures
 
 pub returns-clause-holds : goal.returns-clause-holds
 returns-clause-holds c ok =
