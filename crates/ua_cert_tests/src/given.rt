@@ -120,60 +120,97 @@ fn chains(name: &str) -> Result<ChainName, Fail> {
     }
 }
 
-/// The certificate of this kind. Its text begins with the name of a condition or of chains, or `-`, and with the
-/// width or the number of places.
+/// The parts of a text: the name of a condition or of chains, or `-`, the width or the number of places, and
+/// up to four lists.
+#[derive(Drop)]
+struct Parts<'a> {
+    name: &'a str,
+    number: u32,
+    first: &'a str,
+    second: &'a str,
+    third: &'a str,
+    fourth: &'a str,
+}
+
+fn cut(text: &str) -> Result<Parts<'_>, Fail> {
+    let mut parts = text.split('/');
+    let head = parts.next().unwrap_or("");
+    let (name, number) = head.trim().split_once(' ').ok_or("no number")?;
+    Ok(Parts {
+        name,
+        number: number.parse()?,
+        first: parts.next().unwrap_or(""),
+        second: parts.next().unwrap_or(""),
+        third: parts.next().unwrap_or(""),
+        fourth: parts.next().unwrap_or(""),
+    })
+}
+
+/// The certificate of a kind that is about the subuniverse that vectors generate.
+fn cert_on_vectors(alloc: Global, kind: &str, parts: &Parts<'_>) -> Result<Cert, Fail>
+    ensures { IfOk result HasShortLists }
+{
+    match kind {
+        "member" => Ok(Cert::Member {
+            gens: vectors(alloc, parts.first)?,
+            steps: steps(alloc, parts.second)?,
+            target: numbers(alloc, parts.third)?,
+            width: parts.number,
+        }),
+        "not_member" => Ok(Cert::NotMember {
+            gens: vectors(alloc, parts.first)?,
+            rows: vectors(alloc, parts.second)?,
+            target: numbers(alloc, parts.third)?,
+            width: parts.number,
+        }),
+        "listing" => Ok(Cert::Listing {
+            gens: vectors(alloc, parts.first)?,
+            origins: steps(alloc, parts.second)?,
+            ranks: numbers(alloc, parts.third)?,
+            rows: vectors(alloc, parts.fourth)?,
+            width: parts.number,
+        }),
+        _ => Err("no such kind".into()),
+    }
+}
+
+/// The certificate of a kind that is about terms that meet a condition or are a chain.
+fn cert_on_terms(alloc: Global, kind: &str, parts: &Parts<'_>) -> Result<Cert, Fail>
+    ensures { IfOk result HasShortLists }
+{
+    match kind {
+        "condition" => Ok(Cert::Condition {
+            name: condition(parts.name)?,
+            k: parts.number,
+            steps: steps(alloc, parts.first)?,
+        }),
+        "no_condition" => Ok(Cert::NoCondition {
+            name: condition(parts.name)?,
+            k: parts.number,
+            rows: vectors(alloc, parts.first)?,
+        }),
+        "chain" => Ok(Cert::Chain {
+            name: chains(parts.name)?,
+            terms: listed(terms(alloc, parts.first)?)?,
+        }),
+        "no_chain" => Ok(Cert::NoChain {
+            name: chains(parts.name)?,
+            rows: vectors(alloc, parts.first)?,
+            even: numbers(alloc, parts.second)?,
+            odd: numbers(alloc, parts.third)?,
+        }),
+        _ => Err("no such kind".into()),
+    }
+}
+
+/// The certificate of this kind, by its parts in a text.
 fn cert(alloc: Global, kind: &str, text: &str) -> Result<Cert, Fail>
     ensures { IfOk result HasShortLists }
 {
-    let mut parts = text.split('/');
-    let head = parts.next().unwrap_or("");
-    let first = parts.next().unwrap_or("");
-    let second = parts.next().unwrap_or("");
-    let third = parts.next().unwrap_or("");
-    let fourth = parts.next().unwrap_or("");
-    let (name, number) = head.trim().split_once(' ').ok_or("no number")?;
-    let number: u32 = number.parse()?;
+    let parts = cut(text)?;
     match kind {
-        "member" => Ok(Cert::Member {
-            gens: vectors(alloc, first)?,
-            steps: steps(alloc, second)?,
-            target: numbers(alloc, third)?,
-            width: number,
-        }),
-        "not_member" => Ok(Cert::NotMember {
-            gens: vectors(alloc, first)?,
-            rows: vectors(alloc, second)?,
-            target: numbers(alloc, third)?,
-            width: number,
-        }),
-        "listing" => Ok(Cert::Listing {
-            gens: vectors(alloc, first)?,
-            origins: steps(alloc, second)?,
-            ranks: numbers(alloc, third)?,
-            rows: vectors(alloc, fourth)?,
-            width: number,
-        }),
-        "condition" => Ok(Cert::Condition {
-            name: condition(name)?,
-            k: number,
-            steps: steps(alloc, first)?,
-        }),
-        "no_condition" => Ok(Cert::NoCondition {
-            name: condition(name)?,
-            k: number,
-            rows: vectors(alloc, first)?,
-        }),
-        "chain" => Ok(Cert::Chain {
-            name: chains(name)?,
-            terms: listed(terms(alloc, first)?)?,
-        }),
-        "no_chain" => Ok(Cert::NoChain {
-            name: chains(name)?,
-            rows: vectors(alloc, first)?,
-            even: numbers(alloc, second)?,
-            odd: numbers(alloc, third)?,
-        }),
-        _ => Err("no such kind".into()),
+        "member" | "not_member" | "listing" => cert_on_vectors(alloc, kind, &parts),
+        _ => cert_on_terms(alloc, kind, &parts),
     }
 }
 
