@@ -1,6 +1,6 @@
 //! Words of four entries each, and the values of lines at them, for algebras of any size.
 
-ghost use Rattle.std.specs.Prelude.{◌≡◌, ℕ, ◌+◌, ◌-◌, ◌*◌, ◌/◌, ◌<◌, ◌≤◌, [], length, drop, slice_index, slice_index_or};
+ghost use Rattle.std.specs.Prelude.{◌≡◌, ℕ, ◌+◌, ◌-◌, ◌*◌, ◌/◌, ◌<◌, ◌≤◌, [], length, drop, slice_index, slice_index_or, slice_set};
 ghost use Rattle.std.specs.List.{AllByRecursion};
 ghost use Rattle.ua_rows.specs.Words.{lanes_of};
 ghost use Rattle.ua_lanes.specs.Quads.{IsBelow, values_in_word};
@@ -30,8 +30,23 @@ fn value_of(lines: &[Elem], size: usize, word: u64) -> u64
     value
 }
 
+/// Writes the values of lines at one word of a key, and answers them.
+#[inline(always)]
+fn write_word(lines: &[Elem], size: usize, key: &[u64], out: &mut [u64], j: usize) -> u64
+    requires lines { 4 * size * length key.now ≤ length lines.now }
+    requires as_many { length out.old ≡ length key.now }
+    requires below { AllByRecursion (IsBelow size) key.now }
+    requires place { j < length key.now }
+    ensures values { lanes_of result ≡ values_in_word (drop (4 * size * j) lines.now) size (slice_index key.now j) }
+    ensures written { out.new ≡ slice_set out.old j result }
+{
+    let word = value_of(&lines[4 * size * j..], size, key[j]);
+    out[j] = word;
+    word
+}
+
 /// Writes the values of lines at the words of a key, and answers a hash. The hash only guides a look-up, so nothing
-/// is said of it.
+/// is said of it. Two words are written at a time, since places are even and odd in turn to the hash.
 #[inline(always)]
 fn write_at(lines: &[Elem], size: usize, key: &[u64], out: &mut [u64]) -> u64
     requires lines { 4 * size * length key.now ≤ length lines.now }
@@ -40,10 +55,14 @@ fn write_at(lines: &[Elem], size: usize, key: &[u64], out: &mut [u64]) -> u64
     ensures { (j : ℕ) → j < length key.now → lanes_of (slice_index out.new j) ≡ values_in_word (drop (4 * size * j) lines.now) size (slice_index key.now j) }
 {
     let mut hash = SEED;
-    for j in 0..key.len() {
-        let word = value_of(&lines[4 * size * j..], size, key[j]);
-        out[j] = word;
-        hash = with_word(hash, word, j);
+    for i in 0..key.len() / 2 {
+        let even = write_word(lines, size, key, out, 2 * i);
+        let odd = write_word(lines, size, key, out, 2 * i + 1);
+        hash = with_word(with_word(hash, even, 0), odd, 1);
+    }
+    if key.len() % 2 == 1 {
+        let last = write_word(lines, size, key, out, key.len() - 1);
+        hash = with_word(hash, last, 0);
     }
     hash
 }

@@ -4,8 +4,8 @@ use Rattle.ua_rows.specs.Words.{lanes_of}
 use Rattle.ua_lanes.specs.Quads.{values_in_word}
 use Rattle.ua_lanes.proofs.quads.write_at.Given as goal
 
-abbrev pub invariant-loop-j : goal.invariant-loop-j
-invariant-loop-j l = record {
+abbrev pub invariant-loop-i : goal.invariant-loop-i
+invariant-loop-i l = record {
   long : length l.out ≡ length l.key;
-  done : (i : ℕ) → i < l.j → lanes_of (slice_index l.out i) ≡ values_in_word (drop (4 * l.size * i) l.lines) l.size (slice_index l.key i);
+  done : (j : ℕ) → j < 2 * l.i → lanes_of (slice_index l.out j) ≡ values_in_word (drop (4 * l.size * j) l.lines) l.size (slice_index l.key j);
 }
