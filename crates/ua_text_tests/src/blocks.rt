@@ -1,10 +1,11 @@
 //! Worked texts of an algebra, and of blocks with names.
 
 use crate::algebras::algebra;
-use crate::cases::{Call, expect, expect_of};
-use crate::texts::{put_bytes, put_value_of, tokens_of};
+use crate::cases::Call;
+use crate::texts::tokens_of;
 use std::alloc::Global;
 use std::test::Fail;
+use ua_cases::{expect, expect_of, put_bytes, put_value_of};
 use ua_table::Algebra;
 use ua_text::{Token, print_algebra, print_block, read_block};
 
@@ -47,7 +48,7 @@ fn blocks_in_canonical_print(rt: HostRuntime) -> Result<(), Fail> {
         algebra M size 2 op meet 2 = # the least~ 0 0\r~\t0 1 end close => algebra M size 2~op meet 2 = 0 0 0 1~end~
         algebra L size 3 names (bot mid top)~op f 1 = top 0 mid~op c 0 = mid~end => algebra L size 3 names (bot mid top)~op f 1 = 2 0 1~op c 0 = 1~end~
         algebra L size 3~op f 1 = 2 0 1~op c 0 = 1~end~ => algebra L size 3~op f 1 = 2 0 1~op c 0 = 1~end~";
-    expect(&rt, rt.alloc(), &Call::Block, "", cases)
+    expect(rt.alloc(), &Call::Block, cases)
 }
 
 /// A block alone, of version 1.
@@ -55,14 +56,14 @@ fn blocks_in_canonical_print(rt: HostRuntime) -> Result<(), Fail> {
 fn an_algebra_is_read(rt: HostRuntime) -> Result<(), Fail> {
     let case =
         "algebra M size 2~op meet 2 = 0 0 0 1~end~ => algebra M size 2~op meet 2 = 0 0 0 1~end~";
-    expect(&rt, rt.alloc(), &Call::Algebra, "", case)
+    expect(rt.alloc(), &Call::Algebra, case)
 }
 
 #[test]
 fn tokens_are_slices_at_their_places(rt: HostRuntime) -> Result<(), Fail> {
     let case =
         "op f2 0\r~# no token~ = 12ab {\"a\" 1~[ => (0, 1, 1, Word)op(3, 1, 4, Word)f2(6, 1, 7, Number)0(21, 3, 2, Mark)=(23, 3, 4, Number)12(25, 3, 6, Bad)a";
-    expect(&rt, rt.alloc(), &Call::Tokens, "", case)
+    expect(rt.alloc(), &Call::Tokens, case)
 }
 
 /// A block with a thousand names of 32 bytes, and this text behind them.
@@ -81,5 +82,5 @@ fn a_thousand_names_of_32_bytes(rt: HostRuntime) -> Result<(), Fail> {
     let alloc = rt.alloc();
     let text = thousand_names(alloc, " op last 0 = an_element_of_many_bytes_____999 end")?;
     let wanted = thousand_names(alloc, "\nop last 0 = 999\nend\n")?;
-    expect_of(&rt, alloc, &Call::Block, text.as_str(), wanted.as_str())
+    expect_of(alloc, &Call::Block, text.as_str(), wanted.as_str())
 }

@@ -1,4 +1,4 @@
-//! Tests of the text: tokens, blocks, terms, steps and scripts.
+//! Tests of the text: tokens, blocks, terms and steps.
 #![tactic(auto)]
 
 #[cfg(test)]
@@ -8,11 +8,7 @@ mod blocks;
 #[cfg(test)]
 mod cases;
 #[cfg(test)]
-mod faults;
-#[cfg(test)]
 mod printing;
-#[cfg(test)]
-mod scripts;
 #[cfg(test)]
 mod steps;
 #[cfg(test)]
@@ -21,5 +17,3 @@ mod terms;
 mod texts;
 #[cfg(test)]
 mod values;
-#[cfg(test)]
-mod versions;

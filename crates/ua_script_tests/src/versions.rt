@@ -1,7 +1,8 @@
 //! Faults of the two versions of scripts.
 
-use crate::cases::{Call, expect};
+use crate::cases::Call;
 use std::test::Fail;
+use ua_cases::expect;
 
 #[test]
 fn lines_of_versions(rt: HostRuntime) -> Result<(), Fail> {
@@ -15,7 +16,7 @@ fn lines_of_versions(rt: HostRuntime) -> Result<(), Fail> {
         version 2~version 2 => 2 1 Word
         con M version 2 => 1 7 Word
         versions 2 => 1 1 Word";
-    expect(&rt, rt.alloc(), &Call::ScriptFault, "", cases)
+    expect(rt.alloc(), &Call::ScriptFault, cases)
 }
 
 #[test]
@@ -29,7 +30,7 @@ fn sizes(rt: HostRuntime) -> Result<(), Fail> {
         version 2 algebra A size 1001 => 1 26 Number
         version 2~algebra T size 1000 op t 4 = 0 0 => 2 33 End
         version 2~algebra T size 1000 op t 4 = 0 end => 2 32 Value";
-    expect(&rt, rt.alloc(), &Call::ScriptFault, "", cases)
+    expect(rt.alloc(), &Call::ScriptFault, cases)
 }
 
 #[test]
@@ -40,7 +41,7 @@ fn names(rt: HostRuntime) -> Result<(), Fail> {
         version 2~algebra M size 2 names a => 2 24 Word
         version 2~algebra M size 2 names () => 2 25 Name
         version 2~algebra M size 2 names (a) => 2 26 Name";
-    expect(&rt, rt.alloc(), &Call::ScriptFault, "", cases)
+    expect(rt.alloc(), &Call::ScriptFault, cases)
 }
 
 #[test]
@@ -51,7 +52,7 @@ fn names_that_differ(rt: HostRuntime) -> Result<(), Fail> {
         version 2~algebra M size 2 names (a b c => 2 29 Word
         version 2~algebra M size 2 end names => 2 22 Word
         version 2~algebra M size 4 names (op end gen x0) op f 1 = end x0 op gen end => script";
-    expect(&rt, rt.alloc(), &Call::ScriptFault, "", cases)
+    expect(rt.alloc(), &Call::ScriptFault, cases)
 }
 
 #[test]
@@ -65,5 +66,5 @@ fn words_as_values_and_items(rt: HostRuntime) -> Result<(), Fail> {
         close M 1 [a => 1 12 Item
         version 2 close M 1 [a 0] => script
         version 2 close M 1 [a = => 1 24 Item";
-    expect(&rt, rt.alloc(), &Call::ScriptFault, "", cases)
+    expect(rt.alloc(), &Call::ScriptFault, cases)
 }
