@@ -1,6 +1,8 @@
 //! The reply to a command, by tables as those of the grammar.
 
 ghost use Rattle.std.specs.Prelude.{IfOk};
+ghost use Rattle.ua_script.specs.declared.script.Command.{Command};
+ghost use Rattle.ua_script.specs.Families.{IsOnCongruences, IsOnConditions};
 ghost use Rattle.ua_reply.specs.Sessions.{bounds_of};
 ghost use Rattle.ua_answer.specs.Replies.{IsProvableBuilt, IsPlainBuilt, IsBuilt, ProvableReply, PlainReply, Reply, left_by, IsNamedRight};
 
@@ -55,49 +57,35 @@ fn answer_provable<R: Threads + Sync, G: Gate>(
     }
 }
 
-/// The reply to a command that leaves the session as it was.
-pub fn answer_plain<R: Threads + Sync, G: Gate>(
+/// The reply to a question, with or without `cert` before it.
+fn answer_asked<R: Threads + Sync, G: Gate>(
+    context: &Context<R, G>,
+    what: &Provable,
+    mode: Mode,
+    cert: bool,
+) -> Result<Vec<u8>, AllocError>
+    requires { IsPlainBuilt (Command.Ask what.now mode cert) }
+    ensures { IfOk result (λ v. PlainReply context.now.session.now (bounds_of context.now.run.now.budget context.now.run.now.workers) (Command.Ask what.now mode cert) v.items) }
+{
+    if cert {
+        answer_cert(context, what)
+    } else {
+        answer_provable(context, what, mode)
+    }
+}
+
+/// The reply to a command on congruences.
+fn answer_on_congruences<R: Threads + Sync, G: Gate>(
     context: &Context<R, G>,
     command: &Command,
 ) -> Result<Vec<u8>, AllocError>
-    requires { IsPlainBuilt command.now }
+    requires { IsOnCongruences command.now }
     ensures { IfOk result (λ v. PlainReply context.now.session.now (bounds_of context.now.run.now.budget context.now.run.now.workers) command.now v.items) }
 {
     match command {
-        Command::Ask {
-            what,
-            mode,
-            cert: false,
-        } => answer_provable(context, what, *mode),
-        Command::Ask {
-            what,
-            mode: _,
-            cert: true,
-        } => answer_cert(context, what),
-        Command::Check { algebra, json } => answer_check(context, algebra, json.as_slice()),
-        Command::Free { algebra, k, mode } => answer_free(context, algebra, *k, *mode),
-        Command::Sub { algebra, set } => answer_sub(context, algebra, set),
-        Command::Ones { algebra } => answer_ones(context, algebra),
-        Command::Eval {
-            algebra,
-            term,
-            args,
-        } => answer_eval(context, algebra, term, args),
         Command::Cg { algebra, pairs } => answer_cg(context, algebra, pairs.as_slice()),
         Command::Con { algebra } => answer_con(context, algebra),
         Command::Types { algebra } => answer_types(context, algebra),
-        Command::Day { algebra } => answer_chain(context, algebra, ChainWord::Day),
-        Command::Condition {
-            algebra,
-            arity,
-            identities,
-        } => answer_condition(context, algebra, *arity, identities.as_slice()),
-        Command::Clone {
-            algebra,
-            arity,
-            kind,
-            points,
-        } => answer_clone(context, algebra, *arity, *kind, points),
         Command::Central {
             algebra,
             alpha,
@@ -110,18 +98,77 @@ pub fn answer_plain<R: Threads + Sync, G: Gate>(
             beta,
         } => answer_comm(context, algebra, alpha, beta),
         Command::Series { algebra, kind } => answer_series(context, algebra, *kind),
+        _ => unreachable!(),
+    }
+}
+
+/// The reply to a command on identities, conditions, chains or clones of terms.
+fn answer_on_conditions<R: Threads + Sync, G: Gate>(
+    context: &Context<R, G>,
+    command: &Command,
+) -> Result<Vec<u8>, AllocError>
+    requires family { IsOnConditions command.now }
+    requires built { IsPlainBuilt command.now }
+    ensures { IfOk result (λ v. PlainReply context.now.session.now (bounds_of context.now.run.now.budget context.now.run.now.workers) command.now v.items) }
+{
+    match command {
         Command::Holds {
             algebra,
             left,
             right,
         } => answer_holds(context, algebra, left, right),
+        Command::Day { algebra } => answer_chain(context, algebra, ChainWord::Day),
+        Command::Condition {
+            algebra,
+            arity,
+            identities,
+        } => answer_condition(context, algebra, *arity, identities.as_slice()),
+        Command::Clone {
+            algebra,
+            arity,
+            kind,
+            points,
+        } => answer_clone(context, algebra, *arity, *kind, points),
+        _ => unreachable!(),
+    }
+}
+
+/// The reply to a command that leaves the session as it was.
+pub fn answer_plain<R: Threads + Sync, G: Gate>(
+    context: &Context<R, G>,
+    command: &Command,
+) -> Result<Vec<u8>, AllocError>
+    requires { IsPlainBuilt command.now }
+    ensures { IfOk result (λ v. PlainReply context.now.session.now (bounds_of context.now.run.now.budget context.now.run.now.workers) command.now v.items) }
+{
+    match command {
+        Command::Ask { what, mode, cert } => answer_asked(context, what, *mode, *cert),
+        Command::Check { algebra, json } => answer_check(context, algebra, json.as_slice()),
+        Command::Free { algebra, k, mode } => answer_free(context, algebra, *k, *mode),
+        Command::Sub { algebra, set } => answer_sub(context, algebra, set),
+        Command::Ones { algebra } => answer_ones(context, algebra),
+        Command::Eval {
+            algebra,
+            term,
+            args,
+        } => answer_eval(context, algebra, term, args),
         Command::Hom {
             first,
             second,
             gens,
             images,
         } => answer_hom(context, first, second, gens, images),
-        _ => unreachable!(),
+        Command::Cg { .. }
+        | Command::Con { .. }
+        | Command::Types { .. }
+        | Command::Central { .. }
+        | Command::Comm { .. }
+        | Command::Series { .. } => answer_on_congruences(context, command),
+        Command::Holds { .. }
+        | Command::Day { .. }
+        | Command::Condition { .. }
+        | Command::Clone { .. } => answer_on_conditions(context, command),
+        Command::Make { .. } => unreachable!(),
     }
 }
 
