@@ -1,7 +1,7 @@
 //! Whether some term meets a condition.
 
-use super::{ANY, BOTH, GROUPS, MEET, ONE, Trial, rows, rows_of_version_1};
 use std::test::Fail;
+use ua_trials::{ANY, BOTH, GROUPS, MEET, ONE, Trial, rows, rows_of_version_1};
 
 const CONDITIONS: Trial = Trial {
     fronts: BOTH,

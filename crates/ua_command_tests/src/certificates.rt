@@ -1,11 +1,10 @@
 //! Certificates, printed and checked.
 
-use super::{ANY, BOTH, MEET, ONE, Trial, row, rows, told, writes};
 use std::alloc::Global;
-use std::process::Abort;
 use std::sync::Wait;
 use std::test::Fail;
 use std::thread::Threads;
+use ua_trials::{ANY, BOTH, MEET, ONE, Trial, row, rows, told, writes};
 
 /// The meet semilattice, asked by any number of workers.
 const CHECKS: Trial = Trial {
@@ -85,7 +84,7 @@ fn certificates_beyond_the_budget(rt: HostRuntime) -> Result<(), Fail> {
 }
 
 /// Checks a certificate, which ends its line.
-fn checked<R: Threads + Wait + Abort + Sync>(
+fn checked<R: Threads + Wait + Sync>(
     rt: &R,
     alloc: Global,
     json: &str,
@@ -97,11 +96,7 @@ fn checked<R: Threads + Wait + Abort + Sync>(
 }
 
 /// Checks the certificate of each line, and compares the reply with the rest of the line.
-fn checks<R: Threads + Wait + Abort + Sync>(
-    rt: &R,
-    alloc: Global,
-    cases: &str,
-) -> Result<(), Fail> {
+fn checks<R: Threads + Wait + Sync>(rt: &R, alloc: Global, cases: &str) -> Result<(), Fail> {
     for line in cases.trim().lines() {
         let (json, reply) = line.trim().split_once(" => ").ok_or("no reply")?;
         checked(rt, alloc, json, reply)?;
@@ -139,7 +134,7 @@ fn checks_of_terms(rt: HostRuntime) -> Result<(), Fail> {
 }
 
 /// The certificate that answers a question.
-fn certificate<R: Threads + Wait + Abort + Sync>(
+fn certificate<R: Threads + Wait + Sync>(
     rt: &R,
     alloc: Global,
     words: &str,
@@ -153,7 +148,7 @@ fn certificate<R: Threads + Wait + Abort + Sync>(
 }
 
 /// Whether the certificate of a question is valid where it is checked on the algebra of this name.
-fn verdict<R: Threads + Wait + Abort + Sync>(
+fn verdict<R: Threads + Wait + Sync>(
     rt: &R,
     alloc: Global,
     words: &str,
@@ -167,11 +162,7 @@ fn verdict<R: Threads + Wait + Abort + Sync>(
 }
 
 /// The verdict on the certificate of each line, which names its algebra and the question, by one worker and by many.
-fn verdicts<R: Threads + Wait + Abort + Sync>(
-    rt: &R,
-    alloc: Global,
-    cases: &str,
-) -> Result<(), Fail> {
+fn verdicts<R: Threads + Wait + Sync>(rt: &R, alloc: Global, cases: &str) -> Result<(), Fail> {
     for line in cases.trim().lines() {
         let (name, question) = line.trim().split_once(": ").ok_or("no question")?;
         verdict(rt, alloc, "--workers 1", name, question)?;

@@ -1,7 +1,7 @@
 //! Whether operations are those of terms, or of polynomials.
 
-use super::{ANY, BOTH, MEET, ONE, SECOND, Trial, rows, rows_of_version_1};
 use std::test::Fail;
+use ua_trials::{ANY, BOTH, MEET, ONE, SECOND, Trial, rows, rows_of_version_1};
 
 /// The meet semilattice and the group of two elements.
 const CLONES: Trial = Trial {

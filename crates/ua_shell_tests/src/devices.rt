@@ -1,12 +1,13 @@
 //! Devices that fail at each of their calls in turn, and that give or take one byte at a call.
 
-use super::{run_by, same, tell, told, words_of};
 use std::alloc::Global;
 use std::process::Abort;
 use std::sync::Wait;
 use std::test::Fail;
 use std::thread::Threads;
+use ua_cases::same;
 use ua_table::FreeGate;
+use ua_trials::{told, told_by};
 
 /// Three blocks, and a command for each kind of reply: rows, steps, a value, partitions, a certificate, an error.
 const SCRIPT: &str = "algebra M size 2 op meet 2 = 0 0 0 1 end
@@ -28,19 +29,17 @@ fn slowly<R: Threads + Wait + Sync>(
     source_fails: &[u32],
     sink_fails: &[u32],
 ) -> Result<String, Fail> {
-    let words = words_of(alloc, "--workers 1")?;
-    let script = SCRIPT.as_bytes();
-    let ended = run_by(
+    let (words, script) = ("--workers 1", SCRIPT.as_bytes());
+    told_by(
         rt,
         alloc,
-        &words,
+        words,
         script,
         1,
         source_fails,
         sink_fails,
         &FreeGate,
-    )?;
-    tell(alloc, &ended)
+    )
 }
 
 /// What is told of the script where nothing fails.
@@ -53,8 +52,7 @@ fn one_byte_at_a_call(rt: HostRuntime) -> Result<(), Fail> {
     let whole = undisturbed(&rt, rt.alloc())?;
     let found = slowly(&rt, rt.alloc(), &[], &[])?;
     assert!(rt; whole.starts_with("Done: ") && whole.len() > 206);
-    same(&rt, "one byte at a call", found.as_str(), whole.as_str());
-    Ok(())
+    same("one byte at a call", found.as_str(), whole.as_str())
 }
 
 /// Fails at this read.
@@ -78,7 +76,7 @@ fn reads_fail_in_turn(rt: HostRuntime) -> Result<(), Fail> {
 }
 
 /// Fails at this write, with what stands before it written.
-fn write_fails<R: Threads + Wait + Abort + Sync>(
+fn write_fails<R: Threads + Wait + Sync>(
     rt: &R,
     alloc: Global,
     whole: &str,
@@ -87,8 +85,7 @@ fn write_fails<R: Threads + Wait + Abort + Sync>(
     let found = slowly(rt, alloc, &[], &[call])?;
     let before = whole.get(..call as usize).ok_or("too short")?;
     let wanted = format!(in alloc; "WriteFault: {before}")?;
-    same(rt, "a failed write", found.as_str(), wanted.as_str());
-    Ok(())
+    same("a failed write", found.as_str(), wanted.as_str())
 }
 
 /// Fails at each write of the whole.

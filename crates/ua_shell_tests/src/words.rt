@@ -1,14 +1,14 @@
 //! The words of the command line.
 
-use super::{MEET, same, told, told_after};
 use std::alloc::Global;
-use std::process::Abort;
 use std::sync::Wait;
 use std::test::Fail;
 use std::thread::Threads;
+use ua_cases::same;
+use ua_trials::{MEET, told, told_after};
 
 /// Closes three vectors without operations after these words.
-fn closes<R: Threads + Wait + Abort + Sync>(
+fn closes<R: Threads + Wait + Sync>(
     rt: &R,
     alloc: Global,
     words: &str,
@@ -17,12 +17,11 @@ fn closes<R: Threads + Wait + Abort + Sync>(
     let script = b"algebra E size 3 end close E 1 [0] [1] [2] count";
     let found = told(rt, alloc, words, script, &[], &[])?;
     let wanted = format!(in alloc; "Done: {reply}\n")?;
-    same(rt, words, found.as_str(), wanted.as_str());
-    Ok(())
+    same(words, found.as_str(), wanted.as_str())
 }
 
 /// Closes after the words of each line, and compares the reply with the rest of the line.
-fn close_after_each<R: Threads + Wait + Abort + Sync>(
+fn close_after_each<R: Threads + Wait + Sync>(
     rt: &R,
     alloc: Global,
     cases: &str,
@@ -59,14 +58,10 @@ fn told_words<R: Threads + Wait + Sync>(
 }
 
 /// Tries the words of each line, which are in no stated form.
-fn refuses<R: Threads + Wait + Abort + Sync>(
-    rt: &R,
-    alloc: Global,
-    lines: &str,
-) -> Result<(), Fail> {
+fn refuses<R: Threads + Wait + Sync>(rt: &R, alloc: Global, lines: &str) -> Result<(), Fail> {
     for words in lines.trim().lines() {
         let found = told_words(rt, alloc, words)?;
-        same(rt, words, found.as_str(), "Usage: ");
+        same(words, found.as_str(), "Usage: ")?;
     }
     Ok(())
 }
@@ -82,9 +77,8 @@ fn told_word<R: Threads + Wait + Sync>(rt: &R, alloc: Global, word: &str) -> Res
 fn words_with_blanks(rt: HostRuntime) -> Result<(), Fail> {
     let empty = told_word(&rt, rt.alloc(), "")?;
     let joined = told_word(&rt, rt.alloc(), "--workers 2")?;
-    same(&rt, "an empty word", empty.as_str(), "Usage: ");
-    same(&rt, "a word with a blank", joined.as_str(), "Usage: ");
-    Ok(())
+    same("an empty word", empty.as_str(), "Usage: ")?;
+    same("a word with a blank", joined.as_str(), "Usage: ")
 }
 
 #[test]

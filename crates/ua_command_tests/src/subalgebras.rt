@@ -1,7 +1,7 @@
 //! Subalgebras, and homomorphisms.
 
-use super::{ANY, BOTH, GROUPS, ONE, SECOND, Trial, rows};
 use std::test::Fail;
+use ua_trials::{ANY, BOTH, GROUPS, ONE, SECOND, Trial, rows};
 
 const FIXED: Trial = Trial {
     fronts: BOTH,

@@ -1,20 +1,16 @@
 //! Scripts that are generated from a number.
 
-use super::{same, told};
 use std::alloc::Global;
-use std::process::Abort;
 use std::sync::Wait;
 use std::test::Fail;
 use std::thread::Threads;
+use ua_cases::same;
 use ua_script::print;
 use ua_shell::generated_script;
+use ua_trials::told;
 
 /// Runs the script that is generated from 0. The source fails at its first call, so nothing is read.
-fn writes_zero<R: Threads + Wait + Abort + Sync>(
-    rt: &R,
-    alloc: Global,
-    words: &str,
-) -> Result<(), Fail> {
+fn writes_zero<R: Threads + Wait + Sync>(rt: &R, alloc: Global, words: &str) -> Result<(), Fail> {
     let reply = "Done: closed 180
 congruences 3
 0 |0|1|2|
@@ -26,8 +22,7 @@ covers 2
 join irreducibles 1 2
 ";
     let found = told(rt, alloc, words, b"con", &[0], &[])?;
-    same(rt, words, found.as_str(), reply);
-    Ok(())
+    same(words, found.as_str(), reply)
 }
 
 #[test]

@@ -1,8 +1,8 @@
 //! Numbers and lengths at their limits, which are taken.
 
-use super::{ANY, BOTH, Trial, rows, writes};
 use std::alloc::{AllocError, Global};
 use std::test::Fail;
+use ua_trials::{ANY, BOTH, Trial, rows, writes};
 
 /// One element; as many elements as an algebra of version 1 may have; a semilattice with names of 32 bytes.
 const LARGEST: Trial = Trial {

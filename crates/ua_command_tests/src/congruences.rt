@@ -1,11 +1,10 @@
 //! Congruences.
 
-use super::{ALGEBRAS, ANY, BOTH, MEET, Trial, rows, told};
 use std::alloc::Global;
-use std::process::Abort;
 use std::sync::Wait;
 use std::test::Fail;
 use std::thread::Threads;
+use ua_trials::{ALGEBRAS, ANY, BOTH, MEET, Trial, rows, told};
 
 #[test]
 fn generated_congruences(rt: HostRuntime) -> Result<(), Fail> {
@@ -108,7 +107,7 @@ fn more_congruences_than_the_budget(rt: HostRuntime) -> Result<(), Fail> {
 }
 
 /// How many lines of partitions a run writes beyond the budget.
-fn count_listed<R: Threads + Wait + Abort + Sync>(
+fn count_listed<R: Threads + Wait + Sync>(
     rt: &R,
     alloc: Global,
     words: &str,

@@ -1,7 +1,7 @@
 //! Centrality, commutators and series.
 
-use super::{ANY, BOTH, GROUPS, ONE, Trial, rows};
 use std::test::Fail;
+use ua_trials::{ANY, BOTH, GROUPS, ONE, Trial, rows};
 
 const COMMUTATORS: Trial = Trial {
     fronts: BOTH,

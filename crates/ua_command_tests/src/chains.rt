@@ -1,7 +1,7 @@
 //! Least chains of terms.
 
-use super::{ANY, BOTH, GROUPS, MEET, ONE, Trial, rows, rows_of_version_1};
 use std::test::Fail;
+use ua_trials::{ANY, BOTH, GROUPS, MEET, ONE, Trial, rows, rows_of_version_1};
 
 const CHAINS: Trial = Trial {
     fronts: BOTH,

@@ -1,12 +1,13 @@
 //! Faults of the source and the sink, and the longest script.
 
-use super::{same, told};
 use std::alloc::Global;
 use std::sync::Wait;
 use std::test::Fail;
 use std::thread::Threads;
+use ua_cases::same;
 use ua_shell::Status;
 use ua_table::limits::SCRIPT;
+use ua_trials::told;
 
 const SCRIPT_OF_THREE: &[u8] = b"algebra M size 2
 op meet 2 = 0 0 0 1
@@ -18,10 +19,9 @@ fn faults_of_the_source_and_the_sink(rt: HostRuntime) -> Result<(), Fail> {
     let alloc = rt.alloc();
     let read = told(&rt, alloc, "", SCRIPT_OF_THREE, &[0], &[])?;
     let written = told(&rt, alloc, "", SCRIPT_OF_THREE, &[], &[2])?;
-    same(&rt, "the first read", read.as_str(), "ReadFault: ");
+    same("the first read", read.as_str(), "ReadFault: ")?;
     let wanted = "WriteFault: closed 0\nclosed 0\n";
-    same(&rt, "the third write", written.as_str(), wanted);
-    Ok(())
+    same("the third write", written.as_str(), wanted)
 }
 
 /// How a script of so many blanks ends.
@@ -38,9 +38,8 @@ fn told_blanks<R: Threads + Wait + Sync>(
 fn the_longest_script(rt: HostRuntime) -> Result<(), Fail> {
     let longest = told_blanks(&rt, rt.alloc(), SCRIPT)?;
     let longer = told_blanks(&rt, rt.alloc(), SCRIPT + 1)?;
-    same(&rt, "as long as may be", longest.as_str(), "Done: ");
-    same(&rt, "one blank more", longer.as_str(), "TooLong: ");
-    Ok(())
+    same("as long as may be", longest.as_str(), "Done: ")?;
+    same("one blank more", longer.as_str(), "TooLong: ")
 }
 
 #[test]

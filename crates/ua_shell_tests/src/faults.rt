@@ -1,12 +1,12 @@
 //! Texts that are no scripts.
 
-use super::{run_with, same};
-use std::alloc::{AllocError, Global};
-use std::process::Abort;
+use std::alloc::Global;
 use std::sync::Wait;
 use std::test::Fail;
 use std::thread::Threads;
+use ua_cases::{same, spelled};
 use ua_shell::Status;
+use ua_trials::run_with;
 
 /// Where a script is refused behind so many lines of a front, and why; how it ends otherwise. What is written follows.
 fn refusal<R: Threads + Wait + Sync>(
@@ -27,17 +27,8 @@ fn refusal<R: Threads + Wait + Sync>(
     })
 }
 
-/// A text behind a front, with a newline for each `~`.
-fn spelled(alloc: Global, front: &str, text: &str) -> Result<String, AllocError> {
-    let mut script = String::from_str(alloc, front)?;
-    for letter in text.chars() {
-        script.push(if letter == '~' { '\n' } else { letter })?;
-    }
-    Ok(script)
-}
-
 /// Runs a text behind a front of so many lines, and compares why it is refused.
-fn refuses<R: Threads + Wait + Abort + Sync>(
+fn refuses<R: Threads + Wait + Sync>(
     rt: &R,
     alloc: Global,
     (front, lines): (&str, u32),
@@ -46,12 +37,11 @@ fn refuses<R: Threads + Wait + Abort + Sync>(
 ) -> Result<(), Fail> {
     let script = spelled(alloc, front, text)?;
     let found = refusal(rt, alloc, script.as_str(), lines)?;
-    same(rt, text, found.as_str(), fault);
-    Ok(())
+    same(text, found.as_str(), fault)
 }
 
 /// Runs the text of each line behind a front of so many lines, and compares the fault with the rest of the line.
-fn expect<R: Threads + Wait + Abort + Sync>(
+fn expect<R: Threads + Wait + Sync>(
     rt: &R,
     alloc: Global,
     front: (&str, u32),
@@ -65,11 +55,7 @@ fn expect<R: Threads + Wait + Abort + Sync>(
 }
 
 /// The same faults in both versions, one line further down behind the line of the second.
-fn expect_both<R: Threads + Wait + Abort + Sync>(
-    rt: &R,
-    alloc: Global,
-    cases: &str,
-) -> Result<(), Fail> {
+fn expect_both<R: Threads + Wait + Sync>(rt: &R, alloc: Global, cases: &str) -> Result<(), Fail> {
     expect(rt, alloc, ("", 0), cases)?;
     expect(rt, alloc, ("version 2\n", 1), cases)
 }

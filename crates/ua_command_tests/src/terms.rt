@@ -1,7 +1,7 @@
 //! Values of terms.
 
-use super::{ALGEBRAS, ANY, BOTH, MEET, Trial, rows};
 use std::test::Fail;
+use ua_trials::{ALGEBRAS, ANY, BOTH, MEET, Trial, rows};
 
 #[test]
 fn values_in_a_semilattice(rt: HostRuntime) -> Result<(), Fail> {

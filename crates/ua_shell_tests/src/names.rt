@@ -1,11 +1,10 @@
 //! Elements with names.
 
-use super::{ANY, ONE, SECOND, Trial, rows, writes};
 use std::alloc::{AllocError, Global};
-use std::process::Abort;
 use std::sync::Wait;
 use std::test::Fail;
 use std::thread::Threads;
+use ua_trials::{ANY, ONE, SECOND, Trial, rows, writes};
 
 /// The meet semilattice of two elements with names, and two algebras that share theirs the other way round.
 const NAMED: &str = "algebra M size 2 names (bot top)
@@ -132,7 +131,7 @@ fn many_names(alloc: Global) -> Result<String, AllocError> {
 }
 
 /// Asks for the value of an element with a name of 32 letters.
-fn names_back<R: Threads + Wait + Abort + Sync>(
+fn names_back<R: Threads + Wait + Sync>(
     rt: &R,
     alloc: Global,
     block: &str,

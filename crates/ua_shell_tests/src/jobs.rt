@@ -1,13 +1,14 @@
 //! Runs that answer commands side by side.
 
-use super::{ALGEBRAS, MEET, run_by, same, tell, told, words_of, writes};
 use std::alloc::{AllocError, Global};
 use std::process::Abort;
 use std::sync::Wait;
 use std::sync::atomic::{AtomicBool, AtomicU32, Ordering};
 use std::test::Fail;
 use std::thread::{self, Threads};
+use ua_cases::same;
 use ua_table::Gate;
+use ua_trials::{ALGEBRAS, MEET, told, told_by, writes};
 
 /// The words for one job, for two jobs and for as many as there can be, each with one worker.
 const WORDS: &[&str] = &[
@@ -64,18 +65,8 @@ fn told_of<R: Threads + Wait + Sync>(
     script: &str,
     meeting: &Meeting,
 ) -> Result<String, Fail> {
-    let words = words_of(alloc, "--jobs 2 --workers 1")?;
-    let ended = run_by(
-        rt,
-        alloc,
-        &words,
-        script.as_bytes(),
-        1_000,
-        &[],
-        &[],
-        meeting,
-    )?;
-    tell(alloc, &ended)
+    let (words, script) = ("--jobs 2 --workers 1", script.as_bytes());
+    told_by(rt, alloc, words, script, 1_000, &[], &[], meeting)
 }
 
 #[test]
@@ -89,12 +80,11 @@ close M 2 [0 1] [1 0] count close M 2 [0 1] [1 0] count";
     let met = meeting.met.load(Ordering::SeqCst);
     let wanted = "Done: closed 3\nclosed 3\n";
     assert!(rt; met);
-    same(&rt, "a meeting", found.as_str(), wanted);
-    Ok(())
+    same("a meeting", found.as_str(), wanted)
 }
 
 /// Compares what a script writes with one job and with so many.
-fn same_bytes<R: Threads + Wait + Abort + Sync>(
+fn same_bytes<R: Threads + Wait + Sync>(
     rt: &R,
     alloc: Global,
     script: &str,
@@ -103,8 +93,7 @@ fn same_bytes<R: Threads + Wait + Abort + Sync>(
 ) -> Result<(), Fail> {
     let words = format!(in alloc; "--workers 1 --jobs {jobs}")?;
     let found = told(rt, alloc, words.as_str(), script.as_bytes(), &[], &[])?;
-    same(rt, jobs, found.as_str(), one);
-    Ok(())
+    same(jobs, found.as_str(), one)
 }
 
 /// What a script writes with one job, which is not nothing.
@@ -164,8 +153,7 @@ end
 close M 2 close M 2 close M 2";
     let found = told(&rt, rt.alloc(), "--jobs 2", script, &[], &[2])?;
     let wanted = "WriteFault: closed 0\nclosed 0\n";
-    same(&rt, "the third write", found.as_str(), wanted);
-    Ok(())
+    same("the third write", found.as_str(), wanted)
 }
 
 /// The block of the semilattice, so many commands on vectors of different lengths, and their replies.
@@ -186,7 +174,7 @@ fn commands(alloc: Global, count: usize) -> Result<(String, String), AllocError>
 }
 
 /// Compares what a script writes with each number of jobs.
-fn write_alike<R: Threads + Wait + Abort + Sync>(
+fn write_alike<R: Threads + Wait + Sync>(
     rt: &R,
     alloc: Global,
     script: &str,
@@ -199,11 +187,7 @@ fn write_alike<R: Threads + Wait + Abort + Sync>(
 }
 
 /// So many commands.
-fn batch<R: Threads + Wait + Abort + Sync>(
-    rt: &R,
-    alloc: Global,
-    count: usize,
-) -> Result<(), Fail> {
+fn batch<R: Threads + Wait + Sync>(rt: &R, alloc: Global, count: usize) -> Result<(), Fail> {
     let (script, replies) = commands(alloc, count)?;
     write_alike(rt, alloc, script.as_str(), replies.as_str())
 }

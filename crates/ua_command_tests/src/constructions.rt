@@ -1,7 +1,7 @@
 //! Algebras made from others.
 
-use super::{ANY, BOTH, GROUPS, SECOND, Trial, rows};
 use std::test::Fail;
+use ua_trials::{ANY, BOTH, GROUPS, SECOND, Trial, rows};
 
 const MADE: Trial = Trial {
     fronts: BOTH,

@@ -1,7 +1,7 @@
 //! Closures.
 
-use super::{ANY, BOTH, MEET, ONE, Trial, rows};
 use std::test::Fail;
+use ua_trials::{ANY, BOTH, MEET, ONE, Trial, rows};
 
 #[test]
 fn closures_by_one_worker(rt: HostRuntime) -> Result<(), Fail> {

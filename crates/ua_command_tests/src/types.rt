@@ -1,7 +1,7 @@
 //! The types of covers.
 
-use super::{ALGEBRAS, ANY, BOTH, Trial, rows};
 use std::test::Fail;
+use ua_trials::{ALGEBRAS, ANY, BOTH, Trial, rows};
 
 /// Two elements without an operation; the group, the Boolean algebra, the lattice and the semilattice of two.
 const TWO: &str = "algebra E size 2 end

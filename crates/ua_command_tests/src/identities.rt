@@ -1,7 +1,7 @@
 //! Free algebras and identities.
 
-use super::{ANY, BOTH, GROUPS, MEET, ONE, SECOND, Trial, rows};
 use std::test::Fail;
+use ua_trials::{ANY, BOTH, GROUPS, MEET, ONE, SECOND, Trial, rows};
 
 const FIXED: Trial = Trial {
     fronts: BOTH,
