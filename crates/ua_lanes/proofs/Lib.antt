@@ -1,9 +1,3 @@
-pub mod TileLaws
-pub mod ListLaws
-pub mod ColumnLaws
-pub mod PushLaws
-pub mod KnownLaws
 pub mod LineLaws
 pub mod WindowLaws
-pub mod QuadLaws
 pub mod LongLaws

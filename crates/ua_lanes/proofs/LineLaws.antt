@@ -1,10 +1,11 @@
 -- Lines of an operation: what a table's values at one coordinate say of the operation's vectors.
-use Rattle.std.proofs.Common.{◌≡◌, ℕ, zero, suc, ◌+◌, ◌-◌, ◌*◌, ◌^◌, ◌<◌, ◌≤◌, Bool, true, false, List, [], ◌∷◌, length, map, set, refl, sym, ap, ◌∙◌, subst, arith, Some, ⊎_elim}
+use Rattle.std.proofs.Common.{◌≡◌, ◌≢◌, ◌/◌, ◌%◌, ℕ, zero, suc, ◌+◌, ◌-◌, ◌*◌, ◌^◌, ◌<◌, ◌≤◌, Bool, true, false, List, [], ◌∷◌, length, map, set, replicate, refl, sym, ap, ◌∙◌, subst, arith, Some, ⊎_elim}
 use Rattle.std.specs.Prelude.{slice_get, slice_index, slice_index_or, slice_set, nat_lt, if◌then◌else◌}
 use Rattle.std.specs.List.{AllByRecursion}
-use Rattle.std.proofs.lemmas.Bool.{cases_lt, lt-ltb}
+use Rattle.std.proofs.Math.Nat.{one-le-pow, pow-le-pow_right, mul-le-mul}
+use Rattle.std.proofs.lemmas.Bool.{cases_lt, cases_eq, lt-ltb, le-ltb}
 use Rattle.std.proofs.lemmas.Grind.{same_number_lists}
-use Rattle.std.proofs.lemmas.List.{length-set, map-set}
+use Rattle.std.proofs.lemmas.List.{length-set, map-set, get_or-set_same, get_or-set_other}
 use Rattle.std.proofs.lemmas.List.FromFn.{length-map-range_with_len, get_or-map-range_with_len}
 use Rattle.std.proofs.lemmas.Option.{get_or_from_slice_get}
 use Rattle.ua_table.specs.Algebras.{Vector, Operation, FiniteAlgebra, Product, IsOperation, IsAlgebra, IsProduct, IsVector, numeral, value_at, column, apply}
@@ -13,8 +14,9 @@ use Rattle.ua_table.specs.Tables.{IsTable}
 use Rattle.ua_table.proofs.Codes.{numeral-cons}
 use Rattle.ua_table.proofs.ApplyLemmas.{operation_at, length-apply, apply_at, numeral-below}
 use Rattle.ua_rows.proofs.ApplyForms.{size_is}
-use Rattle.ua_lanes.specs.Columns.{values_at}
-use Rattle.ua_lanes.specs.Lines.{IsSmallProduct, size_at, algebra_at, line_value}
+use Rattle.ua_columns.specs.Tiles.{value_across}
+use Rattle.ua_columns.specs.Columns.{limit, entry_of, values_at}
+use Rattle.ua_lanes.specs.Lines.{AreSizesAtMost, scale_at, size_at, algebra_at, line_value}
 use Rattle.ua_rows.proofs.LineLaws.{all_or}
 
 -- ---- the algebra of a coordinate
@@ -25,29 +27,29 @@ size_there p x a at = get_or_from_slice_get (map (λ (b : FiniteAlgebra). b.size
 pub algebra_there : (p : Product) (x : ℕ) (a : FiniteAlgebra) → slice_get p x ≡ Some a → algebra_at p x ≡ a
 algebra_there p x a at = get_or_from_slice_get p x a record { name = []; size = 0; operations = [] } at
 
-pub small_there : (p : Product) (x : ℕ) (a : FiniteAlgebra) → IsSmallProduct p → slice_get p x ≡ Some a → a.size < 17
-small_there p x a small at = All-slice_get (λ (b : FiniteAlgebra). b.size < 17) p x a small at
+pub size_most : (n : ℕ) (p : Product) (x : ℕ) (a : FiniteAlgebra) → AreSizesAtMost n p → slice_get p x ≡ Some a → a.size ≤ n
+size_most n p x a sizes at = All-slice_get (λ (b : FiniteAlgebra). b.size ≤ n) p x a sizes at
 
--- ---- lines are of numbers below sixteen
+-- ---- lines are of numbers below the size
 
-values_small : (a : FiniteAlgebra) (os : List Operation) → a.size < 17 → AllByRecursion (λ (o : Operation). (o.size ≡ a.size) × IsOperation o) os → AllByRecursion (AllByRecursion (λ v. v < 16)) (map (λ (o : Operation). o.values) os)
-values_small a [] small all = tt
-values_small a (o ∷ os) small all =
+values_low : (n : ℕ) (a : FiniteAlgebra) (os : List Operation) → a.size ≤ n → AllByRecursion (λ (o : Operation). (o.size ≡ a.size) × IsOperation o) os → AllByRecursion (AllByRecursion (λ v. v < n)) (map (λ (o : Operation). o.values) os)
+values_low n a [] most all = tt
+values_low n a (o ∷ os) most all =
     let fine = all.0 in
     let size = fine.0 in
-    (all_weaker (λ v. v < o.size) (λ v. v < 16) (λ v low. omega (arith, low, size, small)) o.values fine.1.below, values_small a os small all.1)
+    (all_weaker (λ v. v < o.size) (λ v. v < n) (λ v low. omega (arith, low, size, most)) o.values fine.1.below, values_low n a os most all.1)
 
-value_small : (a : FiniteAlgebra) (f : ℕ) (xs : List ℕ) → IsAlgebra a → a.size < 17 → value_at a f xs < 16
-value_small a f xs h small =
-    all_or (λ v. v < 16) (slice_index_or (map (λ (o : Operation). o.values) a.operations) f []) (numeral a.size xs) 0 (omega arith)
-    (all_or (AllByRecursion (λ v. v < 16)) (map (λ (o : Operation). o.values) a.operations) f [] tt (values_small a a.operations small h.operations))
+value_low : (n : ℕ) (a : FiniteAlgebra) (f : ℕ) (xs : List ℕ) → 0 < n → IsAlgebra a → a.size ≤ n → value_at a f xs < n
+value_low n a f xs some h most =
+    all_or (λ v. v < n) (slice_index_or (map (λ (o : Operation). o.values) a.operations) f []) (numeral a.size xs) 0 some
+    (all_or (AllByRecursion (λ v. v < n)) (map (λ (o : Operation). o.values) a.operations) f [] tt (values_low n a a.operations most h.operations))
 
-default_small : (p : Product) (f x : ℕ) (xs : List ℕ) → IsProduct p → IsSmallProduct p → value_at (algebra_at p x) f xs < 16
-default_small p f x xs h small = ⊎_elim
+default_low : (n : ℕ) (p : Product) (f x : ℕ) (xs : List ℕ) → 0 < n → IsProduct p → AreSizesAtMost n p → value_at (algebra_at p x) f xs < n
+default_low n p f x xs some h sizes = ⊎_elim
     (λ low. (let there = found p x low in
-    subst (λ (a : FiniteAlgebra). value_at a f xs < 16) (sym (algebra_there p x there.0 there.1))
-    (value_small there.0 f xs (All-slice_get IsAlgebra p x there.0 h.algebras there.1) (small_there p x there.0 small there.1))))
-    (λ high. subst (λ (a : FiniteAlgebra). value_at a f xs < 16) (sym (past p x high)) (omega arith))
+    subst (λ (a : FiniteAlgebra). value_at a f xs < n) (sym (algebra_there p x there.0 there.1))
+    (value_low n there.0 f xs some (All-slice_get IsAlgebra p x there.0 h.algebras there.1) (size_most n p x there.0 sizes there.1))))
+    (λ high. subst (λ (a : FiniteAlgebra). value_at a f xs < n) (sym (past p x high)) some)
     (cases_lt x (length p))
   where
     past : (p : Product) (x : ℕ) → length p ≤ x → algebra_at p x ≡ record { name = []; size = 0; operations = [] }
@@ -55,12 +57,83 @@ default_small p f x xs h small = ⊎_elim
     past (a ∷ p) zero high = absurd (omega (arith, high))
     past (a ∷ p) (suc x) high = past p x (omega (arith, high))
 
-pub line_small : (p : Product) (f : ℕ) (vs : List Vector) (free x y : ℕ) → IsProduct p → IsSmallProduct p → line_value p f vs free x y < 16
-line_small p f vs free x y h small = either (nat_lt y (size_at p x))
+pub line_low : (n : ℕ) (p : Product) (f : ℕ) (vs : List Vector) (free x y : ℕ) → 0 < n → IsProduct p → AreSizesAtMost n p → line_value p f vs free x y < n
+line_low n p f vs free x y some h sizes = either (nat_lt y (size_at p x))
   where
-    either : (b : Bool) → (if b then value_at (algebra_at p x) f (slice_set (column vs x) free y) else 0) < 16
-    either true = default_small p f x (slice_set (column vs x) free y) h small
-    either false = omega arith
+    either : (b : Bool) → (if b then value_at (algebra_at p x) f (slice_set (column vs x) free y) else 0) < n
+    either true = default_low n p f x (slice_set (column vs x) free y) some h sizes
+    either false = some
+
+-- ---- a line in parts of sixteen
+
+-- one value of it was written
+module _ (line : List (List ℕ)) (column : List ℕ) (y : ℕ) (within : y / 16 < length line) where
+  pub across_here : (v : ℕ) → slice_index column (y % 16) ≡ v → value_across (set line (y / 16) column) y ≡ v
+  across_here v is = ap (λ (c : List ℕ). slice_index c (y % 16)) (get_or-set_same line (y / 16) column [] within) ∙ is
+
+  pub across_others : ((r : ℕ) → r ≢ y % 16 → slice_index column r ≡ slice_index (slice_index_or line (y / 16) []) r) → (k : ℕ) → k ≢ y → value_across (set line (y / 16) column) k ≡ value_across line k
+  across_others others k apart = ⊎_elim
+      (λ same. (let rest : k % 16 ≢ y % 16 = λ e. apart (omega (arith, e, same)) in
+      ap (λ n. slice_index (slice_index_or (set line (y / 16) column) n []) (k % 16)) same
+      ∙ ap (λ (c : List ℕ). slice_index c (k % 16)) (get_or-set_same line (y / 16) column [] within)
+      ∙ others (k % 16) rest ∙ ap (λ n. slice_index (slice_index_or line n []) (k % 16)) (sym same)))
+      (λ other. ap (λ (c : List ℕ). slice_index c (k % 16)) (get_or-set_other line (y / 16) (k / 16) column [] other))
+      (cases_eq (k / 16) (y / 16))
+
+-- ---- a column of a tile that was written
+
+module _ (out : List (List (List ℕ))) (tile : List (List ℕ)) (x : ℕ) (within : x / 16 < length out) where
+  pub column_here : (y : ℕ) → entry_of (set out (x / 16) tile) y x ≡ slice_index (slice_index_or tile (x % 16) []) y
+  column_here y = ap (λ (t : List (List ℕ)). slice_index (slice_index_or t (x % 16) []) y) (get_or-set_same out (x / 16) tile [] within)
+
+  pub column_others : ((c : ℕ) → c ≢ x % 16 → slice_index_or tile c [] ≡ slice_index_or (slice_index_or out (x / 16) []) c []) → (k y : ℕ) → k ≢ x → entry_of (set out (x / 16) tile) y k ≡ entry_of out y k
+  column_others others k y apart = ⊎_elim
+      (λ same. (let rest : k % 16 ≢ x % 16 = λ e. apart (omega (arith, e, same)) in
+      ap (λ n. slice_index (slice_index_or (slice_index_or (set out (x / 16) tile) n []) (k % 16) []) y) same
+      ∙ ap (λ (t : List (List ℕ)). slice_index (slice_index_or t (k % 16) []) y) (get_or-set_same out (x / 16) tile [] within)
+      ∙ ap (λ (c : List ℕ). slice_index c y) (others (k % 16) rest)
+      ∙ ap (λ n. slice_index (slice_index_or (slice_index_or out n []) (k % 16) []) y) (sym same)))
+      (λ other. ap (λ (t : List (List ℕ)). slice_index (slice_index_or t (k % 16) []) y) (get_or-set_other out (x / 16) (k / 16) tile [] other))
+      (cases_eq (k / 16) (x / 16))
+
+-- ---- by what values are multiplied
+
+pub some_scale : (in_bytes : Bool) (x : ℕ) → 0 < scale_at in_bytes x
+some_scale true x = omega arith
+some_scale false x = pow_pos (x % 2)
+  where
+    pow_pos : (k : ℕ) → 0 < 16 ^ k
+    pow_pos k = (let e = one-le-pow k 16 (omega arith) in omega (arith, e))
+
+pub scale_fits : (in_bytes : Bool) (x size : ℕ) → size ≤ limit in_bytes → size * scale_at in_bytes x ≤ 256
+scale_fits true x size most = omega (arith, most)
+scale_fits false x size most = mul-le-mul most power
+  where
+    power : 16 ^ (x % 2) ≤ 16
+    power = (let some : 0 < 16 = omega arith in let low : x % 2 ≤ 1 = omega arith in pow-le-pow_right some low)
+
+-- ---- past the last coordinate
+
+pub zeros_low : (n parts : ℕ) → 0 < n → AllByRecursion (AllByRecursion (λ x. x < n)) (replicate parts (replicate 16 0))
+zeros_low n parts some = all_replicate (AllByRecursion (λ x. x < n)) (replicate 16 0) parts (all_replicate (λ x. x < n) 0 16 some)
+  where
+    all_replicate : {X : Type 0} (P : X → Type 0) (x : X) (k : ℕ) → P x → AllByRecursion P (replicate k x)
+    all_replicate P x zero h = tt
+    all_replicate P x (suc k) h = (h, all_replicate P x k h)
+
+pub zeros_across : (parts y : ℕ) → value_across (replicate parts (replicate 16 0)) y ≡ 0
+zeros_across parts y =
+    let low : value_across (replicate parts (replicate 16 0)) y < 1 = all_or (λ n. n < 1) (slice_index_or (replicate parts (replicate 16 0)) (y / 16) []) (y % 16) 0 (omega arith)
+    (all_or (AllByRecursion (λ n. n < 1)) (replicate parts (replicate 16 0)) (y / 16) [] tt (zeros_low 1 parts (omega arith))) in
+    omega (arith, low)
+
+pub line_past : (p : Product) (f : ℕ) (vs : List Vector) (free x y : ℕ) → length p ≤ x → line_value p f vs free x y ≡ 0
+line_past p f vs free x y past = ap (λ (b : Bool). if b then value_at (algebra_at p x) f (slice_set (column vs x) free y) else 0) (le-ltb y (size_at p x) (let n = none p x past in omega (arith, n)))
+  where
+    none : (p : Product) (x : ℕ) → length p ≤ x → size_at p x ≡ 0
+    none [] x past = refl
+    none (a ∷ p) zero past = absurd (omega (arith, past))
+    none (a ∷ p) (suc x) past = none p x (omega (arith, past))
 
 -- ---- the value of a table is that of the line
 

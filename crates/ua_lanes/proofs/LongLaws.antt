@@ -1,33 +1,24 @@
 -- Vectors of a product in words, and their lines, with more vectors.
-use Rattle.std.proofs.Common.{◌≡◌, ℕ, suc, ◌*◌, ◌<◌, ◌≤◌, List, [], ◌∷◌, ◌++◌, length, refl, sym, ap, ◌∙◌, subst, arith}
+use Rattle.std.proofs.Common.{◌≡◌, ℕ, ◌*◌, ◌<◌, ◌≤◌, List, ◌++◌, length, sym, ap, ◌∙◌, subst, arith}
 use Rattle.std.specs.List.{AllByRecursion}
 use Rattle.std.proofs.Math.Nat.{mul-le-mul_right}
+use Rattle.std.proofs.lemmas.Grind.{div_ceil_times}
 use Rattle.ua_table.specs.Algebras.{Vector, FiniteAlgebra, Product, IsVector}
 use Rattle.ua_rows.specs.RowLists.{rows_at}
 use Rattle.ua_rows.specs.Words.{words_for}
-use Rattle.ua_lanes.specs.Lines.{size_at, line_value}
-use Rattle.ua_lanes.specs.Quads.{QuadVectors, AreLongLines}
+use Rattle.ua_lanes.specs.Lines.{line_value}
+use Rattle.ua_columns.specs.Quads.{QuadVectors, AreLongLines}
 use Rattle.ua_lanes.specs.LargeLanes.{AreQuadVectors, HasLongLines, IsLongWindow}
 use Rattle.ua_lanes.specs.Windows.{tuple_of}
 use Rattle.ua_lanes.specs.declared.long_windows.LongWindow.{LongWindow}
 use Rattle.ua_table.proofs.Lists.{all_append}
 use Rattle.ua_lanes.proofs.WindowLaws.{named_more, rows_more}
-use Rattle.ua_lanes.proofs.QuadLaws.{words_wide}
-
-pub sizes_by_index : (p : Product) (n : ℕ) → ((k : ℕ) → k < length p → size_at p k ≤ n) → AllByRecursion (λ (a : FiniteAlgebra). a.size ≤ n) p
-sizes_by_index [] n each = tt
-sizes_by_index (a ∷ p) n each = (each 0 (omega arith), sizes_by_index p n (λ k low. each (suc k) (omega (arith, low))))
-
-pub entries_low : (p : Product) (n : ℕ) (v : Vector) → AllByRecursion (λ (a : FiniteAlgebra). a.size ≤ n) p → IsVector p v → AllByRecursion (λ x. x < n) v
-entries_low [] n [] sizes vector = tt
-entries_low [] n (x ∷ v) sizes vector = absurd vector
-entries_low (a ∷ p) n [] sizes vector = absurd vector
-entries_low (a ∷ p) n (x ∷ v) sizes vector = (let low = vector.0 in let s = sizes.0 in omega (arith, low, s), entries_low p n v sizes.1 vector.1)
 
 -- lines of all coordinates are within lines of all words
 pub lines_whole : (width size : ℕ) → width * size ≤ 4 * size * words_for width
 lines_whole width size =
-    let m : width * size ≤ (4 * words_for width) * size = mul-le-mul_right size (words_wide width (words_for width) refl) in
+    let d = (div_ceil_times width 4 (omega arith)).0 in
+    let m : width * size ≤ (4 * words_for width) * size = mul-le-mul_right size (let w : width ≤ 4 * words_for width = omega (arith, d) in w) in
     let e : (4 * words_for width) * size ≡ 4 * size * words_for width = search arith in
     omega (arith, m, e)
 

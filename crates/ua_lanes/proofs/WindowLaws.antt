@@ -1,5 +1,5 @@
 -- What a window tells, and that it stays true.
-use Rattle.std.proofs.Common.{◌≡◌, ◌≢◌, ℕ, suc, ◌+◌, ◌*◌, ◌<◌, List, [], ◌∷◌, ◌++◌, length, map, get_or, set, refl, sym, ap, ◌∙◌, subst, arith, ⊎_elim}
+use Rattle.std.proofs.Common.{◌≡◌, ◌≢◌, ℕ, suc, ◌+◌, ◌*◌, ◌<◌, ◌≤◌, Bool, List, [], ◌∷◌, ◌++◌, length, get_or, set, refl, sym, ap, ◌∙◌, subst, arith, ⊎_elim}
 use Rattle.std.specs.Prelude.{slice_index, slice_index_or, slice_set, Contains}
 use Rattle.std.specs.List.{AllByRecursion}
 use Rattle.std.proofs.Math.Seq.{take-set-lt}
@@ -7,10 +7,10 @@ use Rattle.std.proofs.lemmas.Bool.{cases_eq}
 use Rattle.std.proofs.lemmas.Grind.{same_number_lists}
 use Rattle.std.proofs.lemmas.List.{length-append, length-set, map-set, get_or-set_same, get_or-set_other, get_or_append_left, set-set}
 use Rattle.std.proofs.lemmas.List.Elements.{Contains-append_left}
-use Rattle.ua_table.specs.Algebras.{Vector, FiniteAlgebra, Product, IsVector, arities, apply}
+use Rattle.ua_table.specs.Algebras.{Vector, Product, IsVector, arities, apply}
 use Rattle.ua_rows.specs.RowLists.{rows_at}
-use Rattle.ua_lanes.specs.Columns.{AreLines, values_at}
-use Rattle.ua_lanes.specs.Lines.{IsSmallProduct, line_value}
+use Rattle.ua_columns.specs.Columns.{AreLinesOf, values_at}
+use Rattle.ua_lanes.specs.Lines.{AreSizesAtMost, size_at, line_value}
 use Rattle.ua_lanes.specs.Windows.{tuple_of, IsKnown, HasLines, IsWindow}
 use Rattle.ua_lanes.specs.declared.windows.Window.{Window}
 use Rattle.ua_table.proofs.Lists.{all_weaker, all_set, all_get_or}
@@ -62,34 +62,34 @@ known_more p items more f args h = record {
   stands = subst (Contains (items ++ more)) (ap (apply p f) (sym (rows_more items more (tuple_of p f args) h.named))) (Contains-append_left items more (apply p f (rows_at items (tuple_of p f args))) h.stands);
 }
 
-pub lines_more : (p : Product) (items more : List Vector) (f : ℕ) (fixed : List ℕ) (free : ℕ) (lines : List (List (List ℕ))) → HasLines p items f fixed free lines → HasLines p (items ++ more) f fixed free lines
-lines_more p items more f fixed free lines h = record {
+pub lines_more : (p : Product) (in_bytes : Bool) (items more : List Vector) (f : ℕ) (fixed : List ℕ) (free : ℕ) (lines : List (List (List ℕ))) → HasLines p in_bytes items f fixed free lines → HasLines p in_bytes (items ++ more) f fixed free lines
+lines_more p in_bytes items more f fixed free lines h = record {
   operation = h.operation;
   place = h.place;
   few = h.few;
   named = named_more items more (tuple_of p f fixed) h.named;
-  lines_are = subst (λ (vs : List Vector). AreLines (line_value p f vs free) lines) (sym (rows_more items more (tuple_of p f fixed) h.named)) h.lines_are;
+  lines_are = subst (λ (vs : List Vector). AreLinesOf in_bytes (line_value p f vs free) lines) (sym (rows_more items more (tuple_of p f fixed) h.named)) h.lines_are;
 }
 
-pub window_more : (p : Product) (items more : List Vector) (w : Window) → IsWindow p items w → IsWindow p (items ++ more) w
-window_more p items more w h = record {
+pub window_more : (p : Product) (in_bytes : Bool) (items more : List Vector) (w : Window) → IsWindow p in_bytes items w → IsWindow p in_bytes (items ++ more) w
+window_more p in_bytes items more w h = record {
   place = h.place;
   four = h.four;
   lines_long = h.lines_long;
   values_long = h.values_long;
   bytes = h.bytes;
-  lined = λ t. lines_more p items more w.op w.fixed w.free w.lines.items (h.lined t);
+  lined = λ t. lines_more p in_bytes items more w.op w.fixed w.free w.lines.items (h.lined t);
   told = λ r low bit. known_more p items more w.op (slice_set w.fixed w.free (16 * w.block + r)) (h.told r low bit);
 }
 
--- ---- vectors of a product of small algebras have small entries
+-- ---- sizes and entries
 
-pub entries_small : (p : Product) (v : Vector) → IsSmallProduct p → IsVector p v → AllByRecursion (λ x. x < 16) v
-entries_small [] [] small vector = tt
-entries_small [] (x ∷ v) small vector = absurd vector
-entries_small (a ∷ p) [] small vector = absurd vector
-entries_small (a ∷ p) (x ∷ v) small vector = (let low = vector.0 in let s = small.0 in omega (arith, low, s), entries_small p v small.1 vector.1)
+pub entries_low : (p : Product) (n : ℕ) (v : Vector) → AreSizesAtMost n p → IsVector p v → AllByRecursion (λ x. x < n) v
+entries_low [] n [] sizes vector = tt
+entries_low [] n (x ∷ v) sizes vector = absurd vector
+entries_low (a ∷ p) n [] sizes vector = absurd vector
+entries_low (a ∷ p) n (x ∷ v) sizes vector = (let low = vector.0 in let s = sizes.0 in omega (arith, low, s), entries_low p n v sizes.1 vector.1)
 
-pub small_by_index : (p : Product) → ((k : ℕ) → k < length p → slice_index (map (λ (a : FiniteAlgebra). a.size) p) k < 17) → IsSmallProduct p
-small_by_index [] each = tt
-small_by_index (a ∷ p) each = (each 0 (omega arith), small_by_index p (λ k low. each (suc k) (omega (arith, low))))
+pub sizes_by_index : (p : Product) (n : ℕ) → ((k : ℕ) → k < length p → size_at p k ≤ n) → AreSizesAtMost n p
+sizes_by_index [] n each = tt
+sizes_by_index (a ∷ p) n each = (each 0 (omega arith), sizes_by_index p n (λ k low. each (suc k) (omega (arith, low))))

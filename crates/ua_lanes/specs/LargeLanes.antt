@@ -1,18 +1,18 @@
 -- Vectors of a product of algebras of any size, in words of four entries.
-use Rattle.std.specs.Prelude.{◌≡◌, ◌≢◌, ℕ, ◌*◌, ◌^◌, ◌<◌, ◌≤◌, IsTrue, List, length, slice_index, vec_len}
+use Rattle.std.specs.Prelude.{◌≡◌, ◌≢◌, ℕ, ◌*◌, ◌^◌, ◌<◌, IsTrue, List, length, slice_index, vec_len}
 use Rattle.std.specs.List.{AllByRecursion}
-use Rattle.ua_table.specs.Algebras.{FiniteAlgebra, Product, IsProduct, IsVector, arities}
+use Rattle.ua_table.specs.Algebras.{Product, IsProduct, IsVector, arities}
 use Rattle.ua_rows.specs.RowLists.{rows_at}
 use Rattle.ua_rows.specs.Words.{words_for}
-use Rattle.ua_lanes.specs.Lines.{line_value}
-use Rattle.ua_lanes.specs.Quads.{QuadVectors, AreLongLines}
+use Rattle.ua_lanes.specs.Lines.{AreSizesAtMost, line_value}
+use Rattle.ua_columns.specs.Quads.{QuadVectors, AreLongLines}
 use Rattle.ua_lanes.specs.Windows.{tuple_of}
 use Rattle.ua_lanes.specs.declared.long_windows.LongWindow.{LongWindow}
 
 -- vectors of a product whose algebras have at most so many elements
 pub record AreQuadVectors (p : Product) (quads : QuadVectors) : Type 0 where
   pub product : IsProduct p
-  pub sizes : AllByRecursion (λ (a : FiniteAlgebra). a.size ≤ quads.size) p
+  pub sizes : AreSizesAtMost quads.size p
   pub size : quads.size < 2 ^ 16
   pub width : quads.width ≡ length p
   pub vectors : AllByRecursion (IsVector p) quads.items

@@ -1,6 +1,3 @@
-pub mod Tiles
-pub mod Columns
-pub mod Quads
 pub mod Lines
 pub mod Windows
 pub mod LaneLists

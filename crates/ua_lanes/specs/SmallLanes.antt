@@ -2,7 +2,7 @@
 use Rattle.std.specs.Prelude.{◌≡◌, List, length}
 use Rattle.std.specs.List.{AllByRecursion}
 use Rattle.ua_table.specs.Algebras.{Product, arities}
-use Rattle.ua_lanes.specs.Columns.{VectorColumns}
+use Rattle.ua_columns.specs.Columns.{VectorColumns}
 use Rattle.ua_lanes.specs.Windows.{AreVectors, IsWindow}
 use Rattle.ua_lanes.specs.declared.windows.Window.{Window}
 
@@ -10,4 +10,4 @@ use Rattle.ua_lanes.specs.declared.windows.Window.{Window}
 pub record AreSmallLanes (p : Product) (columns : VectorColumns) (ws : List Window) : Type 0 where
   pub vectors : AreVectors p columns
   pub many : length ws ≡ length (arities p)
-  pub windows : AllByRecursion (IsWindow p columns.items) ws
+  pub windows : AllByRecursion (IsWindow p columns.in_bytes columns.items) ws

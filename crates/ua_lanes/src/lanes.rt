@@ -1,12 +1,13 @@
 //! Vectors of a product in lanes: which values of an operation are known to be among them.
 
-ghost use Rattle.std.specs.Prelude.{◌≡◌, ◌<◌, ◌++◌, [], ◌∷◌, length, slice_index, OnOk, IfOk, IfSome};
+ghost use Rattle.std.specs.Prelude.{◌≡◌, ◌<◌, ◌≤◌, ◌++◌, [], ◌∷◌, length, slice_index, OnOk, IfOk, IfSome};
 ghost use Rattle.std.specs.List.{AllByRecursion};
 ghost use Rattle.ua_table.specs.Algebras.{IsVector, arities};
+ghost use Rattle.ua_lanes.specs.Lines.{AreSizesAtMost};
 ghost use Rattle.ua_lanes.specs.Windows.{tuple_of, AreBitsOf};
 
 use crate::large_lanes::LargeLanes;
-use crate::small_lanes::{SmallLanes, is_small};
+use crate::small_lanes::SmallLanes;
 use std::alloc::{AllocError, Global};
 use std::marker::Model;
 use ua_table::{Elem, Frame};
@@ -15,10 +16,15 @@ use ua_table::{Elem, Frame};
 /// however few vectors there are.
 const WIDTH: u32 = 4096;
 
+/// The greatest size of algebras in the form for small ones, where an entry takes half a byte, and where it takes a byte.
+const HALF_BYTE: u32 = 16;
+
+const BYTE: u32 = 64;
+
 /// The two forms of lanes.
 #[derive(Drop)]
 enum Form<'a> {
-    /// For algebras with at most sixteen elements.
+    /// For algebras with at most sixty-four elements.
     Small(SmallLanes<'a>),
     /// For all others.
     Large(LargeLanes<'a>),
@@ -43,6 +49,19 @@ impl<'a> Model for Lanes<'a> {
     ghost view = { λ a. lanes_in a.form };
 }
 
+/// The greatest size of the algebras of a frame.
+fn greatest_size(frame: &Frame) -> u32
+    ensures sizes { AreSizesAtMost result frame.now }
+    ensures some { 0 < result }
+    ensures small { result ≤ 1000 }
+{
+    let mut greatest = 1;
+    for x in 0..frame.width() {
+        greatest = greatest.max(frame.size_at(x));
+    }
+    greatest
+}
+
 /// Whether some operation has two arguments or more, so that many tuples differ in one place alone.
 fn has_runs(frame: &Frame) -> bool {
     let _width = frame.width();
@@ -64,11 +83,12 @@ impl<'a> Lanes<'a> {
         if frame.width() > WIDTH || !has_runs(frame) {
             return Ok(None);
         }
-        if is_small(frame) {
-            let form = Form::Small(SmallLanes::new(alloc, frame)?);
-            return Ok(Some(Lanes { form }));
-        }
-        let form = Form::Large(LargeLanes::new(alloc, frame)?);
+        let size = greatest_size(frame);
+        let form = if size <= BYTE {
+            Form::Small(SmallLanes::new(alloc, frame, size > HALF_BYTE)?)
+        } else {
+            Form::Large(LargeLanes::new(alloc, frame, size)?)
+        };
         Ok(Some(Lanes { form }))
     }
 

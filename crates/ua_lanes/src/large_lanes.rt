@@ -2,30 +2,18 @@
 
 ghost use Rattle.std.specs.Prelude.{◌≡◌, ◌<◌, ◌≤◌, ◌++◌, [], ◌∷◌, length, slice_index, OnOk, IfOk};
 ghost use Rattle.std.specs.List.{AllByRecursion};
-ghost use Rattle.ua_table.specs.Algebras.{FiniteAlgebra, IsVector, arities};
+ghost use Rattle.ua_table.specs.Algebras.{IsVector, arities};
+ghost use Rattle.ua_lanes.specs.Lines.{AreSizesAtMost};
 ghost use Rattle.ua_lanes.specs.Windows.{tuple_of, AreBitsOf};
 
 use crate::long_windows::LongWindow;
-use crate::quad_lists::Quads;
 use std::alloc::{AllocError, Global};
 use std::marker::Model;
+use ua_columns::Quads;
 use ua_table::{Elem, Frame};
 
 /// How many times as long as a line a run is at least where the lines are worth their making.
 const WORTH: u32 = 4;
-
-/// The greatest size of the algebras of a frame.
-fn greatest_size(frame: &Frame) -> u32
-    ensures sizes { AllByRecursion (λ (a : FiniteAlgebra). a.size ≤ result) frame.now }
-    ensures some { 0 < result }
-    ensures small { result ≤ 1000 }
-{
-    let mut greatest = 1;
-    for x in 0..frame.width() {
-        greatest = greatest.max(frame.size_at(x));
-    }
-    greatest
-}
 
 /// Whether a tuple has an entry at least this great.
 #[inline(always)]
@@ -56,14 +44,20 @@ impl<'a> Model for LargeLanes<'a> {
 }
 
 impl<'a> LargeLanes<'a> {
-    /// No vectors of a frame.
-    pub(crate) fn new(alloc: Global, frame: &'a Frame<'a>) -> Result<LargeLanes<'a>, AllocError>
-        requires { length frame.now ≤ 4096 }
+    /// No vectors of a frame whose algebras have at most so many elements.
+    pub(crate) fn new(
+        alloc: Global,
+        frame: &'a Frame<'a>,
+        size: u32,
+    ) -> Result<LargeLanes<'a>, AllocError>
+        requires width { length frame.now ≤ 4096 }
+        requires sizes { AreSizesAtMost size frame.now }
+        requires some { 0 < size }
+        requires small { size ≤ 1000 }
         ensures product { IfOk result (λ lanes. lanes.product ≡ frame.now) }
         ensures empty { IfOk result (λ lanes. lanes.items ≡ []) }
     {
         let width = frame.width() as usize;
-        let size = greatest_size(frame);
         Ok(LargeLanes {
             frame,
             quads: Quads::new(alloc, width, size as usize)?,

@@ -5,11 +5,11 @@ ghost use Rattle.std.specs.List.{AllByRecursion};
 ghost use Rattle.ua_table.specs.Algebras.{arities, numeral};
 ghost use Rattle.ua_rows.specs.RowLists.{rows_at};
 ghost use Rattle.ua_lanes.specs.Lines.{line_value};
-ghost use Rattle.ua_lanes.specs.Quads.{AreLongLines};
+ghost use Rattle.ua_columns.specs.Quads.{AreLongLines};
 ghost use Rattle.ua_lanes.specs.LargeLanes.{AreQuadVectors};
 
 use crate::lines::{line_in, value_in};
-use crate::quad_lists::Quads;
+use ua_columns::Quads;
 use ua_table::{Elem, Frame, OpTable};
 
 /// Writes the values of a table where the argument at the free place is each element, and the others are given,

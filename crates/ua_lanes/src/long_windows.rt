@@ -4,14 +4,13 @@ ghost use Rattle.std.specs.Prelude.{◌≡◌, ◌*◌, ◌^◌, ◌<◌, ◌≤
 ghost use Rattle.std.specs.List.{AllByRecursion};
 ghost use Rattle.ua_table.specs.Algebras.{Product, arities};
 ghost use Rattle.ua_lanes.specs.LargeLanes.{AreQuadVectors, IsLongWindow, IsLongLinedFor};
-ghost use Rattle.ua_lanes.specs.Quads.{QuadVectors};
+ghost use Rattle.ua_columns.specs.Quads.{QuadVectors};
 ghost use Rattle.ua_lanes.specs.Windows.{tuple_of, AreBitsOf};
 
 use crate::long_lines::write_long_lines;
-use crate::quad_lists::Quads;
-use crate::tiles::LANES;
 use crate::windows::agree;
 use std::alloc::{AllocError, Global};
+use ua_columns::{LANES, Quads};
 use ua_rows::ENTRIES;
 use ua_table::{Elem, Frame};
 

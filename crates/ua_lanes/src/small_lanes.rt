@@ -1,20 +1,17 @@
-//! Vectors of a product of algebras with at most sixteen elements in lanes.
+//! Vectors of a product of algebras with at most sixty-four elements in lanes.
 
-ghost use Rattle.std.specs.Prelude.{◌≡◌, ◌+◌, ◌<◌, ◌++◌, [], ◌∷◌, length, slice_index, IsTrue, OnOk, IfOk};
+ghost use Rattle.std.specs.Prelude.{◌≡◌, ◌+◌, ◌<◌, ◌++◌, [], ◌∷◌, length, slice_index, OnOk, IfOk};
 ghost use Rattle.std.specs.List.{AllByRecursion};
 ghost use Rattle.ua_table.specs.Algebras.{IsVector, arities};
-ghost use Rattle.ua_lanes.specs.Lines.{IsSmallProduct};
+ghost use Rattle.ua_columns.specs.Columns.{limit};
+ghost use Rattle.ua_lanes.specs.Lines.{AreSizesAtMost};
 ghost use Rattle.ua_lanes.specs.Windows.{tuple_of, AreBitsOf, IsWindow};
 
-use crate::columns::Columns;
-use crate::tiles::LANES;
 use crate::windows::Window;
 use std::alloc::{AllocError, Global};
 use std::marker::Model;
+use ua_columns::{Columns, LANES};
 use ua_table::{Elem, Frame};
-
-/// How many elements an algebra has at most here: as many as half a byte can be.
-const SIZE: u32 = 16;
 
 /// The vectors, by columns of sixteen. To a contract they are the value of `specs/Lanes.antt`.
 #[derive(Drop)]
@@ -37,43 +34,38 @@ impl<'a> Model for SmallLanes<'a> {
     ghost invariant = { λ a. AreSmallLanes a.frame.now a.columns a.windows.items };
 }
 
-/// Whether each algebra has few enough elements.
-pub(crate) fn is_small(frame: &Frame) -> bool
-    ensures { IsTrue result → IsSmallProduct frame.now }
-{
-    for x in 0..frame.width() {
-        if frame.size_at(x) > SIZE {
-            return false;
-        }
-    }
-    true
-}
-
 /// As many windows as there are operations, which tell nothing.
-fn windows_for(alloc: Global, frame: &Frame) -> Result<Vec<Window>, AllocError>
+fn windows_for(alloc: Global, frame: &Frame, in_bytes: bool) -> Result<Vec<Window>, AllocError>
     ensures many { IfOk result (λ windows. length windows.items ≡ length (arities frame.now)) }
-    ensures windows { IfOk result (λ windows. AllByRecursion (IsWindow frame.now []) windows.items) }
+    ensures windows { IfOk result (λ windows. AllByRecursion (IsWindow frame.now in_bytes []) windows.items) }
 {
-    let words = (frame.width() as usize).div_ceil(LANES);
+    let (tables, digits): (usize, usize) = if in_bytes { (4, 8) } else { (1, 16) };
+    let width = frame.width() as usize;
+    let tiles = tables * width.div_ceil(LANES);
+    let words = width.div_ceil(digits);
     let mut windows = Vec::new(alloc);
     for _ in frame.algebra_at(0).ops() {
-        windows.push(Window::new(alloc, words)?)?;
+        windows.push(Window::new(alloc, tiles, words)?)?;
     }
     Ok(windows)
 }
 
 impl<'a> SmallLanes<'a> {
-    /// No vectors of a frame.
-    pub(crate) fn new(alloc: Global, frame: &'a Frame<'a>) -> Result<SmallLanes<'a>, AllocError>
-        requires { IsSmallProduct frame.now }
+    /// No vectors of a frame, with entries that take a byte of a word each, or half of one.
+    pub(crate) fn new(
+        alloc: Global,
+        frame: &'a Frame<'a>,
+        in_bytes: bool,
+    ) -> Result<SmallLanes<'a>, AllocError>
+        requires { AreSizesAtMost (limit in_bytes) frame.now }
         ensures product { IfOk result (λ lanes. lanes.product ≡ frame.now) }
         ensures empty { IfOk result (λ lanes. lanes.items ≡ []) }
     {
         let width = frame.width() as usize;
         Ok(SmallLanes {
             frame,
-            columns: Columns::new(alloc, width)?,
-            windows: windows_for(alloc, frame)?,
+            columns: Columns::new(alloc, width, in_bytes)?,
+            windows: windows_for(alloc, frame, in_bytes)?,
         })
     }
 

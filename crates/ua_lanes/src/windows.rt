@@ -1,15 +1,14 @@
 //! A window: what is known of the tuples that differ in one place alone, with sixteen numbers there.
 
-ghost use Rattle.std.specs.Prelude.{◌≡◌, ◌≢◌, ℕ, ◌*◌, ◌/◌, ◌<◌, ◌≤◌, List, [], length, slice_index, IsTrue, IfSome, IfOk};
+ghost use Rattle.std.specs.Prelude.{◌≡◌, ◌≢◌, ℕ, ◌*◌, ◌/◌, ◌<◌, ◌≤◌, Bool, List, [], length, slice_index, IsTrue, IfSome, IfOk};
 ghost use Rattle.std.specs.List.{AllByRecursion};
 ghost use Rattle.ua_table.specs.Algebras.{Vector, Product, arities};
-ghost use Rattle.ua_lanes.specs.Columns.{words_for};
+ghost use Rattle.ua_columns.specs.Columns.{tables, tiles_for, words_for};
 ghost use Rattle.ua_lanes.specs.Windows.{AreVectors, AreBitsOf, IsLinedFor, IsWindow, tuple_of};
 
-use crate::columns::Columns;
 use crate::lines::write_lines;
-use crate::tiles::{Tile, push_tiles};
 use std::alloc::{AllocError, Global};
+use ua_columns::{Columns, Tile, push_tiles};
 use ua_table::Frame;
 
 /// How many vectors there are at least where a window is worth its lines.
@@ -47,12 +46,12 @@ pub(crate) fn agree(a: &[u32; 4], b: &[u32; 4], free: usize) -> bool
 }
 
 impl Window {
-    /// The window that tells nothing, for vectors of so many words.
-    pub(crate) fn new(alloc: Global, words: usize) -> Result<Window, AllocError>
-        ensures { IfOk result (λ w. (p : Product) → words ≡ words_for (length p) → IsWindow p [] w) }
+    /// The window that tells nothing, for vectors of so many words, with so many tiles of lines.
+    pub(crate) fn new(alloc: Global, tiles: usize, words: usize) -> Result<Window, AllocError>
+        ensures { IfOk result (λ w. (p : Product) (in_bytes : Bool) → tiles ≡ tables in_bytes * tiles_for (length p) → words ≡ words_for in_bytes (length p) → IsWindow p in_bytes [] w) }
     {
         let mut lines = Vec::new(alloc);
-        push_tiles(&mut lines, words)?;
+        push_tiles(&mut lines, tiles)?;
         Ok(Window {
             op: u32::MAX,
             fixed: [0; 4],
@@ -70,7 +69,7 @@ impl Window {
     #[inline(always)]
     fn told(&self, op: u32, args: &[u32; 4], place: usize) -> Option<u32>
         requires { place < 4 }
-        ensures { (p : Product) (items : List Vector) → IsWindow p items self.now → IfSome result (AreBitsOf p items op args.now place) }
+        ensures { (p : Product) (in_bytes : Bool) (items : List Vector) → IsWindow p in_bytes items self.now → IfSome result (AreBitsOf p items op args.now place) }
     {
         if self.op != op || self.free != place || !agree(args, &self.fixed, place) {
             return None;
@@ -93,13 +92,13 @@ impl Window {
         free: usize,
     )
         requires vectors { AreVectors frame.now columns.now }
-        requires window { IsWindow frame.now columns.now.items self.old }
+        requires window { IsWindow frame.now columns.now.in_bytes columns.now.items self.old }
         requires operation { op < length (arities frame.now) }
         requires arity { arity ≡ slice_index (arities frame.now) op }
         requires few { arity ≤ 4 }
         requires free { free < arity }
         requires named { AllByRecursion (λ a. a < length columns.now.items) (tuple_of frame.now op args.now) }
-        ensures window { IsWindow frame.now columns.now.items self.new }
+        ensures window { IsWindow frame.now columns.now.in_bytes columns.now.items self.new }
         ensures lined { IsLinedFor self.new op args.now }
         ensures free { self.new.free ≡ free }
     {
@@ -129,13 +128,13 @@ impl Window {
         free: usize,
     )
         requires vectors { AreVectors frame.now columns.now }
-        requires window { IsWindow frame.now columns.now.items self.old }
+        requires window { IsWindow frame.now columns.now.in_bytes columns.now.items self.old }
         requires operation { op < length (arities frame.now) }
         requires arity { arity ≡ slice_index (arities frame.now) op }
         requires few { arity ≤ 4 }
         requires free { free < arity }
         requires named { AllByRecursion (λ a. a < length columns.now.items) (tuple_of frame.now op args.now) }
-        ensures window { IsWindow frame.now columns.now.items self.new }
+        ensures window { IsWindow frame.now columns.now.in_bytes columns.now.items self.new }
         ensures lined { IsLinedFor self.new op args.now }
         ensures free { self.new.free ≡ free }
     {
@@ -156,11 +155,11 @@ impl Window {
         place: usize,
     ) -> u32
         requires vectors { AreVectors frame.now columns.now }
-        requires window { IsWindow frame.now columns.now.items self.old }
+        requires window { IsWindow frame.now columns.now.in_bytes columns.now.items self.old }
         requires operation { op < length (arities frame.now) }
         requires place { place < slice_index (arities frame.now) op }
         requires named { AllByRecursion (λ a. a < length columns.now.items) (tuple_of frame.now op args.now) }
-        ensures window { IsWindow frame.now columns.now.items self.new }
+        ensures window { IsWindow frame.now columns.now.in_bytes columns.now.items self.new }
         ensures known { AreBitsOf frame.now columns.now.items op args.now place result }
     {
         if columns.len() < FEW {
@@ -189,12 +188,12 @@ impl Window {
         place: usize,
     ) -> u32
         requires vectors { AreVectors frame.now columns.now }
-        requires window { IsWindow frame.now columns.now.items self.old }
+        requires window { IsWindow frame.now columns.now.in_bytes columns.now.items self.old }
         requires operation { op < length (arities frame.now) }
         requires place { place < slice_index (arities frame.now) op }
         requires few { place < 4 }
         requires named { AllByRecursion (λ a. a < length columns.now.items) (tuple_of frame.now op args.now) }
-        ensures window { IsWindow frame.now columns.now.items self.new }
+        ensures window { IsWindow frame.now columns.now.in_bytes columns.now.items self.new }
         ensures known { AreBitsOf frame.now columns.now.items op args.now place result }
     {
         match self.told(op, args, place) {

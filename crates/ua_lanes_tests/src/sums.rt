@@ -114,7 +114,10 @@ fn most_sums_are_known(rt: HostRuntime) -> Result<(), Fail> {
         (7, 16, 100),
         (16, 33, 45),
         (17, 5, 150),
+        (33, 8, 90),
         (60, 64, 300),
+        (64, 25, 200),
+        (65, 25, 400),
     ] {
         expect_most(&rt, rt.alloc(), size, width, count)?;
     }

@@ -1,34 +1,66 @@
-use Rattle.std.proofs.Common.{◌≡◌, ◌*◌, ◌%◌, ◌^◌, ◌<◌, length, take, sym, ap, ◌∙◌, subst, arith}
+use Rattle.std.proofs.Common.{◌≡◌, ◌*◌, ◌<◌, ◌≤◌, length, take, sym, ap, ◌∙◌, subst, arith}
 use Rattle.std.specs.List.{AllByRecursion}
 use Rattle.ua_rows.specs.RowLists.{rows_at}
-use Rattle.ua_rows.proofs.ApplyForms.{rows_at-vectors, size_is, arity_is, entries_below}
-use Rattle.ua_lanes.proofs.LineLaws.{small_there, line_is}
+use Rattle.ua_rows.proofs.ApplyForms.{rows_at-vectors, has_operation, size_is, arity_is, entries_below}
+use Rattle.ua_columns.specs.Columns.{limit}
+use Rattle.ua_lanes.specs.Lines.{scale_at}
+use Rattle.ua_lanes.proofs.LineLaws.{size_most, some_scale, scale_fits, zeros_across, line_past, line_is}
 use Rattle.ua_lanes.proofs.lines.line_of.Goals as goal
-use Rattle.ua_lanes.proofs.lines.line_of.Goals.{then-x-eq0, else-x-eq0}
 
-pub line_at-requires-clause-arity : goal.line_at-requires-clause-arity
-line_at-requires-clause-arity c =
-    c.requires.arity ∙ arity_is c.args.frame.now c.args.op c.args.x c.algebra_at.result.now c.algebra_at.ensures.product c.algebra_at.ensures.algebra c.op-table.result.now c.op-table.ensures.operation
+pub op-table-requires : goal.op-table-requires
+op-table-requires g c = has_operation c.args.frame.now c.args.op c.args.x c.algebra_at.result.now c.algebra_at.ensures.product c.algebra_at.ensures.algebra c.requires.operation
 
-pub line_at-requires-clause-below : goal.line_at-requires-clause-below
-line_at-requires-clause-below c =
+pub line_at-requires : goal.line_at-requires
+line_at-requires g c =
+    let p = c.args.frame.now in
+    let a = c.algebra_at.result.now in
+    let product = c.algebra_at.ensures.product in
+    let at = c.algebra_at.ensures.algebra in
+    let table = c.op-table.result.now in
+    let here = c.op-table.ensures.operation in
     let items = c.args.columns.now.items in
-    subst (AllByRecursion (λ x. x < c.op-table.result.now.size)) (sym c.entries_at-entries.ensures)
-    (entries_below c.args.frame.now c.args.op c.args.x c.algebra_at.result.now c.algebra_at.ensures.product c.algebra_at.ensures.algebra c.op-table.result.now c.op-table.ensures.operation
-    (rows_at items c.args.args.now) (rows_at-vectors c.args.frame.now items (length items) c.args.args.now (omega arith) c.requires.vectors.vectors c.requires.named))
+    let size : table.size ≡ a.size = size_is p c.args.op c.args.x a product at table here in
+    let limited : a.size ≤ limit c.args.columns.now.in_bytes = size_most (limit c.args.columns.now.in_bytes) p c.args.x a c.requires.vectors.sizes at in
+    let most : table.size ≤ limit c.args.columns.now.in_bytes = omega (arith, size, limited) in
+    let parts = c.requires.parts in
+    let room = c.requires.limit in
+    let scale : c.scale_of-scale.result ≡ scale_at c.args.columns.now.in_bytes c.args.x = c.scale_of-scale.ensures.scale ∙ ap (λ b. scale_at b c.args.x) c.is_in_bytes.ensures in (
+      (let f : g.row.PARTS * 16 < 9223372036854775808 = omega (arith, parts) in f),
+      (
+        c.requires.parts,
+        (
+          c.requires.few,
+          (
+            c.requires.arity ∙ arity_is p c.args.op c.args.x a product at table here,
+            (
+              c.requires.free,
+              (
+                subst (AllByRecursion (λ x. x < table.size)) (sym c.entries_at-entries.ensures)
+                    (entries_below p c.args.op c.args.x a product at table here (rows_at items c.args.args.now) (rows_at-vectors p items (length items) c.args.args.now (omega arith) c.requires.vectors.vectors c.requires.named)),
+                (
+                  omega (arith, most, room),
+                  (
+                    subst (λ n. 0 < n) (sym scale) (some_scale c.args.columns.now.in_bytes c.args.x),
+                    subst (λ n. table.size * n ≤ 256) (sym scale) (scale_fits c.args.columns.now.in_bytes c.args.x table.size most),
+                  ),
+                ),
+              ),
+            ),
+          ),
+        ),
+      ),
+    )
 
-pub line_at-requires-clause-size : goal.line_at-requires-clause-size
-line_at-requires-clause-size c =
-    let size = size_is c.args.frame.now c.args.op c.args.x c.algebra_at.result.now c.algebra_at.ensures.product c.algebra_at.ensures.algebra c.op-table.result.now c.op-table.ensures.operation in
-    let small = small_there c.args.frame.now c.args.x c.algebra_at.result.now c.requires.vectors.small c.algebra_at.ensures.algebra in
-    omega (arith, size, small)
+pub returns-then-x-width-clause-values : goal.returns-then-x-width-clause-values
+returns-then-x-width-clause-values g c y low =
+    let past : length c.args.frame.now ≤ c.args.x = (let w = c.width.ensures.width in let t = c.if-x-width.true in omega (arith, w, t)) in
+    let none = line_past c.args.frame.now c.args.op (rows_at c.args.columns.now.items c.args.args.now) c.args.free c.args.x y past in
+    let times : scale_at c.args.columns.now.in_bytes c.args.x * 0 ≡ 0 = omega arith in
+    zeros_across g.row.PARTS y ∙ sym (ap (λ n. scale_at c.args.columns.now.in_bytes c.args.x * n) none ∙ times)
 
 pub returns-clause-values : goal.returns-clause-values
-returns-clause-values c y low =
-    let scale : c.if-x-eq0.scale ≡ 16 ^ (c.args.x % 2) = elim c.if-x-eq0.branch [
-      | then-x-eq0 w ↦ (let even = w.if-x-eq0.true in w.scale-is ∙ sym (ap (λ n. 16 ^ n) even))
-      | else-x-eq0 w ↦ (let odd : c.args.x % 2 ≡ 1 = (let h = w.if-x-eq0.false in omega (arith, h)) in w.scale-is ∙ sym (ap (λ n. 16 ^ n) odd))
-    ] in
+returns-clause-values g c y low =
+    let scale : c.scale_of-scale.result ≡ scale_at c.args.columns.now.in_bytes c.args.x = c.scale_of-scale.ensures.scale ∙ ap (λ b. scale_at b c.args.x) c.is_in_bytes.ensures in
     let line = line_is c.args.frame.now c.args.op c.args.x c.algebra_at.result.now c.op-table.result.now c.algebra_at.ensures.product c.algebra_at.ensures.algebra c.op-table.ensures.operation
     (rows_at c.args.columns.now.items c.args.args.now) c.args.free y (take (length c.args.args.now) c.entries_at-entries.result) c.entries_at-entries.ensures in
     c.line_at.ensures.values y low ∙ (λ i. scale i * line i)

@@ -5,7 +5,7 @@ use Rattle.std.proofs.lemmas.Bool.{cases_lt}
 use borrow.Rule.Slice.PartMut.{put_mid, mid_len}
 use Rattle.ua_rows.specs.RowLists.{rows_at}
 use Rattle.ua_lanes.specs.Lines.{line_value}
-use Rattle.ua_lanes.proofs.QuadLaws.{put_long, put_here, put_before}
+use Rattle.ua_columns.proofs.ListLaws.{put_long, put_here, put_before}
 use Rattle.ua_lanes.proofs.long_lines.write_long_lines.Goals as goal
 
 pub loop-x-preserved : goal.loop-x-preserved

@@ -1,6 +1,7 @@
-use Rattle.std.proofs.Common.{◌≤◌, sym, ◌∙◌, subst, arith}
+use Rattle.std.proofs.Common.{sym, ◌∙◌, subst, arith}
 use Rattle.std.specs.List.{AllByRecursion}
-use Rattle.ua_table.specs.Algebras.{FiniteAlgebra, IsVector}
+use Rattle.ua_table.specs.Algebras.{IsVector}
+use Rattle.ua_lanes.specs.Lines.{AreSizesAtMost}
 use Rattle.ua_lanes.proofs.large_lanes.LargeLanes.new.Goals as goal
 
 pub invariant_of-result : goal.invariant_of-result
@@ -11,8 +12,8 @@ invariant_of-result c =
     record {
       vectors = record {
         product = c.width-width.ensures.product;
-        sizes = subst (λ n. AllByRecursion (λ (a : FiniteAlgebra). a.size ≤ n) p) (sym e.size) c.greatest_size-size.ensures.sizes;
-        size = (let s = c.greatest_size-size.ensures.small in let z = e.size in omega (arith, s, z));
+        sizes = subst (λ n. AreSizesAtMost n p) (sym e.size) c.requires.sizes;
+        size = (let s = c.requires.small in let z = e.size in omega (arith, s, z));
         width = e.width ∙ c.width-width.ensures.width;
         vectors = subst (AllByRecursion (IsVector p)) (sym e.empty) tt;
       };

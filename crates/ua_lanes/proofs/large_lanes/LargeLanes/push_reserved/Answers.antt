@@ -2,7 +2,8 @@ use Rattle.std.proofs.Common.{◌<◌, ◌∷◌, [], sym, ap, ◌∙◌, subst}
 use Rattle.ua_table.specs.Algebras.{FiniteAlgebra, Product, IsVector}
 use Rattle.ua_table.proofs.Lists.{AllZip-length}
 use Rattle.ua_lanes.specs.LaneLists.{LaneList}
-use Rattle.ua_lanes.proofs.LongLaws.{entries_low, window_grown, vectors_grown}
+use Rattle.ua_lanes.proofs.WindowLaws.{entries_low}
+use Rattle.ua_lanes.proofs.LongLaws.{window_grown, vectors_grown}
 use Rattle.ua_lanes.proofs.large_lanes.LargeLanes.push_reserved.Goals as goal
 
 pub push_reserved-requires-clause-width : goal.push_reserved-requires-clause-width

@@ -1,7 +1,7 @@
 use Rattle.std.proofs.Common.{◌≡◌, ◌+◌, ◌*◌, ◌/◌, ℕ, List, sym, ap, ◌∙◌, subst}
 use Rattle.std.specs.Prelude.{slice_index, slice_set}
 use Rattle.ua_rows.specs.RowLists.{rows_at}
-use Rattle.ua_lanes.specs.Quads.{AreLongLines}
+use Rattle.ua_columns.specs.Quads.{AreLongLines}
 use Rattle.ua_lanes.specs.Lines.{line_value}
 use Rattle.ua_lanes.specs.Windows.{tuple_of, IsKnown}
 use Rattle.ua_lanes.proofs.WindowLaws.{agreeing_with, told_by_value}

@@ -5,7 +5,7 @@ use Rattle.ua_table.proofs.Lists.{written_back}
 use Rattle.ua_rows.specs.RowLists.{rows_at}
 use Rattle.ua_rows.proofs.ApplyForms.{arity_is}
 use Rattle.ua_lanes.specs.Lines.{line_value}
-use Rattle.ua_lanes.specs.Quads.{AreLongLines}
+use Rattle.ua_columns.specs.Quads.{AreLongLines}
 use Rattle.ua_lanes.proofs.LongLaws.{lines_whole}
 use Rattle.ua_lanes.proofs.long_windows.LongWindow.line.Goals as goal
 

@@ -1,6 +1,8 @@
-use Rattle.std.proofs.Common.{List, sym, ◌∙◌, subst}
+use Rattle.std.proofs.Common.{Bool, List, sym, ◌∙◌, subst}
 use Rattle.std.specs.List.{AllByRecursion}
 use Rattle.ua_table.specs.Algebras.{Vector, IsVector}
+use Rattle.ua_columns.specs.Columns.{limit}
+use Rattle.ua_lanes.specs.Lines.{AreSizesAtMost}
 use Rattle.ua_lanes.specs.Windows.{IsWindow}
 use Rattle.ua_lanes.proofs.small_lanes.SmallLanes.new.Goals as goal
 
@@ -12,10 +14,10 @@ invariant_of-result c =
     record {
       vectors = record {
         product = c.width-width.ensures.product;
-        small = c.requires;
+        sizes = subst (λ b. AreSizesAtMost (limit b) p) (sym e.in_bytes) c.requires;
         width = e.width ∙ c.width-width.ensures.width;
         vectors = subst (AllByRecursion (IsVector p)) (sym empty) tt;
       };
       many = c.in_ok-windows_for.ensures.many;
-      windows = subst (λ (vs : List Vector). AllByRecursion (IsWindow p vs) c.in_ok-windows_for.field-0.items) (sym empty) c.in_ok-windows_for.ensures.windows;
+      windows = subst (λ (q : Bool × List Vector). AllByRecursion (IsWindow p q.0 q.1) c.in_ok-windows_for.field-0.items) (λ i. (sym e.in_bytes i, sym empty i)) c.in_ok-windows_for.ensures.windows;
     }

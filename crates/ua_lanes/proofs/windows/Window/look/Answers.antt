@@ -1,7 +1,7 @@
 use Rattle.std.proofs.Common.{◌≡◌, ◌+◌, ◌*◌, ◌/◌, ◌%◌, ◌^◌, ◌<◌, ℕ, List, sym, ap, ◌∙◌, subst, arith}
 use Rattle.std.specs.Prelude.{slice_index, slice_set}
 use Rattle.ua_rows.specs.RowLists.{rows_at}
-use Rattle.ua_lanes.specs.Columns.{AreLines}
+use Rattle.ua_columns.specs.Columns.{AreLinesOf}
 use Rattle.ua_lanes.specs.Lines.{line_value}
 use Rattle.ua_lanes.specs.Windows.{tuple_of, IsKnown}
 use Rattle.ua_lanes.proofs.WindowLaws.{agreeing_with, told_by_value}
@@ -15,7 +15,7 @@ told c r low bit =
     let w = c.line.new.self in
     let has = c.line.ensures.window.lined c.line.ensures.lined.lined in
     let f = line_value p w.op (rows_at items (tuple_of p w.op w.fixed)) w.free in
-    let are : AreLines f c.as_slice.result.now = subst (AreLines f) (sym c.as_slice.ensures.value) has.lines_are in
+    let are : AreLinesOf c.args.columns.now.in_bytes f c.as_slice.result.now = subst (AreLinesOf c.args.columns.now.in_bytes f) (sym c.as_slice.ensures.value) has.lines_are in
     let found = c.known-self.ensures.known f are r low bit in
     told_by_value p items w.op w.fixed w.free (16 * (slice_index c.args.args.now c.args.place / 16) + r) has.place has.named c.requires.vectors.vectors found.0 found.1
 

@@ -5,7 +5,7 @@ use Rattle.ua_lanes.proofs.WindowLaws.{agreeing_with}
 use Rattle.ua_lanes.proofs.windows.Window.told.Goals as goal
 
 pub returns : goal.returns
-returns c p items h r low bit =
+returns c p in_bytes items h r low bit =
     let w = c.args.self.now in
     let args = c.args.args.now in
     let place = c.args.place in

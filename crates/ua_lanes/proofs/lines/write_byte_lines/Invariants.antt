@@ -1,0 +1,12 @@
+use Rattle.std.proofs.Common.{◌≡◌, ℕ, ◌+◌, ◌*◌, ◌/◌, ◌%◌, ◌<◌, [], length, slice_index, slice_index_or}
+use Rattle.ua_rows.specs.RowLists.{rows_at}
+use Rattle.ua_columns.specs.Columns.{AreBelow}
+use Rattle.ua_lanes.specs.Lines.{line_value}
+use Rattle.ua_lanes.proofs.lines.write_byte_lines.Given as goal
+
+abbrev pub invariant-loop-x : goal.invariant-loop-x
+invariant-loop-x l = record {
+  long : length l.out ≡ length l.initial.out;
+  bytes : AreBelow 256 l.out;
+  lines : (k y : ℕ) → k < l.x → y < 64 → slice_index (slice_index_or (slice_index_or l.out (4 * (k / 16) + y / 16) []) (k % 16) []) (y % 16) ≡ line_value l.frame l.op (rows_at l.columns.items l.args) l.free k y;
+}
