@@ -3,6 +3,7 @@ use Rattle.std.proofs.Common.{◌≡◌, ℕ, zero, suc, ◌+◌, ◌-◌, ◌*�
 use Rattle.std.specs.Prelude.{replicate}
 use Rattle.std.proofs.Math.Nat.{mod-add-div', mod-lt}
 use Rattle.std.proofs.lemmas.Nat.{and_mask}
+use Rattle.std.specs.Simd.Lanes.{digits_l}
 use Rattle.ua_rows.specs.Words.{word_of, lanes_of}
 
 -- what is left by 65536
@@ -58,6 +59,40 @@ word_of_lanes x fits =
     let further : x / 4294967296 / 65536 ≡ x / 281474976710656 = omega (arith, two, two_low, third, third_low, three, three_low) in
     let last : x / 281474976710656 / 65536 ≡ 0 = omega (arith, fits, three, three_low, fourth, fourth_low) in
     omega (arith, one, second, third, fourth, parts, further, last)
+
+-- the elements of two words as one number
+pub lanes_of_two : (x y : ℕ) → x < 2 ^ 64 → digits_l 65536 8 (x + 18446744073709551616 * y) ≡ lanes_of x ++ lanes_of y
+lanes_of_two x y fits = λ l. one l ∷ two l ∷ three l ∷ four l ∷ five l ∷ six l ∷ seven l ∷ eight l ∷ []
+  where
+    n : ℕ
+    n = x + 18446744073709551616 * y
+
+    one : n % 65536 ≡ x % 65536
+    one = omega arith
+
+    two : n / 65536 % 65536 ≡ x / 65536 % 65536
+    two = omega arith
+
+    three : n / 65536 / 65536 % 65536 ≡ x / 4294967296 % 65536
+    three = omega arith
+
+    four : n / 65536 / 65536 / 65536 % 65536 ≡ x / 281474976710656 % 65536
+    four = omega arith
+
+    rest : n / 65536 / 65536 / 65536 / 65536 ≡ y
+    rest = omega (arith, fits)
+
+    five : n / 65536 / 65536 / 65536 / 65536 % 65536 ≡ y % 65536
+    five = ap (λ m. m % 65536) rest
+
+    six : n / 65536 / 65536 / 65536 / 65536 / 65536 % 65536 ≡ y / 65536 % 65536
+    six = ap (λ m. m / 65536 % 65536) rest
+
+    seven : n / 65536 / 65536 / 65536 / 65536 / 65536 / 65536 % 65536 ≡ y / 4294967296 % 65536
+    seven = ap (λ m. m / 65536 / 65536 % 65536) rest ∙ omega arith
+
+    eight : n / 65536 / 65536 / 65536 / 65536 / 65536 / 65536 / 65536 % 65536 ≡ y / 281474976710656 % 65536
+    eight = ap (λ m. m / 65536 / 65536 / 65536 % 65536) rest ∙ omega arith
 
 -- ---- the last word of a row, of which only the first elements count
 

@@ -4,7 +4,7 @@ use Rattle.std.specs.Prelude.{cond, leb, slice_index, slice_index_or}
 use Rattle.std.specs.List.{AllByRecursion, range_with_len}
 use Rattle.std.proofs.lemmas.Bool.{lt-leb}
 use Rattle.ua_table.specs.Algebras.{Vector, numeral}
-use Rattle.ua_rows.specs.Words.{lanes_of}
+use Rattle.ua_rows.specs.Words.{word_of, lanes_of}
 use Rattle.ua_rows.specs.Gathered.{vectors_behind}
 use Rattle.ua_rows.specs.Kernels.{IsLineOf, looked}
 use Rattle.ua_rows.proofs.LaneLaws.{lanes_are, word_of_lanes}
@@ -26,13 +26,14 @@ first_byte line n x m k is low =
     λ i. value line (byte i) + 256 * values line (rest i) k
 
 -- an element below 16, and its high byte
-first_element : (line : List ℕ) (n x m k : ℕ) → n ≡ x + 256 * (128 + 256 * m) → x < 16 → values line n (suc (suc k)) ≡ slice_index line x + 65536 * values line m k
-first_element line n x m k is low =
+first_element : (line : List ℕ) (n x m l k : ℕ) → l ≡ 2 + k → n ≡ x + 256 * (128 + 256 * m) → x < 16 → values line n l ≡ slice_index line x + 65536 * values line m k
+first_element line n x m l k count is low =
+    let two_bytes : l ≡ suc (suc k) = omega (arith, count) in
     let one = first_byte line n x (128 + 256 * m) (suc k) is (omega (arith, low)) in
     let two = first_byte line (128 + 256 * m) 128 m k refl (omega arith) in
     let found : value line x ≡ slice_index line x = ap (λ b. cond b 0 (slice_index_or line (0 + x) 0)) (lt-leb 128 x (omega (arith, low))) ∙ ap (slice_index line) (let e : 0 + x ≡ x = omega arith in e) in
     let none : value line 128 ≡ 0 = refl in
-    omega (arith, one, two, found, none)
+    ap (values line n) two_bytes ∙ omega (arith, one, two, found, none)
 
 -- what holds of each element, and of what stands past the end, holds at every place
 pub all_or : {X : Type 0} (P : X → Type 0) (xs : List X) (k : ℕ) (d : X) → P d → AllByRecursion P xs → P (get_or xs k d)
@@ -40,12 +41,15 @@ all_or P [] k d past all = past
 all_or P (x ∷ xs) zero d past all = all.0
 all_or P (x ∷ xs) (suc k) d past all = all_or P xs k d past all.1
 
--- the elements of a word below 16, with 128 as the high byte of each, and another word behind it
-pub looked_lanes : (line : List ℕ) (word : ℕ) → word < 2 ^ 64 → AllByRecursion (λ x. x < 256) line → AllByRecursion (λ x. x < 16) (lanes_of word)
-    → lanes_of (values line (word + 9223512776490647552 + 170143779648513184865543545075408044032) 16 % 18446744073709551616) ≡ map (slice_index line) (lanes_of word)
-looked_lanes line word fits bytes low =
-    lanes_are (slice_index line a) (slice_index line b) (slice_index line c) (slice_index line d) number (wide a) (wide b) (wide c) (wide d)
-    (let ka = all_or (λ v. v < 256) line a 0 (omega arith) bytes in let kb = all_or (λ v. v < 256) line b 0 (omega arith) bytes in let kc = all_or (λ v. v < 256) line c 0 (omega arith) bytes in let kd = all_or (λ v. v < 256) line d 0 (omega arith) bytes in omega (arith, whole, ka, kb, kc, kd))
+-- the elements of a word below 16, with 128 as the high byte of each, and what stands behind them
+looked_word : (line : List ℕ) (word m k : ℕ) → word < 2 ^ 64 → AllByRecursion (λ x. x < 16) (lanes_of word)
+    → values line (word + 9223512776490647552 + 18446744073709551616 * m) (8 + k) ≡ word_of (map (slice_index line) (lanes_of word)) + 18446744073709551616 * values line m k
+looked_word line word m k fits low =
+    let one = first_element line (word + 9223512776490647552 + 18446744073709551616 * m) a second (8 + k) (6 + k) (omega arith) all low.0 in
+    let two = first_element line second b third (6 + k) (4 + k) (omega arith) refl low.1.0 in
+    let three = first_element line third c fourth (4 + k) (2 + k) (omega arith) refl low.1.1.0 in
+    let four = first_element line fourth d m (2 + k) k refl refl low.1.1.1.0 in
+    omega (arith, one, two, three, four)
   where
     a : ℕ
     a = word % 65536
@@ -59,20 +63,8 @@ looked_lanes line word fits bytes low =
     d : ℕ
     d = word / 281474976710656 % 65536
 
-    number : ℕ
-    number = values line (word + 9223512776490647552 + 170143779648513184865543545075408044032) 16 % 18446744073709551616
-
-    wide : (x : ℕ) → slice_index line x < 65536
-    wide x = let k = all_or (λ v. v < 256) line x 0 (omega arith) bytes in omega (arith, k)
-
-    parts : word ≡ a + b * 65536 + c * 4294967296 + d * 281474976710656
-    parts = sym (word_of_lanes word fits)
-
-    high : ℕ
-    high = 9223512776490647552
-
     fourth : ℕ
-    fourth = d + 256 * (128 + 256 * high)
+    fourth = d + 256 * (128 + 256 * m)
 
     third : ℕ
     third = c + 256 * (128 + 256 * fourth)
@@ -80,16 +72,48 @@ looked_lanes line word fits bytes low =
     second : ℕ
     second = b + 256 * (128 + 256 * third)
 
-    all : word + 9223512776490647552 + 170143779648513184865543545075408044032 ≡ a + 256 * (128 + 256 * second)
-    all = omega (arith, parts)
+    all : word + 9223512776490647552 + 18446744073709551616 * m ≡ a + 256 * (128 + 256 * second)
+    all = let parts = word_of_lanes word fits in omega (arith, parts)
 
-    whole : values line (word + 9223512776490647552 + 170143779648513184865543545075408044032) 16 ≡ slice_index line a + 65536 * (slice_index line b + 65536 * (slice_index line c + 65536 * (slice_index line d + 65536 * values line high 8)))
-    whole =
-        let one = first_element line (word + 9223512776490647552 + 170143779648513184865543545075408044032) a second 14 all low.0 in
-        let two = first_element line second b third 12 refl low.1.0 in
-        let three = first_element line third c fourth 10 refl low.1.1.0 in
-        let four = first_element line fourth d high 8 refl low.1.1.1.0 in
-        omega (arith, one, two, three, four)
+-- what stands in a line of bytes is an element
+element_at : (line : List ℕ) → AllByRecursion (λ x. x < 256) line → (x : ℕ) → slice_index line x < 65536
+element_at line bytes x = let k = all_or (λ v. v < 256) line x 0 (omega arith) bytes in omega (arith, k)
+
+-- the elements that are looked up are those of a number that begins with them, cut to 64 bits
+looked_are : (line : List ℕ) (word n m : ℕ) → AllByRecursion (λ x. x < 256) line → n ≡ word_of (map (slice_index line) (lanes_of word)) + 18446744073709551616 * m
+    → lanes_of (n % 18446744073709551616) ≡ map (slice_index line) (lanes_of word) × n / 18446744073709551616 ≡ m
+looked_are line word n m bytes is =
+    let ka = element_at line bytes a in
+    let kb = element_at line bytes b in
+    let kc = element_at line bytes c in
+    let kd = element_at line bytes d in
+    (lanes_are (slice_index line a) (slice_index line b) (slice_index line c) (slice_index line d) (n % 18446744073709551616) ka kb kc kd (omega (arith, is, ka, kb, kc, kd)), omega (arith, is, ka, kb, kc, kd))
+  where
+    a : ℕ
+    a = word % 65536
+
+    b : ℕ
+    b = word / 65536 % 65536
+
+    c : ℕ
+    c = word / 4294967296 % 65536
+
+    d : ℕ
+    d = word / 281474976710656 % 65536
+
+-- the first of two words, and the values of what stands behind it
+pub looked_first : (line : List ℕ) (word m : ℕ) → word < 2 ^ 64 → AllByRecursion (λ x. x < 256) line → AllByRecursion (λ x. x < 16) (lanes_of word)
+    → lanes_of (values line (word + 9223512776490647552 + 18446744073709551616 * m) 16 % 18446744073709551616) ≡ map (slice_index line) (lanes_of word)
+    × values line (word + 9223512776490647552 + 18446744073709551616 * m) 16 / 18446744073709551616 ≡ values line m 8
+looked_first line word m fits bytes low =
+    looked_are line word (values line (word + 9223512776490647552 + 18446744073709551616 * m) 16) (values line m 8) bytes (looked_word line word m 8 fits low)
+
+-- the second of two words
+pub looked_second : (line : List ℕ) (first second : ℕ) → first < 2 ^ 64 → second < 2 ^ 64 → AllByRecursion (λ x. x < 256) line → AllByRecursion (λ x. x < 16) (lanes_of first) → AllByRecursion (λ x. x < 16) (lanes_of second)
+    → lanes_of (values line (first + 9223512776490647552 + 18446744073709551616 * (second + 9223512776490647552 + 0)) 16 / 18446744073709551616 % 18446744073709551616) ≡ map (slice_index line) (lanes_of second)
+looked_second line first second fits fit bytes low lower =
+    let behind = (looked_first line first (second + 9223512776490647552 + 0) fits bytes low).1 in
+    (looked_are line second (values line (first + 9223512776490647552 + 18446744073709551616 * (second + 9223512776490647552 + 0)) 16 / 18446744073709551616) 0 bytes (behind ∙ looked_word line second 0 0 fit lower)).0
 
 -- what is looked up at an element of one row is what the kernel reads there
 pub line_at : (line cells : List ℕ) (rows : List Vector) (row : Vector) → rows ≡ row ∷ [] → 0 < length cells → IsLineOf cells line → AllByRecursion (AllByRecursion (λ x. x < length cells)) rows
