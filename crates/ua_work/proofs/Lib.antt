@@ -2,6 +2,7 @@ pub mod Turns
 pub mod Reaching
 pub mod Walks
 pub mod RowValues
+pub mod PlaceLaws
 pub mod ReplicaLaws
 pub mod GoalLaws
 pub mod WorkLaws

@@ -1,8 +1,7 @@
 -- What a replica keeps as records are entered.
-use Rattle.std.proofs.Common.{◌≡◌, ◌↔◌, ℕ, zero, suc, ◌<◌, Bool, List, [], ◌∷◌, ◌++◌, length, take, map, Option, Vec, Result, Ok, refl, sym, ap, ◌∙◌, subst, arith, ⊎_elim, ◌+◌, length-append}
-use Rattle.std.specs.Prelude.{Contains, slice_index, IsTrue, IfSome, IfNone, slice_get, Some, is_some, if◌then◌else◌, is_ok}
+use Rattle.std.proofs.Common.{◌≡◌, ◌↔◌, ℕ, zero, suc, ◌<◌, Bool, List, [], ◌∷◌, ◌++◌, length, take, map, Option, refl, sym, ap, ◌∙◌, subst, arith, ⊎_elim, ◌+◌, length-append}
+use Rattle.std.specs.Prelude.{Contains, slice_index, IsTrue, IfSome, IfNone, slice_get, Some, is_some}
 use Rattle.std.specs.List.{AllByRecursion}
-use Rattle.std.specs.declared.alloc.Global.{Global}
 use Rattle.std.proofs.lemmas.Option.{slice_get_within, get_or_from_slice_get}
 use Rattle.ua_table.specs.Algebras.{Vector, FiniteAlgebra, IsVector, arities, apply}
 use Rattle.ua_table.specs.declared.origins.Origin.{Origin}
@@ -14,6 +13,7 @@ use Rattle.ua_rows.proofs.AppliedLaws.{contains_by}
 use Rattle.ua_rows.proofs.RowLemmas.{length-rows_at}
 use Rattle.ua_work.specs.Values.{with_new, different}
 use Rattle.ua_lanes.specs.LaneLists.{LaneList}
+use Rattle.ua_work.specs.Places.{PlaceList}
 use Rattle.ua_work.specs.Replicas.{AreLanesOf, values_in, value_in, IsOriginIn, IsReplica}
 use Rattle.ua_work.specs.declared.replicas.Replica.{Replica}
 use Rattle.ua_work.proofs.RowValues.{with_old, with_absent, either_way, in_different, in_all, different_push, rows_at_push, rows_at_new, named_push, rows_twice}
@@ -110,7 +110,7 @@ all_new P rows v all h = ⊎_elim
     (either_way rows v)
 
 -- a replica into which a value was entered
-pub entered : (r : Replica) (rows : RowList) (places : Vec ℕ Global) (lanes : Option LaneList) (v : Vector) → IsReplica r → IsVector r.operations v → rows.width ≡ r.rows.width → rows.items ≡ with_new r.rows.items v
+pub entered : (r : Replica) (rows : RowList) (places : PlaceList) (lanes : Option LaneList) (v : Vector) → IsReplica r → IsVector r.operations v → rows.width ≡ r.rows.width → rows.items ≡ with_new r.rows.items v
     → rows_at rows.items places.items ≡ values_in r ++ v ∷ [] → AllByRecursion (λ k. k < length rows.items) places.items
     → IfSome lanes (AreLanesOf r.operations (values_in r ++ v ∷ []))
     → IsReplica record { operations = r.operations; gens = r.gens; shape = r.shape; rows = rows; places = places; scratch = r.scratch; lanes = lanes }
@@ -126,12 +126,8 @@ entered r rows places lanes v replica vector width new values named held = recor
   lanes = subst (λ (vs : List Vector). IfSome lanes (AreLanesOf r.operations vs)) (sym values) held;
 }
 
--- the places, where one was pushed
-pub pushed_place : {E : Type 0} (places new : List ℕ) (i : ℕ) (r : Result (Unit {0}) E) (u : Unit {0}) → new ≡ (if is_ok r then places ++ i ∷ [] else places) → r ≡ Ok u → new ≡ places ++ i ∷ []
-pushed_place places new i r u e ok = e ∙ ap (λ q. if is_ok q then places ++ i ∷ [] else places) ok
-
 -- the scratch is entered, as the value of one record more
-module _ (r : Replica) (places : Vec ℕ Global) (lanes : Option LaneList) (i : ℕ) (replica : IsReplica r) (more : places.items ≡ r.places.items ++ i ∷ []) (held : IfSome lanes (AreLanesOf r.operations (values_in r ++ r.scratch ∷ []))) where
+module _ (r : Replica) (places : PlaceList) (lanes : Option LaneList) (i : ℕ) (replica : IsReplica r) (more : places.items ≡ r.places.items ++ i ∷ []) (held : IfSome lanes (AreLanesOf r.operations (values_in r ++ r.scratch ∷ []))) where
   -- where it is a row
   module _ (at : slice_get r.rows.items i ≡ Some r.scratch) where
     pub old_values : rows_at r.rows.items places.items ≡ values_in r ++ r.scratch ∷ []

@@ -3,6 +3,7 @@ pub mod Goals
 pub mod Progress
 pub mod Serials
 pub mod Harvests
+pub mod Places
 pub mod Replicas
 pub mod Workings
 pub mod Walks

@@ -5,6 +5,7 @@ mod beginnings;
 mod goals;
 mod harvests;
 mod known_blocks;
+mod places;
 mod puts;
 mod replicas;
 mod runs;

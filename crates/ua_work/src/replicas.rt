@@ -9,6 +9,7 @@ ghost use Rattle.ua_lanes.specs.Windows.{tuple_of, AreBitsOf};
 ghost use Rattle.ua_work.specs.Runs.{AreBitsIn};
 ghost use Rattle.ua_work.specs.Replicas.{AreLanesOf, values_in, value_in, IsOriginIn, IsReplica, HasRoom, SameClosure, SameRecords};
 
+use crate::places::Places;
 use std::alloc::{AllocError, Global};
 use ua_lanes::Lanes;
 use ua_rows::{Operations, Rows, Scratch};
@@ -25,7 +26,7 @@ pub(crate) struct Replica<'a> {
     pub(crate) shape: Shape,
     pub(crate) rows: Rows,
     /// The row of each record.
-    pub(crate) places: Vec<u32>,
+    pub(crate) places: Places,
     /// The value that was computed last.
     pub(crate) scratch: Scratch,
     /// The value of each record once more, where lanes tell faster that a tuple gives none that is new.
@@ -35,13 +36,13 @@ pub(crate) struct Replica<'a> {
 /// Writes the rows of the records that the arguments name to the front. It answers no array, since that is
 /// copied whole before the rows are read one by one.
 #[inline(always)]
-fn name_rows(places: &[u32], args: &[u32], rows: &mut [u32; 4])
+fn name_rows(places: &Places, args: &[u32], rows: &mut [u32; 4])
     requires few { length args.now ≤ 4 }
-    requires named { AllByRecursion (λ a. a < length places.now) args.now }
-    ensures { take (length args.now) rows.new ≡ map (λ a. slice_index places.now a) args.now }
+    requires named { AllByRecursion (λ a. a < length places.now.items) args.now }
+    ensures { take (length args.now) rows.new ≡ map (λ a. slice_index places.now.items a) args.now }
 {
     for (j, a) in args.iter().enumerate() {
-        rows[j] = places[*a as usize];
+        rows[j] = places.row(*a as usize);
     }
 }
 
@@ -107,7 +108,7 @@ impl<'a> Replica<'a> {
             gens,
             shape: frame.shape(alloc)?,
             rows,
-            places: Vec::new(alloc),
+            places: Places::new(alloc),
             scratch: Scratch::new(alloc, width)?,
             lanes: Lanes::new(alloc, frame)?,
         })
@@ -122,7 +123,7 @@ impl<'a> Replica<'a> {
         ensures scratch { self.new.scratch ≡ self.old.scratch }
         ensures room { OnOk result (HasRoom self.new) }
     {
-        self.places.reserve(1)?;
+        self.places.reserve()?;
         self.rows.reserve()?;
         reserve_lanes(&mut self.lanes)?;
         Ok(())
@@ -139,7 +140,7 @@ impl<'a> Replica<'a> {
     {
         let arity = usize::from(self.shape.arity(op));
         let mut rows = [0; 4];
-        name_rows(self.places.as_slice(), &args[..arity], &mut rows);
+        name_rows(&self.places, &args[..arity], &mut rows);
         self.operations
             .apply(op, &self.rows, &rows[..arity], &mut self.scratch);
     }
@@ -212,7 +213,7 @@ impl<'a> Replica<'a> {
         match value {
             Some(value) => self.scratch.copy_scratch(value),
             None => {
-                let row = self.places[a as usize];
+                let row = self.places.row(a as usize);
                 self.operations
                     .apply_unary(op, &self.rows, row, &mut self.scratch);
             }
@@ -266,7 +267,7 @@ impl<'a> Replica<'a> {
         ensures rows { self.new.rows.items ≡ self.old.rows.items ++ self.old.scratch ∷ [] }
     {
         let place = self.rows.push_scratch(&self.scratch);
-        self.places.push(place).unwrap();
+        self.places.push(place);
         push_lanes(&mut self.lanes, self.scratch.as_slice());
         place
     }
@@ -286,7 +287,7 @@ impl<'a> Replica<'a> {
         self.compute(o);
         match self.rows.find_scratch(&self.scratch) {
             Some(place) => {
-                self.places.push(place).unwrap();
+                self.places.push(place);
                 push_lanes(&mut self.lanes, self.scratch.as_slice());
                 false
             }

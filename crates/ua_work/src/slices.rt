@@ -209,7 +209,7 @@ fn settle_unary(
 
 /// Settles each tuple of a slice, which is looked for from the mark. A unary operation has one there, which the
 /// lanes tell of, where there are any, and else its block.
-#[inline]
+#[inline(always)]
 pub(crate) fn finish(
     job: &Job,
     seat: &mut Seat,
