@@ -8,13 +8,14 @@ use std::test::Fail;
 use ua_rows::Rows;
 use ua_table::Elem;
 
-/// The vector of a number: its digits in base 251.
-fn vector(alloc: Global, width: u32, number: u32) -> Result<Vec<Elem>, Fail> {
+/// The vector of a number: its digits, where this is the last one.
+fn vector(alloc: Global, last: Elem, width: u32, number: u32) -> Result<Vec<Elem>, Fail> {
+    let base = u32::from(last) + 1;
     let mut v = Vec::new(alloc);
     let mut rest = number;
     for _ in 0..width {
-        v.push((rest % 251) as Elem)?;
-        rest /= 251;
+        v.push((rest % base) as Elem)?;
+        rest /= base;
     }
     Ok(v)
 }
@@ -40,10 +41,10 @@ fn expect_entered(
     rt: &impl Abort,
     alloc: Global,
     rows: &mut Rows,
-    width: u32,
+    last: Elem,
     number: u32,
 ) -> Result<(), Fail> {
-    let v = vector(alloc, width, number)?;
+    let v = vector(alloc, last, rows.width(), number)?;
     let place = entered(rows, v.as_slice())?;
     assert_eq!(rt; place, Some(number));
     Ok(())
@@ -54,23 +55,29 @@ fn expect_row(
     rt: &impl Abort,
     alloc: Global,
     rows: &Rows,
-    width: u32,
+    last: Elem,
     number: u32,
 ) -> Result<(), Fail> {
-    let v = vector(alloc, width, number)?;
+    let v = vector(alloc, last, rows.width(), number)?;
     let stands = is_row(rows, number, v.as_slice());
     assert!(rt; stands, "{number}");
     Ok(())
 }
 
 /// Pushes the vectors of the numbers below a count, and reads and finds each.
-fn expect_listed(rt: &impl Abort, alloc: Global, width: u32, count: u32) -> Result<(), Fail> {
+fn expect_listed(
+    rt: &impl Abort,
+    alloc: Global,
+    last: Elem,
+    width: u32,
+    count: u32,
+) -> Result<(), Fail> {
     let mut rows = Rows::new(alloc, width);
     for number in 0..count {
-        expect_entered(rt, alloc, &mut rows, width, number)?;
+        expect_entered(rt, alloc, &mut rows, last, number)?;
     }
     for number in 0..count {
-        expect_row(rt, alloc, &rows, width, number)?;
+        expect_row(rt, alloc, &rows, last, number)?;
     }
     Ok(())
 }
@@ -86,14 +93,30 @@ fn many_rows_are_read_and_found(rt: HostRuntime) -> Result<(), Fail> {
         (512, 300),
         (70_000, 3),
     ] {
-        expect_listed(&rt, rt.alloc(), width, count)?;
+        expect_listed(&rt, rt.alloc(), 250, width, count)?;
+    }
+    Ok(())
+}
+
+#[test]
+fn rows_of_two_words_are_told_by_their_hashes(rt: HostRuntime) -> Result<(), Fail> {
+    // All of them, or so many that the digits go up to the last one.
+    for (last, width, count) in [
+        (1, 5, 32),
+        (2, 8, 6561),
+        (6, 5, 16_807),
+        (14, 8, 20_000),
+        (15, 6, 20_000),
+        (16, 6, 20_000),
+    ] {
+        expect_listed(&rt, rt.alloc(), last, width, count)?;
     }
     Ok(())
 }
 
 #[test]
 fn a_million_rows_are_read_and_found(rt: HostRuntime) -> Result<(), Fail> {
-    expect_listed(&rt, rt.alloc(), 8, 1_000_000)
+    expect_listed(&rt, rt.alloc(), 250, 8, 1_000_000)
 }
 
 /// A list of two vectors of width 3.
