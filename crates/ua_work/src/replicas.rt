@@ -47,6 +47,7 @@ fn name_rows(places: &Places, args: &[u32], rows: &mut [u32; 4])
 }
 
 /// Makes room for one more vector in the lanes, where there are any.
+#[inline(always)]
 fn reserve_lanes(lanes: &mut Option<Lanes>) -> Result<(), AllocError>
     ensures kept { (p : Product) (vs : List Vector) → IfSome lanes.old (AreLanesOf p vs) → IfSome lanes.new (AreLanesOf p vs) }
     ensures ok { OnOk result (IfSome lanes.new (λ (l : LaneList). 0 < l.spare)) }

@@ -1,7 +1,8 @@
 use Rattle.std.proofs.Common.{false, refl, arith}
 use Rattle.std.specs.Prelude.{IsTrue}
 use Rattle.std.proofs.lemmas.Option.{slice_get-get_or}
-use Rattle.ua_rows.proofs.IndexLaws.{behind_none, taken_more, all_round}
+use Rattle.ua_rows.specs.Indexing.{IsFree}
+use Rattle.ua_rows.proofs.IndexLaws.{behind_none, before_more, all_round}
 use Rattle.ua_rows.proofs.index.free_from.Goals as goal
 
 pub loop-init : goal.loop-init
@@ -30,7 +31,7 @@ next_of-bucket-requires c = c.loop.invariant.behind.below
 pub loop-preserved : goal.loop-preserved
 loop-preserved c = record {
   behind = c.next_of-bucket.ensures.behind c.args.slot c.loop.counter c.requires.slot c.loop-test.true c.loop.invariant.behind;
-  taken = taken_more c.args.buckets.now c.args.slot c.loop.counter c.loop.bucket _ c.loop.invariant.behind
+  taken = before_more (λ e. ¬ IsFree e) c.args.buckets.now c.args.slot c.loop.counter c.loop.bucket _ c.loop.invariant.behind
       (slice_get-get_or c.args.buckets.now c.loop.bucket (record { tag = 0; row = 0 }) c.loop.invariant.behind.below) (λ free. never (c.if-is_free.ensures.1 free)) c.loop.invariant.taken;
 }
   where
