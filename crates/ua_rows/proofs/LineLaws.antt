@@ -75,18 +75,23 @@ looked_word line word m k fits low =
     all : word + 9223512776490647552 + 18446744073709551616 * m ≡ a + 256 * (128 + 256 * second)
     all = let parts = word_of_lanes word fits in omega (arith, parts)
 
--- what stands in a line of bytes is an element
-element_at : (line : List ℕ) → AllByRecursion (λ x. x < 256) line → (x : ℕ) → slice_index line x < 65536
-element_at line bytes x = let k = all_or (λ v. v < 256) line x 0 (omega arith) bytes in omega (arith, k)
+-- what stands in a line is an element
+element_at : (line : List ℕ) → AllByRecursion (λ x. x < 16) line → (x : ℕ) → slice_index line x < 65536
+element_at line small x = let k = all_or (λ v. v < 16) line x 0 (omega arith) small in omega (arith, k)
+
+-- and what is looked up is below 16
+pub looked_small : (line xs : List ℕ) → AllByRecursion (λ x. x < 16) line → AllByRecursion (λ x. x < 16) (map (slice_index line) xs)
+looked_small line [] small = tt
+looked_small line (x ∷ xs) small = (all_or (λ v. v < 16) line x 0 (omega arith) small, looked_small line xs small)
 
 -- the elements that are looked up are those of a number that begins with them, cut to 64 bits
-looked_are : (line : List ℕ) (word n m : ℕ) → AllByRecursion (λ x. x < 256) line → n ≡ word_of (map (slice_index line) (lanes_of word)) + 18446744073709551616 * m
+looked_are : (line : List ℕ) (word n m : ℕ) → AllByRecursion (λ x. x < 16) line → n ≡ word_of (map (slice_index line) (lanes_of word)) + 18446744073709551616 * m
     → lanes_of (n % 18446744073709551616) ≡ map (slice_index line) (lanes_of word) × n / 18446744073709551616 ≡ m
-looked_are line word n m bytes is =
-    let ka = element_at line bytes a in
-    let kb = element_at line bytes b in
-    let kc = element_at line bytes c in
-    let kd = element_at line bytes d in
+looked_are line word n m small is =
+    let ka = element_at line small a in
+    let kb = element_at line small b in
+    let kc = element_at line small c in
+    let kd = element_at line small d in
     (lanes_are (slice_index line a) (slice_index line b) (slice_index line c) (slice_index line d) (n % 18446744073709551616) ka kb kc kd (omega (arith, is, ka, kb, kc, kd)), omega (arith, is, ka, kb, kc, kd))
   where
     a : ℕ
@@ -102,18 +107,18 @@ looked_are line word n m bytes is =
     d = word / 281474976710656 % 65536
 
 -- the first of two words, and the values of what stands behind it
-pub looked_first : (line : List ℕ) (word m : ℕ) → word < 2 ^ 64 → AllByRecursion (λ x. x < 256) line → AllByRecursion (λ x. x < 16) (lanes_of word)
+pub looked_first : (line : List ℕ) (word m : ℕ) → word < 2 ^ 64 → AllByRecursion (λ x. x < 16) line → AllByRecursion (λ x. x < 16) (lanes_of word)
     → lanes_of (values line (word + 9223512776490647552 + 18446744073709551616 * m) 16 % 18446744073709551616) ≡ map (slice_index line) (lanes_of word)
     × values line (word + 9223512776490647552 + 18446744073709551616 * m) 16 / 18446744073709551616 ≡ values line m 8
-looked_first line word m fits bytes low =
-    looked_are line word (values line (word + 9223512776490647552 + 18446744073709551616 * m) 16) (values line m 8) bytes (looked_word line word m 8 fits low)
+looked_first line word m fits small low =
+    looked_are line word (values line (word + 9223512776490647552 + 18446744073709551616 * m) 16) (values line m 8) small (looked_word line word m 8 fits low)
 
 -- the second of two words
-pub looked_second : (line : List ℕ) (first second : ℕ) → first < 2 ^ 64 → second < 2 ^ 64 → AllByRecursion (λ x. x < 256) line → AllByRecursion (λ x. x < 16) (lanes_of first) → AllByRecursion (λ x. x < 16) (lanes_of second)
+pub looked_second : (line : List ℕ) (first second : ℕ) → first < 2 ^ 64 → second < 2 ^ 64 → AllByRecursion (λ x. x < 16) line → AllByRecursion (λ x. x < 16) (lanes_of first) → AllByRecursion (λ x. x < 16) (lanes_of second)
     → lanes_of (values line (first + 9223512776490647552 + 18446744073709551616 * (second + 9223512776490647552 + 0)) 16 / 18446744073709551616 % 18446744073709551616) ≡ map (slice_index line) (lanes_of second)
-looked_second line first second fits fit bytes low lower =
-    let behind = (looked_first line first (second + 9223512776490647552 + 0) fits bytes low).1 in
-    (looked_are line second (values line (first + 9223512776490647552 + 18446744073709551616 * (second + 9223512776490647552 + 0)) 16 / 18446744073709551616) 0 bytes (behind ∙ looked_word line second 0 0 fit lower)).0
+looked_second line first second fits fit small low lower =
+    let behind = (looked_first line first (second + 9223512776490647552 + 0) fits small low).1 in
+    (looked_are line second (values line (first + 9223512776490647552 + 18446744073709551616 * (second + 9223512776490647552 + 0)) 16 / 18446744073709551616) 0 small (behind ∙ looked_word line second 0 0 fit lower)).0
 
 -- what is looked up at an element of one row is what the kernel reads there
 pub line_at : (line cells : List ℕ) (rows : List Vector) (row : Vector) → rows ≡ row ∷ [] → 0 < length cells → IsLineOf cells line → AllByRecursion (AllByRecursion (λ x. x < length cells)) rows

@@ -1,12 +1,12 @@
-use Rattle.std.proofs.Common.{rules, ◌^◌, ◌≡◌, ◌-◌, ◌*◌, ◌/◌, ◌%◌, ◌++◌, ◌<◌, ◌≤◌, ℕ, List, length, map, take, drop, refl, ap, sym, ◌∙◌, arith}
+use Rattle.std.proofs.Common.{◌^◌, ◌≡◌, ◌-◌, ◌*◌, ◌/◌, ◌%◌, ◌++◌, ◌<◌, ◌≤◌, ℕ, List, length, map, take, drop, refl, ap, sym, ◌∙◌, subst, arith}
 use Rattle.std.specs.Prelude.{replicate, slice_index}
-use Rattle.std.specs.List.{range_with_len}
+use Rattle.std.specs.List.{AllByRecursion, range_with_len}
 use Rattle.std.proofs.lemmas.List.{take_at, drop_all, append-nil, length-append}
 use Rattle.std.proofs.Math.Nat.{mod-add-div', mod-lt}
-use Rattle.ua_rows.specs.declared.words.TheConstants.{SEED}
-use Rattle.ua_rows.specs.Words.{words_for, padded, mixed, mix_of, word_of, lanes_of}
-use Rattle.ua_rows.proofs.LaneLaws.{word_of_lanes}
-use Rattle.ua_rows.proofs.WriteLaws.{last_word, written, written_mix, sealed}
+use Rattle.ua_table.proofs.Lists.{all_append, all_take, all_replicate}
+use Rattle.ua_rows.specs.Words.{words_for, padded, mix_of, lanes_of}
+use Rattle.ua_rows.proofs.LineLaws.{looked_small}
+use Rattle.ua_rows.proofs.WriteLaws.{last_word, written, sealed}
 use Rattle.ua_rows.proofs.kernels.write_line_twice.Goals as goal
 
 -- a width of two words
@@ -35,9 +35,16 @@ module _ (f : ℕ → ℕ) (a b : List ℕ) (width word : ℕ) (more : 4 < width
   values_are : a ++ b ≡ padded (map f (range_with_len 0 width))
   values_are = written f (a ++ b) (a ++ b) width 1 (8 - width) word (omega (arith, more)) (one_full width more two) (eight ∙ two_words width more two) refl (first_four ∙ begun) fits ended put_last
 
-  mix_is : (hash result : ℕ) → result ≡ mixed hash word → hash ≡ mixed SEED (word_of a) → result ≡ mix_of (map f (range_with_len 0 width))
-  mix_is hash result mix first = written_mix f (a ++ b) (a ++ b) width 1 (8 - width) word (omega (arith, more)) (one_full width more two) (eight ∙ two_words width more two) refl (first_four ∙ begun) fits ended put_last hash result mix
-      (first ∙ ap (λ w. mixed SEED (word_of w)) (sym first_four))
+pub telling_hash-requires-clause-first : goal.telling_hash-requires-clause-first
+telling_hash-requires-clause-first c =
+    subst (AllByRecursion (λ x. x < 16)) (sym c.look_in_line-first.ensures.first) (looked_small c.args.line.now (lanes_of c.word_at.result) c.requires.line)
+
+pub telling_hash-requires-clause-second : goal.telling_hash-requires-clause-second
+telling_hash-requires-clause-second c =
+    let last = subst (AllByRecursion (λ x. x < 16)) (sym c.look_in_line-first.ensures.second) (looked_small c.args.line.now (lanes_of c.word_at-2.result) c.requires.line) in
+    let front = all_take (λ x. x < 16) (4 - (8 - c.args.width)) (lanes_of c.look_in_line-first.result.1) last in
+    let zeros = all_replicate (λ x. x < 16) (8 - c.args.width) 0 (omega arith) in
+    subst (AllByRecursion (λ x. x < 16)) (sym c.front_of-second.ensures) (all_append (λ x. x < 16) (take (4 - (8 - c.args.width)) (lanes_of c.look_in_line-first.result.1)) (replicate (8 - c.args.width) 0) front zeros)
 
 pub returns-clause-values : goal.returns-clause-values
 returns-clause-values c =
@@ -49,13 +56,5 @@ returns-clause-values c =
 
 pub returns-clause-hash : goal.returns-clause-hash
 returns-clause-hash c =
-    let f : ℕ → ℕ = λ i. slice_index c.args.line.now (slice_index c.args.row.now i) in
-    let looked = c.look_in_line-first.ensures.second ∙ ap (map (slice_index c.args.line.now)) c.word_at-2.ensures in
-    let begun = c.look_in_line-first.ensures.first ∙ ap (map (slice_index c.args.line.now)) c.word_at.ensures in
-    let ended = c.front_of-second.ensures ∙ ap (λ (bs : List ℕ). take (4 - (8 - c.args.width)) bs ++ replicate (8 - c.args.width) 0) looked in
-    let small : c.look_in_line-first.result.0 < 2 ^ 64 = search rules in
-    sealed (map f (range_with_len 0 c.args.width)) c.put_two.new.out c.mixed-2.result c.hash_with.result
-    (c.put_two.ensures ∙ values_are f (lanes_of c.look_in_line-first.result.0) (lanes_of c.front_of-second.result) c.args.width c.front_of-second.result c.requires.more c.requires.two refl begun c.front_of-second.type_inv refl ended)
-    (mix_is f (lanes_of c.look_in_line-first.result.0) (lanes_of c.front_of-second.result) c.args.width c.front_of-second.result c.requires.more c.requires.two refl begun c.front_of-second.type_inv refl ended
-    c.mixed.result c.mixed-2.result c.mixed-2.ensures (c.mixed.ensures ∙ ap (mixed SEED) (sym (word_of_lanes c.look_in_line-first.result.0 small))))
-    c.hash_with.ensures
+    let v = map (λ i. slice_index c.args.line.now (slice_index c.args.row.now i)) (range_with_len 0 c.args.width) in
+    sealed v (lanes_of c.look_in_line-first.result.0 ++ lanes_of c.front_of-second.result) (mix_of v) c.telling_hash.result (sym c.put_two.ensures ∙ returns-clause-values c) refl (c.telling_hash.ensures (mix_of v))

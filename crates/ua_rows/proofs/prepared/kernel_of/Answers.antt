@@ -14,8 +14,8 @@ one_power n = pow-suc n 0 ∙ ap (λ k. k * n) (pow-zero n) ∙ (let e : 1 * n �
 unary_long : (o : Operation) → IsTable o → o.arity ≡ 1 → length o.values ≡ o.size
 unary_long o table unary = table.operation.total ∙ ap (λ k. o.size ^ k) unary ∙ one_power o.size
 
-pub line_of-requires-clause-bytes : goal.line_of-requires-clause-bytes
-line_of-requires-clause-bytes c =
+pub line_of-requires-clause-small : goal.line_of-requires-clause-small
+line_of-requires-clause-small c =
     let o = c.args.table.now in
     let table = c.arity.ensures.table in
     let values = c.values-values.ensures.values in
@@ -23,7 +23,7 @@ line_of-requires-clause-bytes c =
     let few = c.if-values-le-LINE.true in
     let same = ap length values in
     let size : o.size ≤ 16 = omega (arith, long, few, same) in
-    subst (AllByRecursion (λ x. x < 256)) (sym values) (all_weaker (λ x. x < o.size) (λ x. x < 256) (λ x low. (let l = low in omega (arith, l, size))) o.values table.operation.below)
+    subst (AllByRecursion (λ x. x < 16)) (sym values) (all_weaker (λ x. x < o.size) (λ x. x < 16) (λ x low. (let l = low in omega (arith, l, size))) o.values table.operation.below)
 
 pub returns-then-values-le-LINE-clause-kernel : goal.returns-then-values-le-LINE-clause-kernel
 returns-then-values-le-LINE-clause-kernel c =
