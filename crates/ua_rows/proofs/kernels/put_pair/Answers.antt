@@ -2,7 +2,7 @@ use Rattle.std.proofs.Common.{◌≡◌, ◌+◌, ◌*◌, [], ◌∷◌, ap, �
 use Rattle.std.specs.Simd.Lanes.{number_l, digits_l}
 use Rattle.std.proofs.lemmas.Simd.{put_chunk_whole}
 use Rattle.ua_rows.proofs.LaneLaws.{lanes_of_two}
-use Rattle.ua_rows.proofs.kernels.put_two.Goals as goal
+use Rattle.ua_rows.proofs.kernels.put_pair.Goals as goal
 
 pub returns : goal.returns
 returns c =

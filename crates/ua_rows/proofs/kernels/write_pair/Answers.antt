@@ -7,7 +7,7 @@ use Rattle.ua_table.proofs.Lists.{all_append, all_take, all_replicate}
 use Rattle.ua_rows.specs.Words.{words_for, padded, mix_of, lanes_of}
 use Rattle.ua_rows.proofs.LineLaws.{looked_small}
 use Rattle.ua_rows.proofs.WriteLaws.{last_word, written, sealed}
-use Rattle.ua_rows.proofs.kernels.write_line_twice.Goals as goal
+use Rattle.ua_rows.proofs.kernels.write_pair.Goals as goal
 
 -- a width of two words
 module _ (width : ℕ) (more : 4 < width) (two : width ≤ 8) where
@@ -52,9 +52,9 @@ returns-clause-values c =
     let looked = c.look_in_line-first.ensures.second ∙ ap (map (slice_index c.args.line.now)) c.word_at-2.ensures in
     let begun = c.look_in_line-first.ensures.first ∙ ap (map (slice_index c.args.line.now)) c.word_at.ensures in
     let ended = c.front_of-second.ensures ∙ ap (λ (bs : List ℕ). take (4 - (8 - c.args.width)) bs ++ replicate (8 - c.args.width) 0) looked in
-    c.put_two.ensures ∙ values_are f (lanes_of c.look_in_line-first.result.0) (lanes_of c.front_of-second.result) c.args.width c.front_of-second.result c.requires.more c.requires.two refl begun c.front_of-second.type_inv refl ended
+    c.put_pair.ensures ∙ values_are f (lanes_of c.look_in_line-first.result.0) (lanes_of c.front_of-second.result) c.args.width c.front_of-second.result c.requires.more c.requires.two refl begun c.front_of-second.type_inv refl ended
 
 pub returns-clause-hash : goal.returns-clause-hash
 returns-clause-hash c =
     let v = map (λ i. slice_index c.args.line.now (slice_index c.args.row.now i)) (range_with_len 0 c.args.width) in
-    sealed v (lanes_of c.look_in_line-first.result.0 ++ lanes_of c.front_of-second.result) (mix_of v) c.telling_hash.result (sym c.put_two.ensures ∙ returns-clause-values c) refl (c.telling_hash.ensures (mix_of v))
+    sealed v (lanes_of c.look_in_line-first.result.0 ++ lanes_of c.front_of-second.result) (mix_of v) c.telling_hash.result (sym c.put_pair.ensures ∙ returns-clause-values c) refl (c.telling_hash.ensures (mix_of v))
