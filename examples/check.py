@@ -1,10 +1,11 @@
 #!/usr/bin/env python3
-"""Runs the examples against the built program, and compares its replies with what they are to be; then checks the tools.
+"""Runs the examples and the cases on the built program, and compares its replies with what they are to be; then checks the
+tools.
 
 An example is a file NAME.ua here with its reply in NAME.out, or a fenced block marked `script` in a document with
-the next block, marked `reply`. The program runs with one worker, and with the words in NAME.args, one on a line, or behind
-the mark `script`. Each way to end without all replies is tried too, with its status and its line on standard error, but
-for want of memory.
+the next block, marked `reply`. The program runs with one worker, and with the words in NAME.args, one on a line, or after
+the mark `script`. Cases stand in the folder `cases`, and `cases.py` runs them. Each way to end without all replies is tried
+too, with its status and its line on standard error, but for want of memory.
 
 usage: check.py PROGRAM
 """
@@ -15,6 +16,8 @@ import re
 import subprocess
 import sys
 import tempfile
+
+import cases
 
 HERE = pathlib.Path(__file__).resolve().parent
 DOCUMENTS = ["README.md", "docs/LANGUAGE.md"]
@@ -32,7 +35,7 @@ def scripts():
         text = (HERE.parent / name).read_text(encoding="utf-8")
         pairs = PAIR.findall(text)
         if len(pairs) != text.count("\n```script"):
-            sys.exit(f"{name}: a script without a reply behind it")
+            sys.exit(f"{name}: a script without a reply after it")
         for number, pair in enumerate(pairs, 1):
             yield f"{name}, script {number}", pair[0].split(), pair[1].encode(), pair[3].encode()
 
@@ -46,14 +49,13 @@ def is_as_expected(program, words, script, reply):
 
 def endings():
     """Words, what standard input reads, a file for standard output or None, and the status and line wanted."""
-    usage = b"usage: uacalc [--workers 1..16] [--budget 1..1000000] [--jobs 1..16] [--generate NUMBER]\n"
     with tempfile.TemporaryFile() as script, tempfile.TemporaryFile() as fault, tempfile.TemporaryFile() as blanks:
         script.write(b"algebra E size 2 end con E")
         fault.write(b"algebra E size 2 end\ncon")
         blanks.write(b" " * (2**24 + 1))
         for file in (script, fault, blanks):
             file.flush()
-        yield ["--workers", "0"], script, None, 2, usage
+        yield ["--workers", "0"], script, None, 2, cases.USAGE.encode()
         yield [], fault, None, 5, b"syntax 2:4 end\n"
         yield [], blanks, None, 7, b"too long\n"
         if os.path.exists("/dev/full"):
@@ -89,8 +91,10 @@ def main():
             wrong += 1
             print(f"status {status}: another ending")
     print(f"examples: {count - wrong} as expected, {wrong} not", flush=True)
+    right, otherwise = cases.try_all(sys.argv[1])
+    print(f"cases: {right} as expected, {otherwise} not", flush=True)
     tools = subprocess.run([sys.executable, HERE.parent / "tools" / "check.py", sys.argv[1]], check=False)
-    sys.exit(1 if wrong or tools.returncode else 0)
+    sys.exit(1 if wrong or otherwise or tools.returncode else 0)
 
 
 if __name__ == "__main__":

@@ -1,5 +1,6 @@
 //! Devices that fail at each of their calls in turn, and that give or take one byte at a call.
 
+use crate::runs::{told, told_by};
 use std::alloc::Global;
 use std::process::Abort;
 use std::sync::Wait;
@@ -7,7 +8,6 @@ use std::test::Fail;
 use std::thread::Threads;
 use ua_cases::same;
 use ua_table::FreeGate;
-use ua_trials::{told, told_by};
 
 /// Three blocks, and a command for each kind of reply: rows, steps, a value, partitions, a certificate, an error.
 const SCRIPT: &str = "algebra M size 2 op meet 2 = 0 0 0 1 end

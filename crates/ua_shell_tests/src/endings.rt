@@ -1,13 +1,9 @@
-//! Faults of the source and the sink, and the longest script.
+//! A source and a sink that fail.
 
-use std::alloc::Global;
-use std::sync::Wait;
+use crate::runs::told;
 use std::test::Fail;
-use std::thread::Threads;
 use ua_cases::same;
 use ua_shell::Status;
-use ua_table::limits::SCRIPT;
-use ua_trials::told;
 
 const SCRIPT_OF_THREE: &[u8] = b"algebra M size 2
 op meet 2 = 0 0 0 1
@@ -24,22 +20,12 @@ fn faults_of_the_source_and_the_sink(rt: HostRuntime) -> Result<(), Fail> {
     same("the third write", written.as_str(), wanted)
 }
 
-/// How a script of so many blanks ends.
-fn told_blanks<R: Threads + Wait + Sync>(
-    rt: &R,
-    alloc: Global,
-    count: usize,
-) -> Result<String, Fail> {
-    let blanks = vec![in alloc; b' '; count]?;
-    told(rt, alloc, "", blanks.as_slice(), &[], &[])
-}
-
+/// What a sink takes before it fails is written, also where two commands are answered side by side.
 #[test]
-fn the_longest_script(rt: HostRuntime) -> Result<(), Fail> {
-    let longest = told_blanks(&rt, rt.alloc(), SCRIPT)?;
-    let longer = told_blanks(&rt, rt.alloc(), SCRIPT + 1)?;
-    same("as long as may be", longest.as_str(), "Done: ")?;
-    same("one blank more", longer.as_str(), "TooLong: ")
+fn a_sink_fails_between_replies(rt: HostRuntime) -> Result<(), Fail> {
+    let found = told(&rt, rt.alloc(), "--jobs 2", SCRIPT_OF_THREE, &[], &[2])?;
+    let wanted = "WriteFault: closed 0\nclosed 0\n";
+    same("the third write", found.as_str(), wanted)
 }
 
 #[test]

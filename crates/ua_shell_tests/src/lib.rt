@@ -1,4 +1,4 @@
-//! Whole runs: their devices, their words, their workers, their jobs and how they end.
+//! Whole runs over memory: devices that fail, workers and jobs that meet, and the script that is generated.
 #![tactic(auto)]
 
 #[cfg(test)]
@@ -6,16 +6,12 @@ mod devices;
 #[cfg(test)]
 mod endings;
 #[cfg(test)]
-mod faults;
+mod gates;
 #[cfg(test)]
 mod generated;
 #[cfg(test)]
 mod jobs;
 #[cfg(test)]
-mod limits;
+mod runs;
 #[cfg(test)]
-mod meeting;
-#[cfg(test)]
-mod names;
-#[cfg(test)]
-mod words;
+mod workers;
