@@ -77,10 +77,10 @@ VARYING = [
 
 
 def commands():
-    """The first words of the commands in README's table, and those that the scripts have."""
-    readme = (HERE.parent / "README.md").read_text(encoding="utf-8")
-    table = re.search(r"^## Commands\n\n((?:\|.*\n)+)", readme, re.MULTILINE)[1]
-    named = {word for row in table.splitlines() for word in re.findall(r"`([a-z]+)", row.split("|")[1])}
+    """The first words of the commands in the grammar, and those that the scripts have."""
+    language = (HERE.parent / "docs/LANGUAGE.md").read_text(encoding="utf-8")
+    grammar = re.search(r"^command = (.*?)^question = ", language, re.MULTILINE | re.DOTALL)[1]
+    named = set(re.findall(r'^(?:        \| )?"([a-z]+)"', grammar, re.MULTILINE))
     tried = set(" ".join(script for script, _ in FIXED + VARYING).split())
     return named, tried
 

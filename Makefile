@@ -1,0 +1,24 @@
+# The project's commands. `make` proves and builds the program; docs/USAGE.md says how long that takes.
+
+program := crates/uacalc/out/uacalc
+
+.PHONY: build try check long bench fmt
+
+build:
+	cd crates/uacalc && rt run -- --workers 1 < ../../examples/meet.ua
+
+# The first example, answered by the unproved program, in about a minute.
+try:
+	cd crates/uacalc && rt try -- --workers 1 < ../../examples/meet.ua
+
+check:
+	.ci/run
+
+long:
+	.ci/long
+
+bench:
+	bench/run.sh $(program)
+
+fmt:
+	for crate in crates/*/; do (cd $$crate && rt fmt) || exit 1; done
