@@ -21,6 +21,8 @@ echo "== certificates"
 bench/certificates.py "$program"
 echo "== closures"
 bench/closures.py "$program"
+echo "== closures by bases"
+bench/bases.py "$program"
 if command -v rt > /dev/null && command -v g++ > /dev/null; then
     echo "== rows"
     bench/rows.sh

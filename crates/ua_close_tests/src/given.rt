@@ -16,6 +16,11 @@ fn tables(name: &str) -> &'static str {
         "pointed" => "2: c 0 1",
         "meet" => "2: meet 2 0001",
         "lattice" => "2: meet 2 0001, join 2 0111",
+        "chain" => "3: meet 2 000011012, join 2 012112222",
+        // The products of the permutations of three letters.
+        "letters" => "6: times 2 012345103254240513351402425031534120",
+        "differences" => "3: minus 2 021102210",
+        "both" => "3: plus 2 012120201, minus 2 021102210",
         // The sums modulo 2 and modulo 3, and those modulo 2 and modulo 4.
         "sums" => "2: plus 2 0110\n3: plus 2 012120201",
         "groups" => "2: plus 2 0110\n4: plus 2 0123123023013012",

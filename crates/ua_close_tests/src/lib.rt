@@ -4,6 +4,8 @@
 #[cfg(test)]
 mod asked;
 #[cfg(test)]
+mod bases;
+#[cfg(test)]
 mod closures;
 #[cfg(test)]
 mod given;

@@ -1,0 +1,10 @@
+use Rattle.ua_work.specs.Replicas.{SameClosure}
+use Rattle.ua_work.specs.Workings.{GoesOn, IsFurther}
+use Rattle.ua_work.proofs.looks.catch_up.Given as goal
+
+abbrev pub invariant-loop : goal.invariant-loop
+invariant-loop l = record {
+  closure : SameClosure l.fn.replica l.replica;
+  further : IsFurther l.fn.seat l.seat;
+  working : GoesOn l.job.goal.now l.replica l.seat.own;
+}

@@ -1,0 +1,79 @@
+//! Records of other workers, which a worker looks for.
+
+ghost use Rattle.std.specs.Prelude.{◌≡◌, ◌<◌, length, None, MatchOption, MatchResult};
+ghost use Rattle.ua_log.specs.Rule.{MayStand};
+ghost use Rattle.ua_log.specs.Moves.{sees, IsAlone};
+ghost use Rattle.ua_log.specs.Seats.{with_worker};
+ghost use Rattle.ua_work.specs.Replicas.{SameClosure};
+ghost use Rattle.ua_work.specs.Workings.{GoesOn, IsFurther, Stops, IsJobOf};
+
+use crate::harvests::End;
+use crate::puts::{Job, take_in};
+use crate::replicas::Replica;
+use ua_log::{Board, Seat};
+use ua_table::Origin;
+
+/// How often a worker looks for a new record before it takes none to come.
+pub(crate) const LOOKS: u32 = 1024;
+
+/// Looks for the next record, so often at most.
+pub(crate) fn look_often(board: &Board, seat: &mut Seat, looks: u32) -> Option<Origin>
+    requires home { seat.old.home ≡ board.now }
+    requires room { length seat.old.own.seen < board.now.plan.budget }
+    ensures found { MatchOption result (seat.new ≡ seat.old) (λ o. MayStand board.now.plan (length seat.old.own.seen) o × (seat.new ≡ with_worker seat.old (sees seat.old.own o))) }
+    ensures alone { IsAlone seat.old.made seat.old.own → result ≡ None }
+{
+    for _ in 0..looks {
+        if let Some(o) = board.look(seat) {
+            return Some(o);
+        }
+    }
+    None
+}
+
+/// Looks for the next record, so often at most, and enters it. Answers whether there was one.
+fn see_next(job: &Job, seat: &mut Seat, replica: &mut Replica, looks: u32) -> Result<bool, End>
+    requires home { seat.old.home ≡ job.now.board.now }
+    requires job { IsJobOf replica.old job.now }
+    requires working { GoesOn job.now.goal.now replica.old seat.old.own }
+    ensures closure { SameClosure replica.old replica.new }
+    ensures seat { IsFurther seat.old seat.new }
+    ensures done { MatchResult result (λ found. GoesOn job.now.goal.now replica.new seat.new.own) (Stops job.now.goal.now job.now.board.now.plan replica.new seat.new.own) }
+{
+    if Board::seen(seat) >= job.budget {
+        return Ok(false);
+    }
+    if replica.reserve().is_err() {
+        return Err(End::OutOfMemory);
+    }
+    let Some(o) = look_often(job.board, seat, looks) else {
+        return Ok(false);
+    };
+    if take_in(job.goal, replica, &o) {
+        return Err(End::Reached);
+    }
+    Ok(true)
+}
+
+/// Enters the records that come, until so many looks find none. A lone worker, for which none come, does not look.
+pub(crate) fn catch_up(job: &Job, seat: &mut Seat, replica: &mut Replica, looks: u32) -> Option<End>
+    requires home { seat.old.home ≡ job.now.board.now }
+    requires job { IsJobOf replica.old job.now }
+    requires working { GoesOn job.now.goal.now replica.old seat.old.own }
+    ensures closure { SameClosure replica.old replica.new }
+    ensures seat { IsFurther seat.old seat.new }
+    ensures done { MatchOption result (GoesOn job.now.goal.now replica.new seat.new.own) (Stops job.now.goal.now job.now.board.now.plan replica.new seat.new.own) }
+    ensures lone { IsAlone seat.old.made seat.old.own → MatchOption result (seat.new ≡ seat.old) (λ end. ⊥) }
+{
+    if !Board::is_shared(seat) {
+        return None;
+    }
+    for _ in 0..job.budget {
+        match see_next(job, seat, replica, looks) {
+            Ok(true) => {}
+            Ok(false) => return None,
+            Err(end) => return Some(end),
+        }
+    }
+    None
+}
