@@ -3,3 +3,5 @@ pub mod States
 pub mod Principals
 pub mod Known
 pub mod Extensions
+pub mod Hints
+pub mod Answers
