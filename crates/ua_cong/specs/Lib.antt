@@ -4,4 +4,3 @@ pub mod Principals
 pub mod Known
 pub mod Extensions
 pub mod Hints
-pub mod Answers

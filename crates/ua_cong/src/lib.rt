@@ -7,5 +7,5 @@ mod known;
 mod pairs;
 
 pub use closing::{cg, cg_above};
-pub use pairs::{DistinctPrincipals, distinct_principals, principals};
+pub use pairs::{distinct_principals, principals};
 pub use ua_prod::{Clash, is_congruence};

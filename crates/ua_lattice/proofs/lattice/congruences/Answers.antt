@@ -1,38 +1,44 @@
-use Rattle.std.proofs.Common.{◌≡◌, ◌<◌, ℕ, List, length, sym, ap, subst, arith}
+use Rattle.std.proofs.Common.{◌≡◌, ◌<◌, ◌≤◌, ℕ, List, length, sym, ap, subst, arith}
 use Rattle.std.specs.List.{AllByRecursion}
+use Rattle.std.specs.List.Sorted.{IsStrictlySortedBy}
 use Rattle.ua_table.proofs.Lists.{all_weaker}
 use Rattle.ua_part.specs.Partitions.{Partition, IsPart}
 use Rattle.ua_prod.specs.Congruences.{IsCongruence}
-use Rattle.ua_lattice.specs.Lattices.{IsCongruenceList, AreCovers, AreIrreducible}
+use Rattle.ua_lattice.specs.Lattices.{by_blocks, IsCongruenceList, AreCovers, AreIrreducible}
 use Rattle.ua_lattice.specs.Joins.{IsSpannedLattice, AreAmong}
+use Rattle.ua_lattice.proofs.OrderLaws.{length_from_members}
 use Rattle.ua_lattice.proofs.PrincipalLaws.{congruence_part}
 use Rattle.ua_lattice.proofs.WholeLaws.{arranged_length, exceeding_list, spanned_list, congruence_list, covers_within}
-use Rattle.ua_lattice.proofs.lattice.joined.Goals as goal
+use Rattle.ua_lattice.proofs.lattice.congruences.Goals as goal
+
+-- different partitions are no more than those among which they are
+few_parts : (parts rows : List Partition) (budget : ℕ) → IsStrictlySortedBy by_blocks parts → AreAmong parts rows → length rows ≤ budget → length parts ≤ budget
+few_parts parts rows budget up among few = let long = length_from_members parts rows up among in omega (arith, long, few)
 
 pub returns-then-not-whole : goal.returns-then-not-whole
-returns-then-not-whole c =
-    exceeding_list c.take_in_all.new.found.rows.items c.in_ok-list.list.items c.in_ok-list.ensures c.args.a.now c.args.budget c.in_ok-whole.ensures.congruences (c.in_ok-whole.ensures.exceeds c.if-not-whole.true)
+returns-then-not-whole g c =
+    exceeding_list c.take_in_all.new.found.rows.items c.in_ok-list.list.items c.in_ok-list.ensures c.args.a.now c.args.run.now.budget c.in_ok-whole.ensures.congruences (c.in_ok-whole.ensures.exceeds c.if-not-whole.true)
 
 pub take_in_all-requires-clause-parts : goal.take_in_all-requires-clause-parts
-take_in_all-requires-clause-parts c = subst (AllByRecursion (IsCongruence c.args.a.now)) (sym c.as_slice.ensures.value) c.in_ok-parts.ensures.congruences
+take_in_all-requires-clause-parts g c = subst (AllByRecursion (IsCongruence c.args.a.now)) (sym c.as_slice.ensures.value) c.in_ok-parts.ensures.congruences
 
 pub in_order-requires : goal.in_order-requires
-in_order-requires c =
+in_order-requires g c =
     let a = c.args.a.now in
     all_weaker (IsCongruence a) IsPart (λ p k. congruence_part a p c.size.ensures.algebra.small k) c.take_in_all.new.found.rows.items c.in_ok-whole.ensures.congruences
 
 -- what is found, where it is whole
 pub covers_of-requires-clause-list : goal.covers_of-requires-clause-list
-covers_of-requires-clause-list c =
+covers_of-requires-clause-list g c =
     let a = c.args.a.now in
     let rows = c.take_in_all.new.found.rows.items in
     let whole = c.if-not-whole.false in
     let parts = subst (λ (ps : List Partition). AreAmong ps rows) c.as_slice.ensures.value (c.in_ok-whole.ensures.there whole) in
     subst (IsCongruenceList a) (sym c.as_slice-2.ensures.value)
-    (congruence_list rows c.in_ok-list.list.items c.in_ok-list.ensures a c.take_in_all.new.found.generators.items (c.in_ok-whole.ensures.found whole) c.in_ok-parts.parts.items c.in_ok-parts.ensures.all parts)
+    (congruence_list rows c.in_ok-list.list.items c.in_ok-list.ensures a c.take_in_all.new.found.generators.items (c.in_ok-whole.ensures.found whole) c.in_ok-parts.parts.items (c.in_ok-parts.ensures.all (few_parts c.in_ok-parts.parts.items rows c.args.run.now.budget c.in_ok-parts.ensures.in_order parts (c.in_ok-whole.ensures.within whole))) parts)
 
 pub covers_of-requires-clause-spanned : goal.covers_of-requires-clause-spanned
-covers_of-requires-clause-spanned c =
+covers_of-requires-clause-spanned g c =
     let a = c.args.a.now in
     let rows = c.take_in_all.new.found.rows.items in
     let generators = c.take_in_all.new.found.generators.items in
@@ -40,14 +46,14 @@ covers_of-requires-clause-spanned c =
     subst (λ (gens : List Partition). IsSpannedLattice a gens c.as_slice-2.result.now) (sym c.as_slice-generators.ensures.value) (subst (IsSpannedLattice a generators) (sym c.as_slice-2.ensures.value) spanned)
 
 pub covers_of-requires-clause-count : goal.covers_of-requires-clause-count
-covers_of-requires-clause-count c =
+covers_of-requires-clause-count g c =
     let long = arranged_length c.take_in_all.new.found.rows.items c.in_ok-list.list.items c.in_ok-list.ensures in
     let few = c.in_ok-whole.ensures.within c.if-not-whole.false in
-    let small = c.requires.small in
+    let small = c.args.run.now.small_budget in
     omega (arith, long, few, small, ap length c.as_slice-2.ensures.value)
 
 pub irreducibles_of-requires-clause-within : goal.irreducibles_of-requires-clause-within
-irreducibles_of-requires-clause-within c =
+irreducibles_of-requires-clause-within g c =
     let list = c.in_ok-list.list.items in
     let covers = c.in_ok-covers.covers.items in
     let h = subst (λ (ps : List Partition). AreCovers c.args.a.now ps covers) c.as_slice-2.ensures.value c.in_ok-covers.ensures in
@@ -55,16 +61,16 @@ irreducibles_of-requires-clause-within c =
     subst (λ (ps : List (ℕ × ℕ)). AllByRecursion (λ (pair : ℕ × ℕ). pair.1 < c.len.result) ps) (sym c.as_slice-3.ensures.value) (subst (λ m. AllByRecursion (λ (pair : ℕ × ℕ). pair.1 < m) covers) n (covers_within c.args.a.now list covers h))
 
 pub irreducibles_of-requires-clause-count : goal.irreducibles_of-requires-clause-count
-irreducibles_of-requires-clause-count c =
+irreducibles_of-requires-clause-count g c =
     let long = arranged_length c.take_in_all.new.found.rows.items c.in_ok-list.list.items c.in_ok-list.ensures in
     let few = c.in_ok-whole.ensures.within c.if-not-whole.false in
-    let small = c.requires.small in
+    let small = c.args.run.now.small_budget in
     let l = c.len.ensures in
     let k = c.in_ok-list.list.ok.0 in
     omega (arith, long, few, small, l, k)
 
 pub returns : goal.returns
-returns c =
+returns g c =
     let a = c.args.a.now in
     let rows = c.take_in_all.new.found.rows.items in
     let list = c.in_ok-list.list.items in
@@ -75,7 +81,7 @@ returns c =
     let long = arranged_length rows list c.in_ok-list.ensures in
     let few = c.in_ok-whole.ensures.within whole in
     record {
-      all_of_them = congruence_list rows list c.in_ok-list.ensures a c.take_in_all.new.found.generators.items (c.in_ok-whole.ensures.found whole) c.in_ok-parts.parts.items c.in_ok-parts.ensures.all parts;
+      all_of_them = congruence_list rows list c.in_ok-list.ensures a c.take_in_all.new.found.generators.items (c.in_ok-whole.ensures.found whole) c.in_ok-parts.parts.items (c.in_ok-parts.ensures.all (few_parts c.in_ok-parts.parts.items rows c.args.run.now.budget c.in_ok-parts.ensures.in_order parts (c.in_ok-whole.ensures.within whole))) parts;
       within = omega (arith, long, few);
       covering = subst (λ (ps : List Partition). AreCovers a ps covers) c.as_slice-2.ensures.value c.in_ok-covers.ensures;
       irreducible = subst (λ (ps : List (ℕ × ℕ)). AreIrreducible ps irreducibles) c.as_slice-3.ensures.value c.in_ok-irreducibles.ensures;
