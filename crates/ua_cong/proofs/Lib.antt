@@ -4,3 +4,4 @@ pub mod ExtensionLaws
 pub mod PairLaws
 pub mod CombinationLaws
 pub mod EntryLaws
+pub mod HintLaws

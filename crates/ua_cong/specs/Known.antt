@@ -12,6 +12,11 @@ pub record IsKnownPair (a : FiniteAlgebra) (rows : List Partition) (e : ℕ × �
   pub place : e.2 < length rows
   pub principal : IsPrincipal a (e.0, e.1, slice_index_or rows e.2 [])
 
+-- the row at this place is the principal congruence of two elements
+pub record IsPlaceOf (a : FiniteAlgebra) (known : Known) (x y place : ℕ) : Type 0 where
+  pub within : place < length known.rows.items
+  pub principal : IsPrincipal a (x, y, slice_index_or known.rows.items place [])
+
 -- each pair has its principal congruence among the rows, and each row is the principal congruence of a pair
 pub record IsKnown (a : FiniteAlgebra) (known : Known) : Type 0 where
   pub width : known.rows.width ≡ a.size

@@ -3,3 +3,4 @@ pub mod States
 pub mod Principals
 pub mod Known
 pub mod Extensions
+pub mod Hints

@@ -9,7 +9,7 @@ ghost use Rattle.ua_part.specs.Partitions.{SameBlock};
 ghost use Rattle.ua_prod.specs.Congruences.{IsCg, IsCongruence, RelatesAll};
 ghost use Rattle.ua_cong.specs.Closings.{AreElements, IsForced, IsCarried, IsCarriedAlong};
 ghost use Rattle.ua_cong.specs.Extensions.{led_pairs, IsCgAbove};
-ghost use Rattle.ua_cong.specs.Known.{IsKnown};
+ghost use Rattle.ua_cong.specs.Known.{IsKnown, IsPlaceOf};
 ghost use Rattle.ua_cong.specs.States.{IsState, HasGrown};
 
 use crate::known::Known;
@@ -42,34 +42,34 @@ fn rank(size: usize, x: usize, y: usize) -> usize
     x * (2 * size - x - 1) / 2 + y - x - 1
 }
 
-/// The principal congruence of this pair, the first the lower, if it is known, by one look-up.
-fn known_at<'a>(problem: &Problem<'a>, low: Elem, high: Elem) -> Option<&'a [Elem]>
-    requires known { IsKnown problem.now.algebra.now problem.now.known.now }
+/// The place of the principal congruence of this pair, the first the lower, if it is known, by one look-up.
+fn known_at(algebra: &Algebra, known: &Known, low: Elem, high: Elem) -> Option<u32>
+    requires known { IsKnown algebra.now known.now }
     requires order { low < high }
-    requires within { high < problem.now.algebra.now.size }
-    ensures { IfSome result (λ p. IsCg problem.now.algebra.now ((low, high) ∷ []) p.now) }
+    requires within { high < algebra.now.size }
+    ensures { IfSome result (IsPlaceOf algebra.now known.now low high) }
 {
-    let size = problem.algebra.size() as usize;
+    let size = algebra.size() as usize;
     let rank = rank(size, low as usize, high as usize);
-    let (first, second, place) = problem.known.pairs.get(rank)?;
+    let (first, second, place) = known.pairs.get(rank)?;
     if *first != low || *second != high {
         return None;
     }
-    Some(problem.known.rows.row(*place))
+    Some(*place)
 }
 
-/// The principal congruence of two elements, if it is known.
-fn known_principal<'a>(problem: &Problem<'a>, x: Elem, y: Elem) -> Option<&'a [Elem]>
-    requires known { IsKnown problem.now.algebra.now problem.now.known.now }
+/// The place of the principal congruence of two elements, if it is known.
+pub fn place_of(algebra: &Algebra, known: &Known, x: Elem, y: Elem) -> Option<u32>
+    requires known { IsKnown algebra.now known.now }
     requires apart { x ≢ y }
-    requires first { x < problem.now.algebra.now.size }
-    requires second { y < problem.now.algebra.now.size }
-    ensures { IfSome result (λ p. IsCg problem.now.algebra.now ((x, y) ∷ []) p.now) }
+    requires first { x < algebra.now.size }
+    requires second { y < algebra.now.size }
+    ensures { IfSome result (IsPlaceOf algebra.now known.now x y) }
 {
     if x < y {
-        known_at(problem, x, y)
+        known_at(algebra, known, x, y)
     } else {
-        known_at(problem, y, x)
+        known_at(algebra, known, y, x)
     }
 }
 
@@ -89,8 +89,8 @@ fn unite(problem: &Problem, closing: &mut Closing, x: Elem, y: Elem) -> Result<(
     if !closing.sets.unite(u32::from(x), u32::from(y)) {
         return Ok(());
     }
-    match known_principal(problem, x, y) {
-        Some(row) => closing.sets.unite_row(row),
+    match place_of(problem.algebra, problem.known, x, y) {
+        Some(place) => closing.sets.unite_row(problem.known.rows.row(place)),
         None => closing.work.push((x, y))?,
     }
     Ok(())
@@ -291,19 +291,29 @@ fn pairs_above(alloc: Global, p: &Part, x: Elem, y: Elem) -> Result<Vec<(Elem, E
     Ok(pairs)
 }
 
-/// The least congruence above this one that relates two elements. What this one relates has no work left.
-pub fn cg_above(alloc: Global, a: &Algebra, p: Part, x: Elem, y: Elem) -> Result<Part, AllocError>
+/// The blocks of the least congruence above this one that relates two elements, where these principal
+/// congruences are known. What this one relates has no work left.
+pub fn sets_above(
+    alloc: Global,
+    a: &Algebra,
+    p: Part,
+    x: Elem,
+    y: Elem,
+    known: &Known,
+) -> Result<DisjointSets, AllocError>
     requires congruence { IsCongruence a.now p }
+    requires known { IsKnown a.now known.now }
     requires first { x < a.now.size }
     requires second { y < a.now.size }
     ensures { IfOk result (IsCgAbove a.now p x y) }
 {
-    let known = Known::new(alloc, a.size());
+    // The size of an algebra is within its limit.
+    let _size = a.size();
     let pairs = pairs_above(alloc, &p, x, y)?;
     let problem = Problem {
         algebra: a,
         pairs: pairs.as_slice(),
-        known: &known,
+        known,
     };
     let mut closing = Closing {
         sets: DisjointSets::of(p),
@@ -311,5 +321,16 @@ pub fn cg_above(alloc: Global, a: &Algebra, p: Part, x: Elem, y: Elem) -> Result
     };
     relate_pairs(&problem, &mut closing)?;
     carry_all(&problem, &mut closing)?;
-    Ok(closing.sets.into_part())
+    Ok(closing.sets)
+}
+
+/// The least congruence above this one that relates two elements.
+pub fn cg_above(alloc: Global, a: &Algebra, p: Part, x: Elem, y: Elem) -> Result<Part, AllocError>
+    requires congruence { IsCongruence a.now p }
+    requires first { x < a.now.size }
+    requires second { y < a.now.size }
+    ensures { IfOk result (IsCgAbove a.now p x y) }
+{
+    let known = Known::new(alloc, a.size());
+    Ok(sets_above(alloc, a, p, x, y, &known)?.into_part())
 }

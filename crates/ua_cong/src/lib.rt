@@ -2,6 +2,7 @@
 #![tactic(auto)]
 
 mod closing;
+mod hints;
 mod known;
 mod pairs;
 

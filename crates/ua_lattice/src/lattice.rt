@@ -1,11 +1,13 @@
 //! All congruences of an algebra, with their order.
 
-ghost use Rattle.std.specs.Prelude.{◌<◌, ◌≤◌, IfOk};
+ghost use Rattle.std.specs.Prelude.{◌≤◌, length, IfOk};
 ghost use Rattle.std.specs.List.{AllByRecursion};
+ghost use Rattle.std.specs.List.Sorted.{IsStrictlySortedBy};
 ghost use Rattle.ua_table.specs.declared.limits.TheConstants.{WORKERS};
 ghost use Rattle.ua_prod.specs.Congruences.{IsCongruence};
 ghost use Rattle.ua_cong.specs.Principals.{HasPrincipals};
 ghost use Rattle.ua_lattice.specs.Answers.{IsLatticeOf};
+ghost use Rattle.ua_lattice.specs.Lattices.{by_blocks};
 
 use crate::covers::covers_of;
 use crate::irreducibles::irreducibles_of;
@@ -33,21 +35,23 @@ pub enum Lattice {
     Exceeds(Vec<Part>),
 }
 
-/// The different principal congruences of all pairs of elements, in order.
+/// The different principal congruences, in order: those of all pairs of elements, or one more than the budget.
 fn ordered_principals<R: Threads + Sync>(
     rt: &R,
     alloc: Global,
     a: &Algebra,
     workers: u32,
+    budget: u32,
 ) -> Result<Vec<Part>, AllocError>
     requires some { 1 ≤ workers }
     requires few { workers ≤ WORKERS }
     ensures congruences { IfOk result (λ parts. AllByRecursion (IsCongruence a.now) parts.items) }
-    ensures all { IfOk result (λ parts. HasPrincipals a.now parts.items) }
+    ensures in_order { IfOk result (λ parts. IsStrictlySortedBy by_blocks parts.items) }
+    ensures all { IfOk result (λ parts. length parts.items ≤ budget → HasPrincipals a.now parts.items) }
 {
     // The size of an algebra is within its limit.
     let _size = a.size();
-    let rows = distinct_principals(rt, alloc, a, workers)?;
+    let rows = distinct_principals(rt, alloc, a, workers, budget)?;
     in_order(alloc, &rows)
 }
 
@@ -55,8 +59,8 @@ fn ordered_principals<R: Threads + Sync>(
 ///
 /// The principal congruences are found by the run's workers, and all others are joins of them. With n
 /// congruences, of which j are principal and no join of others, this takes at most 2nj joins. Only different
-/// congruences are kept, and the search ends where they are more than the budget. No closure is run, so the
-/// gate of the run is not passed.
+/// congruences are kept, and the search ends where they are more than the budget: for principal ones before
+/// any join. No closure is run, so the gate of the run is not passed.
 pub fn congruences<R: Threads + Sync, G: Gate>(
     rt: &R,
     alloc: Global,
@@ -65,7 +69,7 @@ pub fn congruences<R: Threads + Sync, G: Gate>(
 ) -> Result<Lattice, AllocError>
     ensures { IfOk result (IsLatticeOf a.now run.now.budget) }
 {
-    let parts = ordered_principals(rt, alloc, a, run.workers)?;
+    let parts = ordered_principals(rt, alloc, a, run.workers, run.budget)?;
     let mut joiner = Joiner::new(alloc, a.size())?;
     let search = Search {
         algebra: a,

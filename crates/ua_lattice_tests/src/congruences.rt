@@ -61,11 +61,23 @@ fn different_ones(rt: HostRuntime) -> Result<(), Fail> {
     let alloc = rt.alloc();
     let algebra = group(alloc)?;
     for workers in [1, 2, 16] {
-        let rows = distinct_principals(&rt, alloc, &algebra, workers)?;
+        let rows = distinct_principals(&rt, alloc, &algebra, workers, 2)?;
         assert_eq!(rt; rows.len(), 2);
         assert_eq!(rt; rows.width(), 6);
         assert!(rt; rows.find(&[0, 0, 0, 3, 3, 3]).is_some());
         assert!(rt; rows.find(&[0; 6]).is_some());
+    }
+    Ok(())
+}
+
+/// With a bound of none the first is one more than the bound.
+#[test]
+fn one_beyond(rt: HostRuntime) -> Result<(), Fail> {
+    let alloc = rt.alloc();
+    let algebra = group(alloc)?;
+    for workers in [1, 2, 16] {
+        let rows = distinct_principals(&rt, alloc, &algebra, workers, 0)?;
+        assert_eq!(rt; rows.len(), 1);
     }
     Ok(())
 }

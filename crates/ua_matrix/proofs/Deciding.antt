@@ -22,12 +22,12 @@ variables_related alpha beta =
     (all_from_contains (IsRelated alpha beta) (map (marked true) (related_pairs alpha)) (λ v c. let m = Contains-map_from (marked true) v (related_pairs alpha) c in subst (IsRelated alpha beta) m.2 (related_from alpha m.0 m.1)))
     (all_from_contains (IsRelated alpha beta) (map (marked false) (related_pairs beta)) (λ v c. let m = Contains-map_from (marked false) v (related_pairs beta) c in subst (IsRelated alpha beta) m.2 (related_from beta m.0 m.1)))
 
-variable_in : (alpha beta : Partition) (is_alpha : Bool) (x y : ℕ) → IsRelated alpha beta (record { is_alpha = is_alpha; first = x; second = y }) → Contains (variables_of alpha beta) (record { is_alpha = is_alpha; first = x; second = y })
+pub variable_in : (alpha beta : Partition) (is_alpha : Bool) (x y : ℕ) → IsRelated alpha beta (record { is_alpha = is_alpha; first = x; second = y }) → Contains (variables_of alpha beta) (record { is_alpha = is_alpha; first = x; second = y })
 variable_in alpha beta true x y h = Contains-append_left (map (marked true) (related_pairs alpha)) (map (marked false) (related_pairs beta)) _ (Contains-map (marked true) (x, y) (related_pairs alpha) (related_in alpha x y h))
 variable_in alpha beta false x y h = Contains-append_right (map (marked true) (related_pairs alpha)) (map (marked false) (related_pairs beta)) _ (Contains-map (marked false) (x, y) (related_pairs beta) (related_in beta x y h))
 
 -- the entries of the matrices of variables are their elements
-at_0 : (vs : List Variable) → column (map matrix_of vs) 0 ≡ elements false false vs
+pub at_0 : (vs : List Variable) → column (map matrix_of vs) 0 ≡ elements false false vs
 at_0 [] = refl
 at_0 (v ∷ vs) = (λ i. same v.is_alpha i ∷ at_0 vs i)
   where
@@ -35,7 +35,7 @@ at_0 (v ∷ vs) = (λ i. same v.is_alpha i ∷ at_0 vs i)
     same true = refl
     same false = refl
 
-at_1 : (vs : List Variable) → column (map matrix_of vs) 1 ≡ elements false true vs
+pub at_1 : (vs : List Variable) → column (map matrix_of vs) 1 ≡ elements false true vs
 at_1 [] = refl
 at_1 (v ∷ vs) = (λ i. same v.is_alpha i ∷ at_1 vs i)
   where
@@ -43,7 +43,7 @@ at_1 (v ∷ vs) = (λ i. same v.is_alpha i ∷ at_1 vs i)
     same true = refl
     same false = refl
 
-at_2 : (vs : List Variable) → column (map matrix_of vs) 2 ≡ elements true false vs
+pub at_2 : (vs : List Variable) → column (map matrix_of vs) 2 ≡ elements true false vs
 at_2 [] = refl
 at_2 (v ∷ vs) = (λ i. same v.is_alpha i ∷ at_2 vs i)
   where
@@ -51,7 +51,7 @@ at_2 (v ∷ vs) = (λ i. same v.is_alpha i ∷ at_2 vs i)
     same true = refl
     same false = refl
 
-at_3 : (vs : List Variable) → column (map matrix_of vs) 3 ≡ elements true true vs
+pub at_3 : (vs : List Variable) → column (map matrix_of vs) 3 ≡ elements true true vs
 at_3 [] = refl
 at_3 (v ∷ vs) = (λ i. same v.is_alpha i ∷ at_3 vs i)
   where

@@ -1,5 +1,6 @@
 pub mod Centrality
 pub mod Matrices
+pub mod Deltas
 pub mod Worked
 pub mod Answers
 pub mod Permitted

@@ -12,3 +12,4 @@ pub mod SizeLaws
 pub mod EscapeLaws
 pub mod ProductLaws
 pub mod DrawLaws
+pub mod ValueLaws

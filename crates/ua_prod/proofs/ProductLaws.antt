@@ -115,7 +115,7 @@ same_arity a b f o p e here there =
     let one : symbol o ≡ symbol p = cc in
     ap (λ (s : List ℕ × ℕ). s.1) one
 
-zipped_at : (os ps : List Operation) (f : ℕ) (o p : Operation) → slice_get os f ≡ Some o → slice_get ps f ≡ Some p → slice_get (zip os ps) f ≡ Some (o, p)
+pub zipped_at : (os ps : List Operation) (f : ℕ) (o p : Operation) → slice_get os f ≡ Some o → slice_get ps f ≡ Some p → slice_get (zip os ps) f ≡ Some (o, p)
 zipped_at [] ps f o p e h = cc
 zipped_at (q ∷ os) [] f o p e h = cc
 zipped_at (q ∷ os) (r ∷ ps) zero o p e h = let left : q ≡ o = cc in let right : r ≡ p = cc in λ j. Some (left j, right j)

@@ -22,7 +22,7 @@ fn position_of(members: &[Elem], x: Elem) -> Option<usize>
 }
 
 /// The place of an element among the members, or 0 where it is none.
-fn place_among(members: &[Elem], x: Elem) -> Elem
+pub fn place_among(members: &[Elem], x: Elem) -> Elem
     requires { length members.now ≤ SIZE }
     ensures { result ≡ place_among members.now x }
 {

@@ -11,6 +11,7 @@ use Rattle.ua_cong.proofs.pairs.known_principals.Goals as goal
 pub batches-init : goal.batches-init
 batches-init g c = record {
   known = c.new-known.ensures.known c.args.a.now (sym c.size-2.ensures.size);
+  rows = (let none = ap length c.new-known.ensures.rows in omega (arith, none));
   few = (let none = ap length c.new-known.ensures.pairs in omega (arith, none));
   within = omega arith;
   all = ap (map (λ (e : ℕ × ℕ × ℕ). (e.0, e.1))) c.new-known.ensures.pairs;
@@ -35,6 +36,7 @@ advance-requires-clause-room g c _ _ =
 
 pub batches-preserved : goal.batches-preserved
 batches-preserved g c =
+    let whole = c.if-not-branch.false in
     let all = c.in_ok-pairs.pairs.items in
     let start = c.batches.start in
     let end = c.batches.start + c.min.result in
@@ -42,20 +44,24 @@ batches-preserved g c =
     let high : c.batches.start + c.min.result ≤ length c.in_ok-pairs.pairs.items = (let w = c.batches.invariant.within in omega (arith, c.min.ensures, long, w)) in
     record {
       known = c.in_ok-advance.ensures.known;
+      rows = c.in_ok-advance.ensures.within whole;
       few = (
-          let one = c.in_ok-advance.ensures.count in
+          let one = c.in_ok-advance.ensures.count whole in
           let two = c.batches.invariant.few in
           let slice = length-take (c.batches.start + c.min.result - c.batches.start) (drop c.batches.start c.deref.result.now) in
           omega (arith, one, two, slice));
       within = high;
       all = batch_more all (known_pairs c.batches.known) (known_pairs c.advance.new.known) start end (omega arith) c.batches.invariant.all
-          (c.in_ok-advance.ensures.all ∙ ap (λ (xs : List (ℕ × ℕ)). known_pairs c.batches.known ++ take (c.batches.start + c.min.result - c.batches.start) (drop c.batches.start xs)) c.deref.ensures.value);
+          (c.in_ok-advance.ensures.all whole ∙ ap (λ (xs : List (ℕ × ℕ)). known_pairs c.batches.known ++ take (c.batches.start + c.min.result - c.batches.start) (drop c.batches.start xs)) c.deref.ensures.value);
     }
 
 pub returns-clause-few : goal.returns-clause-few
-returns-clause-few g c =
+returns-clause-few g c = λ _.
     let few = few_pairs c.args.a.now.size c.size.ensures.algebra.small in
     let all = ap length (c.in_ok-pairs.ensures ∙ ap pairs_below c.size.ensures.size) in
     let known = c.batches.invariant.few in
     let within = c.batches.invariant.within in
     omega (arith, few, all, known, within)
+
+pub returns-clause-bound : goal.returns-clause-bound
+returns-clause-bound g c = let w = c.batches.invariant.rows in omega (arith, w)

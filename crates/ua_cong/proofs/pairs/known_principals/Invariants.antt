@@ -5,6 +5,7 @@ use Rattle.ua_cong.proofs.pairs.known_principals.Given as goal
 abbrev pub invariant-batches : goal.invariant-batches
 invariant-batches g l = record {
   known : IsKnown l.a l.known;
+  rows : length l.known.rows.items ≤ l.bound;
   few : length l.known.pairs.items ≤ l.start;
   within : l.start ≤ length l.pairs.items;
   all : known_pairs l.known ≡ take l.start l.pairs.items;

@@ -1,13 +1,19 @@
-use Rattle.std.proofs.Common.{◌≡◌, ◌<◌, ℕ, List, length, sym, ap, subst, arith}
+use Rattle.std.proofs.Common.{◌≡◌, ◌<◌, ◌≤◌, ℕ, List, length, sym, ap, subst, arith}
 use Rattle.std.specs.List.{AllByRecursion}
+use Rattle.std.specs.List.Sorted.{IsStrictlySortedBy}
 use Rattle.ua_table.proofs.Lists.{all_weaker}
 use Rattle.ua_part.specs.Partitions.{Partition, IsPart}
 use Rattle.ua_prod.specs.Congruences.{IsCongruence}
-use Rattle.ua_lattice.specs.Lattices.{IsCongruenceList, AreCovers, AreIrreducible}
+use Rattle.ua_lattice.specs.Lattices.{by_blocks, IsCongruenceList, AreCovers, AreIrreducible}
 use Rattle.ua_lattice.specs.Joins.{IsSpannedLattice, AreAmong}
+use Rattle.ua_lattice.proofs.OrderLaws.{length_from_members}
 use Rattle.ua_lattice.proofs.PrincipalLaws.{congruence_part}
 use Rattle.ua_lattice.proofs.WholeLaws.{arranged_length, exceeding_list, spanned_list, congruence_list, covers_within}
 use Rattle.ua_lattice.proofs.lattice.congruences.Goals as goal
+
+-- different partitions are no more than those among which they are
+few_parts : (parts rows : List Partition) (budget : ℕ) → IsStrictlySortedBy by_blocks parts → AreAmong parts rows → length rows ≤ budget → length parts ≤ budget
+few_parts parts rows budget up among few = let long = length_from_members parts rows up among in omega (arith, long, few)
 
 pub returns-then-not-whole : goal.returns-then-not-whole
 returns-then-not-whole g c =
@@ -29,7 +35,7 @@ covers_of-requires-clause-list g c =
     let whole = c.if-not-whole.false in
     let parts = subst (λ (ps : List Partition). AreAmong ps rows) c.as_slice.ensures.value (c.in_ok-whole.ensures.there whole) in
     subst (IsCongruenceList a) (sym c.as_slice-2.ensures.value)
-    (congruence_list rows c.in_ok-list.list.items c.in_ok-list.ensures a c.take_in_all.new.found.generators.items (c.in_ok-whole.ensures.found whole) c.in_ok-parts.parts.items c.in_ok-parts.ensures.all parts)
+    (congruence_list rows c.in_ok-list.list.items c.in_ok-list.ensures a c.take_in_all.new.found.generators.items (c.in_ok-whole.ensures.found whole) c.in_ok-parts.parts.items (c.in_ok-parts.ensures.all (few_parts c.in_ok-parts.parts.items rows c.args.run.now.budget c.in_ok-parts.ensures.in_order parts (c.in_ok-whole.ensures.within whole))) parts)
 
 pub covers_of-requires-clause-spanned : goal.covers_of-requires-clause-spanned
 covers_of-requires-clause-spanned g c =
@@ -75,7 +81,7 @@ returns g c =
     let long = arranged_length rows list c.in_ok-list.ensures in
     let few = c.in_ok-whole.ensures.within whole in
     record {
-      all_of_them = congruence_list rows list c.in_ok-list.ensures a c.take_in_all.new.found.generators.items (c.in_ok-whole.ensures.found whole) c.in_ok-parts.parts.items c.in_ok-parts.ensures.all parts;
+      all_of_them = congruence_list rows list c.in_ok-list.ensures a c.take_in_all.new.found.generators.items (c.in_ok-whole.ensures.found whole) c.in_ok-parts.parts.items (c.in_ok-parts.ensures.all (few_parts c.in_ok-parts.parts.items rows c.args.run.now.budget c.in_ok-parts.ensures.in_order parts (c.in_ok-whole.ensures.within whole))) parts;
       within = omega (arith, long, few);
       covering = subst (λ (ps : List Partition). AreCovers a ps covers) c.as_slice-2.ensures.value c.in_ok-covers.ensures;
       irreducible = subst (λ (ps : List (ℕ × ℕ)). AreIrreducible ps irreducibles) c.as_slice-3.ensures.value c.in_ok-irreducibles.ensures;

@@ -6,7 +6,7 @@ use Rattle.ua_cong.specs.Closings.{AreElements, IsClosing}
 use Rattle.ua_cong.specs.Extensions.{led_pairs, IsCgAbove}
 use Rattle.ua_cong.proofs.ClosingLaws.{closed_all, related_more}
 use Rattle.ua_cong.proofs.ExtensionLaws.{closing_above, above_from_cg, elements_above}
-use Rattle.ua_cong.proofs.closing.cg_above.Goals as goal
+use Rattle.ua_cong.proofs.closing.sets_above.Goals as goal
 
 pub relate_pairs-requires-clause-pairs : goal.relate_pairs-requires-clause-pairs
 relate_pairs-requires-clause-pairs c =
@@ -28,8 +28,7 @@ returns c =
     let pairs = c.as_slice.result.now in
     let before = c.relate_pairs.new.closing in
     let after = c.carry_all.new.closing in
-    let least : IsCg a pairs after.sets = closed_all a pairs after.sets after.work.items c.size.ensures.algebra.algebra c.in_ok-carry_all.ensures.closing c.in_ok-carry_all.ensures.carried
+    let least : IsCg a pairs after.sets = closed_all a pairs after.sets after.work.items c.size-size.ensures.algebra.algebra c.in_ok-carry_all.ensures.closing c.in_ok-carry_all.ensures.carried
     (related_more before.sets after.sets pairs c.in_ok-carry_all.ensures.grown.above c.in_ok-relate_pairs.ensures.related) in
-    subst (IsCgAbove a p c.args.x c.args.y) (sym c.into_part.ensures)
-    (above_from_cg a p c.requires.congruence c.args.x c.args.y after.sets
-    (subst (λ (ps : List (ℕ × ℕ)). IsCg a ps after.sets) (c.as_slice.ensures.value ∙ c.in_ok-pairs.ensures) least))
+    above_from_cg a p c.requires.congruence c.args.x c.args.y after.sets
+    (subst (λ (ps : List (ℕ × ℕ)). IsCg a ps after.sets) (c.as_slice.ensures.value ∙ c.in_ok-pairs.ensures) least)
