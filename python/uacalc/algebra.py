@@ -34,6 +34,11 @@ def operation_of(name: str, table: Any, size: int) -> Operation:
     return Operation(arity, tuple(level))
 
 
+def plain(comment: str) -> str:
+    """A comment on one line, in ASCII."""
+    return " ".join(comment.split()).encode("ascii", "backslashreplace").decode()
+
+
 class Algebra:
     """An algebra on the elements 0, 1, .., size - 1.
 
@@ -59,7 +64,7 @@ class Algebra:
         self.size = size
         self.operations: Dict[str, Operation] = dict(operations)
         self.names: Tuple[str, ...] = tuple(names)
-        self.comments: Tuple[str, ...] = tuple(comments)
+        self.comments: Tuple[str, ...] = tuple(map(plain, comments))
         self._hash: Optional[int] = None
         self._check()
 

@@ -8,7 +8,7 @@ from .faults import InputFault
 from .limits import NUMBER_DIGITS
 from .partitions import partition_of
 from .terms import Term, read_term, term_of
-from .tokens import Tokens, is_name
+from .tokens import Tokens, is_name, latin
 
 LESS_THAN = 10**NUMBER_DIGITS
 
@@ -252,7 +252,7 @@ class Json(Operand):
         return tokens.take()
 
     def made(self, value: Any) -> str:
-        text = value if isinstance(value, str) else value.text()
+        text = latin(value if isinstance(value, str) else value.text())
         if not text.startswith("{") or "\n" in text:
             raise InputFault("a certificate is one line that begins with {")
         return text

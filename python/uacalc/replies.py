@@ -23,7 +23,6 @@ from .reply_lines import (
     Scope,
     count_in,
     counted,
-    listed,
     read_pair,
     read_partition,
     read_rows,
@@ -252,7 +251,7 @@ class ReplyReader:
         if budget is not None:
             return self.exceeded(budget)
         if length is not None:
-            return answers.Chain(tuple(listed(self.lines, length + 1, self._term)))
+            return answers.Chain(tuple(self._term(number) for number in range(length + 1)))
         if no is None:
             return self.no("`chain N`, `no N` or `exceeds N`")
         rows = self.rows(no)
@@ -285,14 +284,14 @@ class ReplyReader:
                 self.lines.fault(f"element {number} is needed")
             return self._set(text)
 
-        return tuple(listed(self.lines, count, read))
+        return tuple(read(number) for number in range(count))
 
     def homomorphism(self, line: str) -> Union[answers.Homomorphism, answers.Clash, answers.Exceeds]:
         budget, count = self.budget(line), self.count(line, "map")
         if budget is not None:
             return answers.Exceeds(budget)
         if count is not None:
-            images = dict(listed(self.lines, count, lambda _: self._image(self.lines.take("an element and its image"))))
+            images = dict(self._image(self.lines.take("an element and its image")) for _ in range(count))
             if len(images) != count:
                 self.lines.fault("an element has two images")
             return answers.Homomorphism(images)
@@ -340,7 +339,7 @@ class ReplyReader:
                 self.lines.fault(f"congruence {number} is needed")
             return read_partition(self.lines, text, self.size)
 
-        return tuple(listed(self.lines, count, read))
+        return tuple(read(number) for number in range(count))
 
     def lattice(self, line: str) -> Union[CongruenceLattice, answers.Exceeds]:
         budget, count = self.budget(line), self.count(line, "congruences")
@@ -349,12 +348,9 @@ class ReplyReader:
         if not count:
             return self.no("`congruences N` or `exceeds N`")
         congruences = self._partitions(count, True)
-        covers = listed(
-            self.lines, counted(self.lines, "covers"), lambda _: read_pair(self.lines, self.lines.take("a cover"), count)
-        )
-        return CongruenceLattice(
-            self.algebra, congruences, tuple(covers), read_tail(self.lines, "join irreducibles", count)
-        )
+        pairs = range(counted(self.lines, "covers"))
+        covers = tuple(read_pair(self.lines, self.lines.take("a cover"), count) for _ in pairs)
+        return CongruenceLattice(self.algebra, congruences, covers, read_tail(self.lines, "join irreducibles", count))
 
     def types(self, line: str) -> Union[Types, answers.Exceeds]:
         budget, count = self.budget(line), self.count(line, "types")
@@ -362,12 +358,12 @@ class ReplyReader:
             return answers.Exceeds(budget)
         if count is None:
             return self.no("`types N` or `exceeds N`")
-        return Types(self.algebra, tuple(listed(self.lines, count, lambda _: self._typed())))
+        return Types(self.algebra, tuple(self._typed() for _ in range(count)))
 
     def _typed(self) -> TypedCover:
         found = TYPED.fullmatch(self.lines.take("a type"))
         if found is None:
-            return self.no("`I J type T pair A B` or `I J exceeds`")
+            return self.no("`I J type T pair A B` with a type from 1 to 5, or `I J exceeds`,")
         lower, upper, number, first, second = (None if word is None else int(word) for word in found.groups())
         if lower >= upper or (self.size is not None and first is not None and max(first, second) >= self.size):
             self.lines.fault("a cover and a pair of elements are needed")

@@ -3,7 +3,7 @@
 from __future__ import annotations
 
 import re
-from typing import Callable, Dict, Iterable, List, NoReturn, Optional, Tuple, TypeVar
+from typing import Dict, Iterable, List, NoReturn, Optional, Tuple
 
 from .algebra import Algebra
 from .answers import Row
@@ -12,8 +12,6 @@ from .partitions import TEXT as PARTITION
 from .partitions import Partition
 from .terms import Step, Steps
 from .tokens import is_operation_name
-
-T = TypeVar("T")
 
 NUM = r"(?:0|[1-9][0-9]*)"
 NUMBER = re.compile(NUM)
@@ -27,10 +25,12 @@ class Lines:
         self._lines = iter(lines)
         self._next: Optional[str] = None
         self.number = 0
+        self.last = ""
 
-    def fault(self, message: str) -> NoReturn:
-        """The line that was taken last is not what it should be."""
-        raise ReplyFault(message, Place(max(self.number, 1), 1))
+    def fault(self, message: str, behind: Optional[str] = None) -> NoReturn:
+        """The line that was taken last is not what it should be, at its beginning or where its end `behind` begins."""
+        column = 1 if behind is None else len(self.last) - len(behind) + 1
+        raise ReplyFault(message, Place(max(self.number, 1), column))
 
     def peek(self) -> Optional[str]:
         """The next line, or nothing at the end."""
@@ -50,6 +50,7 @@ class Lines:
         if line is None:
             self.fault(f"{what} is needed, and the input ends")
         self._next = None
+        self.last = line
         return line
 
 
@@ -79,24 +80,28 @@ class Scope:
         return tuple([self.element(lines, word) for word in text.split(" ")]) if text else ()
 
     def step(self, lines: Lines, text: str, below: Optional[int], generators: Optional[int]) -> Step:
-        """A generator, or an operation at numbers below a bound."""
+        """A generator, or an operation at numbers below a bound; the text is the end of the line."""
         name, *words = text.split(" ")
-        if not all(map(NUMBER.fullmatch, words)):
-            lines.fault(f"{text} is no step")
-        args = tuple(map(int, words))
+        for number, word in enumerate(words):
+            behind = " ".join(words[number:])
+            if not NUMBER.fullmatch(word):
+                lines.fault(f"a number is needed, and {word} is none", behind)
+            bound = generators if name == "gen" else below
+            if bound is not None and int(word) >= bound:
+                lines.fault(f"{word} names {'no generator' if name == 'gen' else 'no earlier step'}", behind)
+        if len(words) != self._arity(lines, name, len(words), text):
+            before = "before" if self.algebra is None else "is its arity"
+            lines.fault(f"{name} has {len(words)} arguments here, and {self._arities.get(name, 1)} {before}", text)
+        return Step(name, tuple(map(int, words)))
+
+    def _arity(self, lines: Lines, name: str, count: int, text: str) -> int:
         if name == "gen":
-            if len(args) != 1 or (generators is not None and args[0] >= generators):
-                lines.fault(f"{text} names no generator")
-            return Step(name, args)
+            return 1
         if self.algebra is None and is_operation_name(name):
-            self._arities.setdefault(name, len(args))
+            self._arities.setdefault(name, count)
         if name not in self._arities:
-            lines.fault(f"{name} is no operation")
-        if self._arities[name] != len(args):
-            lines.fault(f"{name} has {len(args)} arguments here, and takes {self._arities[name]}")
-        if below is not None and any(arg >= below for arg in args):
-            lines.fault(f"{text} names no earlier step or row")
-        return Step(name, args)
+            lines.fault(f"{name} is no operation", text)
+        return self._arities[name]
 
 
 def count_in(lines: Lines, text: str, head: str) -> Optional[int]:
@@ -113,15 +118,14 @@ def counted(lines: Lines, head: str) -> int:
     return number
 
 
-def listed(lines: Lines, count: int, read: Callable[[int], T]) -> List[T]:
-    """So many items, each read by its number."""
-    return [read(number) for number in range(count)]
-
-
 def read_steps(lines: Lines, scope: Scope, count: int, generators: Optional[int], variables: Optional[int] = None) -> Steps:
     """Takes the lines of so many steps, at least one."""
 
+    head = lines.number
+
     def read(number: int) -> Step:
+        if lines.peek() is None:
+            raise ReplyFault(f"{count} steps are to follow, and {number} do", Place(max(head, 1), 1))
         front, _, text = lines.take(f"step {number}").partition(" ")
         if front != str(number) or not text:
             lines.fault(f"step {number} is needed here")
@@ -129,7 +133,7 @@ def read_steps(lines: Lines, scope: Scope, count: int, generators: Optional[int]
 
     if count == 0:
         lines.fault("there is no step")
-    return Steps(listed(lines, count, read), variables)
+    return Steps([read(number) for number in range(count)], variables)
 
 
 def read_rows(lines: Lines, scope: Scope, count: int, width: Optional[int], generators: Optional[int]) -> List[Row]:
@@ -174,8 +178,11 @@ def read_pair(lines: Lines, text: str, below: int) -> Tuple[int, int]:
     if len(words) != 2 or not all(map(NUMBER.fullmatch, words)):
         lines.fault("two numbers are needed")
     first, second = map(int, words)
-    if not first < second < below:
-        lines.fault("two numbers of congruences are needed, the smaller first")
+    strange = next((number for number in (first, second) if number >= below), None)
+    if strange is not None:
+        lines.fault(f"covers: {strange} is no congruence")
+    if first >= second:
+        lines.fault("two numbers are needed, the smaller first")
     return first, second
 
 
