@@ -122,7 +122,8 @@ class Replies:
             self.lines.fault(f"`error unknown` is needed: there is no algebra {unknown[0]}")
         algebras = [self._algebras[name] for name in command.algebras]
         if command.cert:
-            return self._exceeds(line) or self._certificate(command, line)
+            exceeds = self._exceeds(line)
+            return self._certificate(command, line) if exceeds is None else exceeds
         reader = ReplyReader(self.lines, command, algebras, [self._scopes[algebra.name] for algebra in algebras], self)
         reader.following = following
         answer = getattr(reader, command.form.reply)(line)
@@ -363,7 +364,7 @@ class ReplyReader:
     def _typed(self) -> TypedCover:
         found = TYPED.fullmatch(self.lines.take("a type"))
         if found is None:
-            return self.no("`I J type T pair A B` with a type from 1 to 5, or `I J exceeds`,")
+            return self.no("`type T` with a number from 1 to 5, or `exceeds`,")
         lower, upper, number, first, second = (None if word is None else int(word) for word in found.groups())
         if lower >= upper or (self.size is not None and first is not None and max(first, second) >= self.size):
             self.lines.fault("a cover and a pair of elements are needed")

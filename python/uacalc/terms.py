@@ -207,6 +207,8 @@ def term_of(text: Union[str, Term]) -> Term:
     """The term that a text writes; `ScriptFault` where it writes none."""
     if isinstance(text, Term):
         return text
+    if not isinstance(text, str):
+        raise InputFault(f"{text!r} is no term")
     tokens = Tokens(text)
     term = read_term(tokens)
     if tokens.kind != "end":

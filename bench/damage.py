@@ -1,0 +1,149 @@
+"""Damaged copies of certificates and of blocks, drawn at random."""
+
+import json
+import random
+import re
+
+
+def places(value, path=()):
+    """The path of each value within a value of JSON."""
+    yield path
+    items = value.items() if isinstance(value, dict) else enumerate(value) if isinstance(value, list) else ()
+    for key, inner in items:
+        yield from places(inner, (*path, key))
+
+
+def at(value, path):
+    for key in path:
+        value = value[key]
+    return value
+
+
+def changed_number(draw, number):
+    return draw.choice([number + 1, max(number - 1, 0), 0, 1, draw.randrange(8), 2**32 - 1, 2**32, 2**64, -1, 1.5])
+
+
+def changed(draw, value):
+    """Another value in its place."""
+    if isinstance(value, bool) or value is None:
+        return 0
+    if isinstance(value, (int, float)):
+        return draw.choice([changed_number(draw, value), str(value), [value], None, True]) if draw.random() < 0.2 else changed_number(draw, value)
+    if isinstance(value, str):
+        return draw.choice(["gen", "meet", "f", "f0", "nu", "hm", "jonsson", "maltsev", "member", "", "é", 0, value + "x"])
+    if isinstance(value, list):
+        return with_items_changed(draw, value)
+    return draw.choice([[], {}, 0, "member"])
+
+
+def with_items_changed(draw, items):
+    """A list with an item more or less, two exchanged, or none at all."""
+    items = list(items)
+    if not items:
+        return draw.choice([[0], [[]], [[0]], [["gen", 0]], {}, 0])
+    place = draw.randrange(len(items))
+    kind = draw.randrange(6)
+    if kind == 0:
+        del items[place]
+    elif kind == 1:
+        items.insert(place, items[draw.randrange(len(items))])
+    elif kind == 2:
+        other = draw.randrange(len(items))
+        items[place], items[other] = items[other], items[place]
+    elif kind == 3:
+        items.append(draw.choice([0, 1, [], [0], ["gen", 0]]))
+    elif kind == 4:
+        items = items[:place]
+    else:
+        items[place] = changed(draw, items[place])
+    return items
+
+
+def with_value_changed(draw, cert):
+    """A copy with one value changed, by preference an inner one."""
+    copy = json.loads(json.dumps(cert))
+    path = draw.choice([path for path in places(copy) if path])
+    at(copy, path[:-1])[path[-1]] = changed(draw, at(copy, path))
+    return copy
+
+
+def with_keys_changed(draw, cert):
+    """A copy with a key left out, added, or by another name."""
+    copy = dict(cert)
+    key = draw.choice(sorted(copy))
+    kind = draw.randrange(3)
+    value = copy.pop(key) if kind != 1 else 0
+    if kind:
+        copy[draw.choice(["k", "name", "rows", "gens", "target", "width", "steps", "zz", "A", "ä"])] = value
+    return copy
+
+
+NUMBERS = ["-0", "1.0", "1e0", "1E2", "0.0", "00", "01", "+1", "1.", ".5", "1e400", "9" * 20, "9" * 400, "0x1", "- 1", "1e-400"]
+
+
+def with_text_changed(draw, text):
+    """A text with other bytes in one place."""
+    kind = draw.randrange(8)
+    place = draw.randrange(len(text) + 1)
+    if kind == 0:
+        return text[:place] + draw.choice([" ", "\t", "\r", ",", "]", "}", "{", '"', "\\", ":", "0", "\x0b", "#", "é", "\x00"]) + text[place:]
+    if kind == 1:
+        return text[:place] + text[place + 1 :]
+    if kind == 2:
+        return re.sub(r"\d+", draw.choice(NUMBERS), text, count=1) if draw.random() < 0.5 else text + draw.choice(["x", "{}", " ", "\r", ","])
+    if kind == 3:
+        return text[:-1] + ',"width":1}' if draw.random() < 0.5 else '{"kind":"listing",' + text[1:]
+    if kind == 4:
+        return text.replace("gen", draw.choice(["\\u0067en", "g\\u0065n", "\\ud83d\\ude00", "\\ud83d", "\\udc00", "g\\/n", "\\x"]), 1)
+    if kind == 5:
+        depth = draw.choice([2, 120, 125, 126, 127, 128, 129, 300])
+        return text[:-1] + ',"zz":' + "[" * depth + "]" * depth + "}"
+    if kind == 6:
+        digit = draw.choice([match.span() for match in re.finditer(r"\d+", text)] or [(0, 0)])
+        return text[: digit[0]] + draw.choice(NUMBERS) + text[digit[1] :]
+    return text.replace(",", draw.choice([" , ", ",\t", ",\r", ",,"]), 1)
+
+
+def damaged(draw, text):
+    """A damaged copy of a certificate's text, on one line, as bytes."""
+    cert = json.loads(text)
+    kind = draw.random()
+    if kind < 0.65:
+        cert = with_value_changed(draw, cert)
+        while draw.random() < 0.15:
+            cert = with_value_changed(draw, cert) if isinstance(cert, dict) and cert else cert
+        copy = json.dumps(cert, separators=(",", ":"))
+    elif kind < 0.75:
+        copy = json.dumps(with_keys_changed(draw, cert), separators=(",", ":"), ensure_ascii=draw.random() < 0.5)
+    else:
+        copy = with_text_changed(draw, text)
+    copy = copy.encode("utf-8", "surrogatepass").replace(b"\n", b" ")
+    if draw.random() < 0.02:
+        place = draw.randrange(1, len(copy) + 1)
+        copy = copy[:place] + bytes([draw.randrange(128, 256)]) + copy[place:]
+    return copy if copy.startswith(b"{") else b"{" + copy
+
+
+TOKEN = re.compile(rb"\w+|[^\s\w]")
+STRAYS = [b"op", b"end", b"size", b"algebra", b"names", b"version", b"gen", b"x0", b"0", b"1", b"7", b"=", b"(", b"$", b"_", b"w" * 33]
+
+
+def damaged_block(draw, block):
+    """A block with one token more, less, twice, or another."""
+    tokens = [match.span() for match in TOKEN.finditer(block)]
+    begin, end = draw.choice(tokens)
+    other = block[slice(*draw.choice(tokens))]
+    kind = draw.randrange(6)
+    middle = {
+        0: b"",
+        1: block[begin:end] + b" " + block[begin:end],
+        2: draw.choice(STRAYS),
+        3: draw.choice(STRAYS) + b" " + block[begin:end],
+        4: other,
+        5: block[begin:end] + draw.choice([b"#", b" # x\n", b"\r\n", b"x", b"\x00", b"\xc3"]),
+    }[kind]
+    return block[:begin] + middle + block[end:]
+
+
+def draw_from(seed):
+    return random.Random(seed)
