@@ -1,7 +1,8 @@
 """The tools: each case in cases/, the check of certificates, and what is said of faulty words.
 
 A file TOOL-CASE.in is an input, with the words of TOOL-CASE.args where that stands. What the tool is to print stands in
-TOOL-CASE.out; or what it is to say on standard error, with status 1, in TOOL-CASE.err.
+TOOL-CASE.out, with status 0, or 1 where a certificate is not valid; or what it is to say on standard error, with status 1, in
+TOOL-CASE.err.
 """
 
 import subprocess
@@ -16,7 +17,10 @@ from .test_checking import LISTING, MEMBER, OUTSIDE
 
 def expected_of(case):
     said = case.with_suffix(".err")
-    return (b"", said.read_bytes(), 1) if said.exists() else (case.with_suffix(".out").read_bytes(), b"", 0)
+    if said.exists():
+        return b"", said.read_bytes(), 1
+    out = case.with_suffix(".out").read_bytes()
+    return out, b"", int(tool_of(case) == "check" and out != b"valid\n")
 
 
 def tool_of(case):
