@@ -5,6 +5,9 @@ import random
 import re
 
 
+WORDS = ["gen", "meet", "f", "f0", "nu", "hm", "jonsson", "maltsev", "member", "", "é"]
+
+
 def places(value, path=()):
     """The path of each value within a value of JSON."""
     yield path
@@ -20,7 +23,10 @@ def at(value, path):
 
 
 def changed_number(draw, number):
-    return draw.choice([number + 1, max(number - 1, 0), 0, 1, draw.randrange(8), 2**32 - 1, 2**32, 2**64, -1, 1.5])
+    """A number that is mostly another element or position, and now and then none."""
+    if draw.random() < 0.15:
+        return draw.choice([2**26, 2**26 + 1, 2**32 - 1, 2**32, 2**64, -1, 1.5])
+    return draw.choice([number + 1, max(number - 1, 0), draw.randrange(2), draw.randrange(8)])
 
 
 def changed(draw, value):
@@ -28,9 +34,9 @@ def changed(draw, value):
     if isinstance(value, bool) or value is None:
         return 0
     if isinstance(value, (int, float)):
-        return draw.choice([changed_number(draw, value), str(value), [value], None, True]) if draw.random() < 0.2 else changed_number(draw, value)
+        return draw.choice([str(value), [value], None, True]) if draw.random() < 0.15 else changed_number(draw, value)
     if isinstance(value, str):
-        return draw.choice(["gen", "meet", "f", "f0", "nu", "hm", "jonsson", "maltsev", "member", "", "é", 0, value + "x"])
+        return draw.choice([*WORDS, 0, value + "x"])
     if isinstance(value, list):
         return with_items_changed(draw, value)
     return draw.choice([[], {}, 0, "member"])
@@ -78,45 +84,65 @@ def with_keys_changed(draw, cert):
     return copy
 
 
-NUMBERS = ["-0", "1.0", "1e0", "1E2", "0.0", "00", "01", "+1", "1.", ".5", "1e400", "9" * 20, "9" * 400, "0x1", "- 1", "1e-400"]
+NUMBERS = ["-0", "1.0", "1e0", "1E2", "0.0", "00", "01", "+1", "1.", ".5", "1e400", "1e-400", "9" * 20, "9" * 400, "0x1"]
+PIECES = [" ", "\t", "\r", ",", "]", "}", "{", '"', "\\", ":", "0", "- 1", "\x0b", "#", "é", "\x00"]
+TAILS = ["x", "{}", " ", "\r", ","]
+ESCAPES = ["\\u0067en", "g\\u0065n", "\\ud83d\\ude00", "\\ud83d", "\\udc00", "g\\/n", "\\x"]
+DEPTHS = [2, 120, 125, 126, 127, 128, 129, 300]
 
 
-def with_text_changed(draw, text):
-    """A text with other bytes in one place."""
-    kind = draw.randrange(8)
+def with_piece(draw, text):
     place = draw.randrange(len(text) + 1)
-    if kind == 0:
-        return text[:place] + draw.choice([" ", "\t", "\r", ",", "]", "}", "{", '"', "\\", ":", "0", "\x0b", "#", "é", "\x00"]) + text[place:]
-    if kind == 1:
-        return text[:place] + text[place + 1 :]
-    if kind == 2:
-        return re.sub(r"\d+", draw.choice(NUMBERS), text, count=1) if draw.random() < 0.5 else text + draw.choice(["x", "{}", " ", "\r", ","])
-    if kind == 3:
-        return text[:-1] + ',"width":1}' if draw.random() < 0.5 else '{"kind":"listing",' + text[1:]
-    if kind == 4:
-        return text.replace("gen", draw.choice(["\\u0067en", "g\\u0065n", "\\ud83d\\ude00", "\\ud83d", "\\udc00", "g\\/n", "\\x"]), 1)
-    if kind == 5:
-        depth = draw.choice([2, 120, 125, 126, 127, 128, 129, 300])
-        return text[:-1] + ',"zz":' + "[" * depth + "]" * depth + "}"
-    if kind == 6:
-        digit = draw.choice([match.span() for match in re.finditer(r"\d+", text)] or [(0, 0)])
-        return text[: digit[0]] + draw.choice(NUMBERS) + text[digit[1] :]
+    return text[:place] + draw.choice(PIECES) + text[place:]
+
+
+def without_piece(draw, text):
+    place = draw.randrange(len(text))
+    return text[:place] + text[place + 1 :]
+
+
+def with_number(draw, text):
+    begin, end = draw.choice([match.span() for match in re.finditer(r"\d+", text)] or [(0, 0)])
+    return text[:begin] + draw.choice(NUMBERS) + text[end:]
+
+
+def with_key_twice(draw, text):
+    return text[:-1] + ',"width":1}' if draw.random() < 0.5 else '{"kind":"listing",' + text[1:]
+
+
+def with_escape(draw, text):
+    return text.replace("gen", draw.choice(ESCAPES), 1)
+
+
+def with_depth(draw, text):
+    depth = draw.choice(DEPTHS)
+    return f'{text[:-1]},"{draw.choice(["zz", "kind"])}":{"[" * depth}{"]" * depth}}}'
+
+
+def with_blanks(draw, text):
     return text.replace(",", draw.choice([" , ", ",\t", ",\r", ",,"]), 1)
+
+
+def with_tail(draw, text):
+    return text + draw.choice(TAILS)
+
+
+TEXT_CHANGES = [with_piece, without_piece, with_number, with_key_twice, with_escape, with_depth, with_blanks, with_tail]
 
 
 def damaged(draw, text):
     """A damaged copy of a certificate's text, on one line, as bytes."""
     cert = json.loads(text)
     kind = draw.random()
-    if kind < 0.65:
+    if kind < 0.8:
         cert = with_value_changed(draw, cert)
         while draw.random() < 0.15:
             cert = with_value_changed(draw, cert) if isinstance(cert, dict) and cert else cert
         copy = json.dumps(cert, separators=(",", ":"))
-    elif kind < 0.75:
+    elif kind < 0.85:
         copy = json.dumps(with_keys_changed(draw, cert), separators=(",", ":"), ensure_ascii=draw.random() < 0.5)
     else:
-        copy = with_text_changed(draw, text)
+        copy = draw.choice(TEXT_CHANGES)(draw, text)
     copy = copy.encode("utf-8", "surrogatepass").replace(b"\n", b" ")
     if draw.random() < 0.02:
         place = draw.randrange(1, len(copy) + 1)
@@ -125,7 +151,7 @@ def damaged(draw, text):
 
 
 TOKEN = re.compile(rb"\w+|[^\s\w]")
-STRAYS = [b"op", b"end", b"size", b"algebra", b"names", b"version", b"gen", b"x0", b"0", b"1", b"7", b"=", b"(", b"$", b"_", b"w" * 33]
+STRAYS = b"op end size algebra names version gen x0 0 1 7 = ( $ _".split() + [b"w" * 33]
 
 
 def damaged_block(draw, block):

@@ -1,4 +1,4 @@
-"""A congruence lattice, drawn with the types of its covers: the symmetric group of degree three times the group of order two.
+"""A congruence lattice, drawn with the types of its covers: that of S3 times Z2.
 
 The numbers of the types are those of D. Hobby, R. McKenzie, *The Structure of Finite Algebras*. What is printed is the
 picture for Graphviz; in a notebook the lattice shows itself where Graphviz is there.

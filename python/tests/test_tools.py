@@ -1,8 +1,8 @@
 """The tools: each case in cases/, the check of certificates, and what is said of faulty words.
 
 A file TOOL-CASE.in is an input, with the words of TOOL-CASE.args where that stands. What the tool is to print stands in
-TOOL-CASE.out, with status 0, or 1 where a certificate is not valid; or what it is to say on standard error, with status 1, in
-TOOL-CASE.err.
+TOOL-CASE.out, with status 0, or 1 where a certificate is not valid; or what it is to say on standard error, with status
+1, in TOOL-CASE.err.
 """
 
 import subprocess
@@ -72,7 +72,8 @@ class Scripts(unittest.TestCase):
         out, _, _ = run_tool(["con2dot", "--script", str(script), "--algebra", "L"], replies)
         self.assertIn(b'n0 -> n1 [label="4"];', out)
         _, error, status = run_tool(["con2dot", "--script", str(script)], replies)
-        self.assertEqual((error, status), (f"con2dot: {script}: the script has several `con`: name one by --algebra\n".encode(), 1))
+        told = f"con2dot: {script}: the script has several `con`: name one by --algebra\n"
+        self.assertEqual((error, status), (told.encode(), 1))
         _, error, status = run_tool(["con2dot", "--script", str(script), "--algebra", "K"], replies)
         self.assertEqual((error, status), (f"con2dot: {script}: the script has no `con` of K\n".encode(), 1))
         self.assertEqual(run_tool(["con2dot", "--script", "nothing.ua"], replies)[2], 1)

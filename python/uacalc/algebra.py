@@ -93,7 +93,9 @@ class Algebra:
                 raise InputFault(f"the value {value} is no element", name)
 
     @classmethod
-    def from_tables(cls, name: str, tables: Mapping[str, Any], names: Sequence[str] = (), size: Optional[int] = None) -> "Algebra":
+    def from_tables(
+        cls, name: str, tables: Mapping[str, Any], names: Sequence[str] = (), size: Optional[int] = None
+    ) -> "Algebra":
         """The algebra with these tables, from 0.
 
         A table is a list as deep as the operation has arguments: a number is a constant, a list of numbers an operation

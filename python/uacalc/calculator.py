@@ -32,12 +32,12 @@ def separated(script: Script) -> Tuple[Script, Set[int]]:
     for item in script.items:
         if isinstance(item, Command):
             if previous is not None and previous.word == "series" and item.word in ("cg", "comm"):
-                asked.items.append(Command.made("sub", (previous.values[0], ())))
+                asked.put(Command.made("sub", (previous.values[0], ())))
                 extra.add(count)
                 count += 1
             previous = item
             count += 1
-        asked.items.append(item)
+        asked.put(item)
     return asked, extra
 
 

@@ -150,8 +150,8 @@ def check_not_member(algebra: Algebra, cert: Certificate) -> None:
 
 def check_ranks(ranks: Sequence[int], count: int) -> None:
     """The ranks are the numbers below how many rows there are, each once."""
-    seen: set = set()
-    bad = first_bad(ranks[:count], lambda _, rank: rank < count and rank not in seen and not seen.add(rank))  # type: ignore[func-returns-value]
+    firsts = {rank: number for number, rank in reversed(list(enumerate(ranks)))}
+    bad = first_bad(ranks[:count], lambda number, rank: rank < count and firsts[rank] == number)
     if bad is None and len(ranks) != count:
         bad = min(len(ranks), count)
     if bad is not None:
@@ -262,7 +262,7 @@ def is_linked(algebra: Algebra, link: Tuple[Pattern, Pattern], term: Sequence[St
 
 
 def is_in_chain(algebra: Algebra, chain: Chain, terms: Sequence[Sequence[Step]], number: int) -> bool:
-    """Whether a term satisfies what each does, is the first or the last where it stands there, and is linked to the next."""
+    """Whether a term is as it should be by itself, at the place where it stands, and beside the next."""
     steps = terms[number]
     last = number + 1 == len(terms)
     return (

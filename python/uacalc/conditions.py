@@ -103,7 +103,11 @@ def width_of(size: int, patterns: Sequence[Pattern]) -> int:
 
 def place_vectors(size: int, patterns: Sequence[Pattern]) -> List[Vector]:
     """For each place of the patterns, what stands there: by pattern, and then by assignment."""
-    points = [tuple(values[v] for v in pattern) for pattern in patterns for values in assignments(size, variables_of(pattern))]
+    points = [
+        tuple(values[variable] for variable in pattern)
+        for pattern in patterns
+        for values in assignments(size, variables_of(pattern))
+    ]
     return list(zip(*points))
 
 

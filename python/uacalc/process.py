@@ -27,7 +27,7 @@ def find_program(program: Union[str, "os.PathLike[str]", None] = None) -> str:
     found = shutil.which(str(wanted))
     if found is None:
         raise ProgramError(f"there is no program {wanted}: give its path, or set {PROGRAM}")
-    return found
+    return os.path.abspath(found)
 
 
 class Process:

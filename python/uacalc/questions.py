@@ -48,7 +48,9 @@ class Questions:
         """The answer to one question."""
         raise NotImplementedError
 
-    def close(self, algebra: Algebra, width: int, vectors: Iterable[Elements], least: bool = False) -> Union[Listing, Exceeds]:
+    def close(
+        self, algebra: Algebra, width: int, vectors: Iterable[Elements], least: bool = False
+    ) -> Union[Listing, Exceeds]:
         """The subalgebra of the power of this width that vectors generate.
 
         With `least` ranks go by the least height of a term, and are the same for every number of workers. `CommandError`:
@@ -88,7 +90,7 @@ class Questions:
     ) -> Union[Homomorphism, Clash, Exceeds]:
         """The homomorphism from what elements generate that takes each to its image, or two terms that show that none does.
 
-        `CommandError`: `signature` where the algebras have different operations, `shape` where there are not as many images.
+        `CommandError`: `signature` where the algebras have different operations, `shape` for another number of images.
         """
         return self.ask("hom", algebra, other, elements, images)
 
@@ -199,7 +201,10 @@ class Questions:
         return self.ask("make", name, ("quotient", algebra, congruence))
 
     def subalgebra(self, algebra: Algebra, elements: Elements, name: str = "S") -> Algebra:
-        """The subalgebra that elements generate, its members numbered in their order; `CommandError` `size` where it is empty."""
+        """The subalgebra that elements generate, its members numbered in their order.
+
+        `CommandError`: `size` where it is empty.
+        """
         return self.ask("make", name, ("sub", algebra, elements))
 
     def reduct(self, algebra: Algebra, operations: Sequence[str], name: str = "R") -> Algebra:

@@ -105,6 +105,7 @@ class Script:
     def __init__(self) -> None:
         self.items: List[Item] = []
         self._version = 1
+        self._count = 0
         self._named: Dict[str, Optional[Algebra]] = {}
 
     @classmethod
@@ -113,14 +114,20 @@ class Script:
         reader = Reader(text)
         reader.read()
         script = cls()
-        script.items = reader.items
         script._version = reader.version
         for item in reader.items:
-            if isinstance(item, Algebra):
-                script._named[item.name] = item
-            elif item.makes:
-                script._named[item.values[0]] = None
+            script.put(item)
         return script
+
+    def put(self, item: Item) -> None:
+        """Puts a block or a command as it is; `InputFault` where it introduces a name that is taken."""
+        name = item.name if isinstance(item, Algebra) else item.values[0] if item.makes else None
+        if name in self._named:
+            raise InputFault(f"the name {name} is taken")
+        if name is not None:
+            self._named[name] = item if isinstance(item, Algebra) else None
+        self._count += isinstance(item, Command)
+        self.items.append(item)
 
     @property
     def commands(self) -> List[Command]:
@@ -133,7 +140,7 @@ class Script:
         return max([self._version, *(item.version for item in self.items)])
 
     def __len__(self) -> int:
-        return len(self.commands)
+        return self._count
 
     def __iter__(self) -> Iterator[Item]:
         return iter(self.items)
@@ -150,8 +157,7 @@ class Script:
                 return name
             number += 1
             name = f"{algebra.name[:24]}_{number}"
-        self._named[name] = algebra
-        self.items.append(algebra if name == algebra.name else algebra.renamed(name))
+        self.put(algebra if name == algebra.name else algebra.renamed(name))
         return name
 
     def ask(self, word: str, *values: Any, cert: bool = False) -> int:
@@ -163,12 +169,7 @@ class Script:
         """
         if word not in FORMS or (cert and not FORMS[word].can_certify):
             raise InputFault(f"there is no command {'cert ' if cert else ''}{word}")
-        command = Command.made(word, tuple(self._named_values(FORMS[word].operands, values)), cert)
-        if command.makes:
-            if command.values[0] in self._named:
-                raise InputFault(f"the name {command.values[0]} is taken")
-            self._named[command.values[0]] = None
-        self.items.append(command)
+        self.put(Command.made(word, tuple(self._named_values(FORMS[word].operands, values)), cert))
         return len(self) - 1
 
     def _named_values(self, operands: Tuple[Any, ...], values: Tuple[Any, ...]) -> Iterator[Any]:

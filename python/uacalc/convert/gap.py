@@ -193,7 +193,7 @@ def values_of(table: Entry, size: int, depth: int) -> List[int]:
 
 
 def algebra_of(tables: Tables, name: str, words: Sequence[str]) -> Algebra:
-    """The algebra of the tables, named by the words in order, else by their assignments, else f0, f1, .. by their places."""
+    """The algebra of the tables, named by the words, else by their assignments, else f0, f1, .. by their places."""
     size = tables.size()
     if len(tables.found) > OPERATIONS:
         raise Misfit(tables.found[OPERATIONS][2], f"more than {OPERATIONS} tables")

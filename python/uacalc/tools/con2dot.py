@@ -20,8 +20,8 @@ from ..answers import Exceeds
 from ..commands import Command
 from ..faults import CommandError, InputFault, Place
 from ..lattices import CongruenceLattice, Types
-from ..replies import ReplyReader
 from ..reply_lines import Lines
+from ..reply_reader import ReplyReader
 from .common import add_script_option, answered, parser_of, read_input, write_output
 
 
