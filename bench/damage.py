@@ -48,7 +48,7 @@ def with_items_changed(draw, items):
     if not items:
         return draw.choice([[0], [[]], [[0]], [["gen", 0]], {}, 0])
     place = draw.randrange(len(items))
-    kind = draw.randrange(6)
+    kind = draw.randrange(8)
     if kind == 0:
         del items[place]
     elif kind == 1:
@@ -57,7 +57,7 @@ def with_items_changed(draw, items):
         other = draw.randrange(len(items))
         items[place], items[other] = items[other], items[place]
     elif kind == 3:
-        items.append(draw.choice([0, 1, [], [0], ["gen", 0]]))
+        items.append(draw.choice([items[0], items[-1]] * 5 + [0, 1, 2, [0], ["gen", 0]]))
     elif kind == 4:
         items = items[:place]
     else:
@@ -66,9 +66,12 @@ def with_items_changed(draw, items):
 
 
 def with_value_changed(draw, cert):
-    """A copy with one value changed, by preference an inner one."""
+    """A copy with one value changed: under each key as often as under another, and mostly a number."""
     copy = json.loads(json.dumps(cert))
-    path = draw.choice([path for path in places(copy) if path])
+    key = draw.choice(sorted(copy if draw.random() < 0.1 else copy.keys() - {"kind", "name"} or copy))
+    found = [path for path in places(copy) if path[:1] == (key,)]
+    numbers = [path for path in found if isinstance(at(copy, path), int)]
+    path = draw.choice(numbers if numbers and draw.random() < 0.6 else found)
     at(copy, path[:-1])[path[-1]] = changed(draw, at(copy, path))
     return copy
 

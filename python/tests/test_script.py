@@ -247,6 +247,8 @@ class Building(unittest.TestCase):
             ("eval", MEET, 3, [0]),
             ("cond", MEET, "nu"),
             ("comm", MEET, "|0 0|", "|0 1|"),
+            ("clone", MEET, 1, "term", ("partial", [])),
+            ("clone", MEET, 1, "term", ("whole", [0, 1])),
             ("make", "P", ("prod", MEET, MEET)),
             ("make", "P", ("reduct", MEET, [])),
             ("check", MEET, "{\n}"),

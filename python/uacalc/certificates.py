@@ -63,9 +63,11 @@ class Reading:
         return tuple(read(self, item, f"{path}/{index}") for index, item in enumerate(value, first))
 
     def numbers(self, value: Any, path: str) -> Tuple[int, ...]:
+        """An array of numbers."""
         return self.listed(value, path, Reading.number)
 
     def vectors(self, value: Any, path: str) -> Tuple[Tuple[int, ...], ...]:
+        """An array of arrays of numbers."""
         return self.listed(value, path, Reading.numbers)
 
     def step(self, value: Any, path: str) -> Step:
@@ -77,17 +79,21 @@ class Reading:
         return Step(value[0], self.listed(value[1:], path, Reading.number, 1))
 
     def steps(self, value: Any, path: str) -> Tuple[Step, ...]:
+        """An array of steps."""
         return self.listed(value, path, Reading.step)
 
     def terms(self, value: Any, path: str) -> Tuple[Tuple[Step, ...], ...]:
+        """An array of arrays of steps."""
         return self.listed(value, path, Reading.steps)
 
     def condition_name(self, value: Any, path: str) -> str:
+        """The name of a condition."""
         if value != "nu" and value not in list(TERNARY):
             self.shape(path)
         return value
 
     def chain_name(self, value: Any, path: str) -> str:
+        """The name of a kind of chain."""
         if value not in CERTIFIED_CHAINS:
             self.shape(path)
         return value
@@ -221,6 +227,7 @@ def float_of(text: str) -> float:
 
 
 def constant(text: str) -> NoReturn:
+    """`NaN` and its like, which Python reads and JSON has not."""
     raise NotJson
 
 

@@ -8,7 +8,7 @@ from __future__ import annotations
 from dataclasses import dataclass, field
 from typing import Any, Dict, List, Tuple
 
-from .faults import Place
+from .faults import InputFault, Place
 from .operands import (
     Blocks,
     Count,
@@ -71,6 +71,12 @@ class Points(Pick):
         if tokens.text != "[":
             tokens.fault("word")
         return (word, self.rows[word][0].read(tokens, version))
+
+    def made(self, value: Any) -> Tuple[Any, ...]:
+        found = super().made(value)
+        if not found[1] and found[0] == "partial":
+            raise InputFault("an operation is asked for at no point")
+        return found
 
 
 FORMS: Dict[str, Form] = {

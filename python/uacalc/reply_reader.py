@@ -116,6 +116,7 @@ class ReplyReader:
         self.lines.fault(f"{what} is needed")
 
     def closure(self, line: str) -> Union[answers.Listing, int, answers.Exceeds]:
+        """Of `close` and `free`: the rows, or with `count` their number."""
         only_count = self.command.values[-1] == "count"
         budget, closed = self.budget(line), self.count(line, "closed")
         if budget is not None:
@@ -125,6 +126,7 @@ class ReplyReader:
         return closed if only_count else answers.Listing(self.algebra, self.rows(closed))
 
     def membership(self, line: str) -> Union[answers.Yes, answers.No, answers.Exceeds]:
+        """Of `member`, `cond`, `nu`, `condition` and `clone`: steps, or rows."""
         budget, yes, no = self.budget(line), self.count(line, "yes"), self.count(line, "no")
         if budget is not None:
             return self.exceeded(budget)
@@ -138,6 +140,7 @@ class ReplyReader:
         return answers.Yes(read_steps(self.lines, self.scope, yes, generators, variables))
 
     def chain(self, line: str) -> Union[answers.Chain, answers.NoChain, answers.Exceeds]:
+        """Of `jonsson`, `hm` and `day`: terms, or rows and what is reached."""
         budget, length, no = self.budget(line), self.count(line, "chain"), self.count(line, "no")
         if budget is not None:
             return self.exceeded(budget)
@@ -162,9 +165,11 @@ class ReplyReader:
         return found
 
     def elements(self, line: str) -> Tuple[int, ...]:
+        """Of `sub`: a set."""
         return self._set(line)
 
     def ones(self, line: str) -> Tuple[Tuple[int, ...], ...]:
+        """Of `ones`: a set for each element."""
         count = self.count(line, "ones")
         if count is None or self.size not in (None, count):
             return self.no("`ones N` with the number of elements")
@@ -178,6 +183,7 @@ class ReplyReader:
         return tuple(read(number) for number in range(count))
 
     def homomorphism(self, line: str) -> Union[answers.Homomorphism, answers.Clash, answers.Exceeds]:
+        """Of `hom`: a map, or a clash."""
         budget, count = self.budget(line), self.count(line, "map")
         if budget is not None:
             return answers.Exceeds(budget)
@@ -202,10 +208,12 @@ class ReplyReader:
         return self.scopes[0].element(self.lines, words[0]), self.scopes[1].element(self.lines, words[1])
 
     def value(self, line: str) -> int:
+        """Of `eval`: an element."""
         word, _, text = line.partition(" ")
         return self.scope.element(self.lines, text) if word == "value" else self.no("`value A`")
 
     def identity(self, line: str) -> Union[answers.Holds, answers.Fails]:
+        """Of `holds`: that it holds, or where it fails."""
         if line == "holds":
             return answers.Holds()
         if not (line.startswith("fails [") and line.endswith("]")):
@@ -216,9 +224,11 @@ class ReplyReader:
         return answers.Fails(assignment)
 
     def partition(self, line: str) -> Partition:
+        """Of `cg`: a partition."""
         return read_partition(self.lines, line, self.size)
 
     def commutator(self, line: str) -> Union[Partition, answers.Exceeds]:
+        """Of `comm`: a partition."""
         budget = self.budget(line)
         return self.partition(line) if budget is None else answers.Exceeds(budget)
 
@@ -233,6 +243,7 @@ class ReplyReader:
         return tuple(read(number) for number in range(count))
 
     def lattice(self, line: str) -> Union[CongruenceLattice, answers.Exceeds]:
+        """Of `con`: the congruences, their covers and the join irreducible ones."""
         budget, count = self.budget(line), self.count(line, "congruences")
         if budget is not None:
             return answers.Exceeds(budget, None, self._partitions(budget + 1, False))
@@ -244,6 +255,7 @@ class ReplyReader:
         return CongruenceLattice(self.algebra, congruences, covers, read_tail(self.lines, "join irreducibles", count))
 
     def types(self, line: str) -> Union[Types, answers.Exceeds]:
+        """Of `types`: the type of each cover."""
         budget, count = self.budget(line), self.count(line, "types")
         if budget is not None:
             return answers.Exceeds(budget)
@@ -261,6 +273,7 @@ class ReplyReader:
         return TypedCover(lower, upper, number, None if first is None else (first, second))
 
     def centrality(self, line: str) -> Union[answers.Central, answers.NotCentral, answers.Exceeds]:
+        """Of `central`: that it centralizes, or a matrix."""
         budget = self.budget(line)
         if budget is not None:
             return answers.Exceeds(budget)
@@ -275,6 +288,7 @@ class ReplyReader:
         return answers.NotCentral(matrix, self.steps(counted(self.lines, "steps"), generators))
 
     def series(self, line: str) -> Union[answers.Series, answers.Exceeds]:
+        """Of `series`: its members."""
         budget, count = self.budget(line), self.count(line, "series")
         if count is not None:
             return answers.Series(self.command.values[1], self._partitions(count, False))
@@ -288,6 +302,7 @@ class ReplyReader:
         return answers.Exceeds(budget, None, tuple(members))
 
     def block(self, line: str) -> Algebra:
+        """Of `make`: a block."""
         lines = [line]
         while lines[-1] != "end":
             lines.append(self.lines.take("`end`"))
@@ -306,6 +321,7 @@ class ReplyReader:
         return algebra
 
     def verdict(self, line: str) -> answers.Verdict:
+        """Of `check`: that a certificate is valid, or what is wrong with it."""
         if line == "valid":
             return answers.Valid()
         if not VERDICT.fullmatch(line):
