@@ -1,0 +1,1 @@
+"""Algebras from what other programs print."""
