@@ -1,6 +1,5 @@
 #!/usr/bin/env python3
-"""Runs the examples and the cases on the built program, and compares its replies with what they are to be; then checks the
-tools.
+"""Runs the examples and the cases on the built program, and compares its replies with what they are to be.
 
 An example is a file NAME.ua here with its reply in NAME.out, or a fenced block marked `script` in a document with
 the next block, marked `reply`. The program runs with one worker, and with the words in NAME.args, one on a line, or after
@@ -93,8 +92,7 @@ def main():
     print(f"examples: {count - wrong} as expected, {wrong} not", flush=True)
     right, otherwise = cases.try_all(sys.argv[1])
     print(f"cases: {right} as expected, {otherwise} not", flush=True)
-    tools = subprocess.run([sys.executable, HERE.parent / "tools" / "check.py", sys.argv[1]], check=False)
-    sys.exit(1 if wrong or otherwise or tools.returncode else 0)
+    sys.exit(1 if wrong or otherwise else 0)
 
 
 if __name__ == "__main__":
