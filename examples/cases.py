@@ -110,8 +110,8 @@ def pairs(lines):
 
 def pattern(reply):
     """What a reply is to match."""
-    text = re.escape(reply).replace(r"\.\.", "(?s:.*)")
-    return re.compile(re.sub(r"(?m)^\\\*$", ".*", text))
+    lines = [".*" if line == "*" else re.escape(line).replace(r"\.\.", "(?s:.*)") for line in reply.splitlines()]
+    return re.compile("".join(f"{line}\n" for line in lines))
 
 
 def run(program, words, script):
