@@ -11,3 +11,4 @@ pub mod WalkLaws
 pub mod ResultLaws
 pub mod OriginLaws
 pub mod FlawlessLaws
+pub mod BasisLaws

@@ -58,12 +58,3 @@ operations_count a width p e some = ap length (ap arities e ∙ arities_of_power
 
 pub operations_begin : (a : FiniteAlgebra) (width : ℕ) (p : Product) (rows : List Vector) → p ≡ power a width → 0 < width → missing p rows ≡ over p rows 0 (length a.operations - 0)
 operations_begin a width p rows e some = let n : length (arities p) ≡ length a.operations - 0 = omega (arith, operations_count a width p e some) in ap (over p rows 0) n
-
--- what a walk through one operation says of it
-pub nothing_of : (p : Product) (rows : List Vector) (f k : ℕ) (o : Option (List ℕ)) (g : List ℕ → List ℕ) → k ≡ slice_index (arities p) f → option_map g o ≡ first_behind (is_missing p rows f) (length rows) [] (k - 0) → o ≡ None → missing_of p rows f ≡ None
-nothing_of p rows f k o g e first none =
-    of_operation p rows f k e ∙ ap (option_map (λ (tuple : List ℕ). (f, tuple))) (sym first ∙ ap (option_map g) none)
-
-pub something_of : (p : Product) (rows : List Vector) (f k : ℕ) (o : Option (List ℕ)) (x : List ℕ) (g : List ℕ → List ℕ) → k ≡ slice_index (arities p) f → option_map g o ≡ first_behind (is_missing p rows f) (length rows) [] (k - 0) → o ≡ Some x → missing_of p rows f ≡ Some (f, g x)
-something_of p rows f k o x g e first some =
-    of_operation p rows f k e ∙ ap (option_map (λ (tuple : List ℕ). (f, tuple))) (sym first ∙ ap (option_map g) some)

@@ -1,6 +1,6 @@
 //! Rows that hold the generators and are closed under the operations.
 
-ghost use Rattle.std.specs.Prelude.{◌≡◌, ◌<◌, ◌≤◌, ◌-◌, ℕ, List, [], ◌∷◌, None, length, take, slice_index, IfOk};
+ghost use Rattle.std.specs.Prelude.{◌≡◌, ◌<◌, ◌≤◌, ◌-◌, ℕ, List, [], ◌∷◌, None, length, take, slice_index, IfOk, IsTrue};
 ghost use Rattle.std.specs.List.{AllByRecursion};
 ghost use Rattle.std.specs.Option.{option_map};
 ghost use Rattle.std.specs.Result.{result_err};
@@ -9,13 +9,17 @@ ghost use Rattle.ua_table.specs.Algebras.{IsVector, arities};
 ghost use Rattle.ua_term.specs.Printing.{name_at};
 ghost use Rattle.ua_flaws.specs.declared.flaws.Flaw.TheVariants as flaws;
 ghost use Rattle.ua_flaws.specs.Firsts.{is_among, first_behind};
-ghost use Rattle.ua_flaws.specs.Closing.{is_missing, IsTableOver};
+ghost use Rattle.ua_flaws.specs.Closing.{is_missing, missing_of, IsTableOver};
 ghost use Rattle.ua_flaws.specs.Flaws.{generators_flaw, results_flaw, Tells};
 
 use crate::flaws::{CheckError, Flaw};
 use std::alloc::{AllocError, Global};
+use ua_bases::{Basis, Progress, advance, is_associative_in};
 use ua_rows::{Operations, Rows, Scratch};
 use ua_table::{Algebra, Elem, Listed, Vectors};
+
+/// Fewer rows are looked through faster pair by pair.
+const MANY: u64 = 256;
 
 /// The rows of a certificate with a look-up, and the operations of their power.
 #[derive(Drop)]
@@ -107,6 +111,54 @@ fn first_missing(
     None
 }
 
+/// Whether it is known that the value of an operation at any rows is a row: where it is associative, and there are many
+/// rows, by a basis of them.
+fn is_known_closed(
+    alloc: Global,
+    a: &Algebra,
+    table: &Table<'_>,
+    op: u32,
+    scratch: &mut Scratch,
+) -> bool
+    requires table { IsTableOver a.now table.now.operations table.now.rows.now }
+    requires width { length scratch.old ≡ length table.now.operations }
+    ensures closed { IsTrue result → missing_of table.now.operations table.now.rows.now.items op ≡ None }
+    ensures width { length scratch.new ≡ length table.now.operations }
+{
+    let rows = u64::from(table.rows.len());
+    let size = u64::from(a.size());
+    if rows < MANY || rows * rows < size * size * size || !is_associative_in(a, op) {
+        return false;
+    }
+    let mut basis = Basis::new(alloc);
+    let steps = u32::MAX;
+    let progress = advance(&mut basis, &table.operations, op, table.rows, scratch, steps);
+    matches!(progress, Progress::Complete)
+}
+
+/// The first rows at which the value of an operation is no row.
+fn first_result(
+    alloc: Global,
+    a: &Algebra,
+    table: &Table<'_>,
+    op: u32,
+    arity: usize,
+    scratch: &mut Scratch,
+) -> Option<[u32; 4]>
+    requires table { IsTableOver a.now table.now.operations table.now.rows.now }
+    requires operation { op < length (arities table.now.operations) }
+    requires arity { arity ≡ slice_index (arities table.now.operations) op }
+    requires few { arity ≤ 4 }
+    requires width { length scratch.old ≡ length table.now.operations }
+    ensures first { missing_of table.now.operations table.now.rows.now.items op ≡ option_map (λ (places : List ℕ). (op, take arity places)) result }
+    ensures width { length scratch.new ≡ length table.now.operations }
+{
+    if is_known_closed(alloc, a, table, op, scratch) {
+        return None;
+    }
+    first_missing(table, op, arity, [0; 4], 0, scratch)
+}
+
 /// The flaw that the value of an operation at these rows is no row.
 fn missing_flaw(alloc: Global, a: &Algebra, op: u32, rows: &[u32]) -> Result<Flaw, AllocError>
     requires { op < length a.now.operations }
@@ -125,7 +177,7 @@ pub(crate) fn results(alloc: Global, a: &Algebra, table: &Table<'_>) -> Result<(
     let mut scratch = Scratch::new(alloc, table.rows.width())?;
     for op in 0..a.ops().len() as u32 {
         let arity = usize::from(a.op(op).arity());
-        if let Some(args) = first_missing(table, op, arity, [0; 4], 0, &mut scratch) {
+        if let Some(args) = first_result(alloc, a, table, op, arity, &mut scratch) {
             return Err(CheckError::Flaw(missing_flaw(alloc, a, op, &args[..arity])?));
         }
     }
