@@ -1,8 +1,8 @@
 -- The term condition, read off the blocks of Delta, and how many matrices there are at most.
-use Rattle.std.proofs.Common.{◌≡◌, ℕ, ◌+◌, ◌<◌, Bool, true, false, cond, List, [], ◌∷◌, length, map, replicate, refl, sym, ap, ◌∙◌, subst, arith, ⊎_elim}
+use Rattle.std.proofs.Common.{◌≡◌, ℕ, ◌<◌, Bool, true, false, cond, List, [], ◌∷◌, length, map, replicate, refl, sym, ap, ◌∙◌, subst, arith, ⊎_elim}
 use Rattle.std.specs.Prelude.{Contains, MatchBool, ◌↔◌, ◌==◌, slice_index, slice_get, Some}
-use Rattle.std.specs.List.{AllByRecursion, flat_map, range_with_len}
-use Rattle.std.proofs.lemmas.Bool.{cases_eq, eq-eqb, eqb-true, ne_eqb}
+use Rattle.std.specs.List.{AllByRecursion, range_with_len}
+use Rattle.std.proofs.lemmas.Bool.{cases_eq, eq-eqb, ne_eqb}
 use Rattle.std.proofs.lemmas.List.{length-map}
 use Rattle.std.proofs.lemmas.List.Elements.{All-from_recursion}
 use Rattle.ua_table.specs.Algebras.{Vector, FiniteAlgebra, arities_of, column}
@@ -13,14 +13,14 @@ use Rattle.ua_table.proofs.Choices.{in_range, range_low}
 use Rattle.ua_table.proofs.ListingLaws.{length-le_from_members}
 use Rattle.ua_table.proofs.Lists.{Contains-map, Contains-flat_map, Contains-flat_map_from, Contains-head, Contains-tail, Contains-cases, Contains-none, all_at, all_from_contains}
 use Rattle.ua_table.proofs.TermLaws.{value_is_eval}
-use Rattle.ua_part.specs.Partitions.{Partition, IsPartition, SameBlock, LiesBelow}
+use Rattle.ua_part.specs.Partitions.{Partition, SameBlock, LiesBelow}
 use Rattle.ua_part.specs.Pairs.{related_pairs}
 use Rattle.ua_part.proofs.PartitionLaws.{leader_same, same_back}
 use Rattle.ua_part.proofs.RelatedLaws.{related_in}
-use Rattle.ua_prod.specs.Congruences.{IsCongruence, IsCg}
+use Rattle.ua_prod.specs.Congruences.{IsCongruence}
 use Rattle.ua_matrix.specs.Centrality.{Variable, IsRelated, elements, Centralizes}
 use Rattle.ua_matrix.specs.Matrices.{variables_of, matrix_of, matrix_generators, IsMatrix, Goes, AreFour}
-use Rattle.ua_matrix.specs.Deltas.{IsAlgebraOfPairs, diagonal_pairs, IsDelta, matrix_of_rows, HasRelatedRows, AreUniform, leading_matrices}
+use Rattle.ua_matrix.specs.Deltas.{IsDelta, matrix_of_rows, HasRelatedRows, AreUniform, leading_matrices}
 use Rattle.ua_matrix.proofs.Deciding.{variables_related, at_0, at_1, at_2, at_3, matrices_from_condition, condition_from_matrices}
 use Rattle.ua_matrix.proofs.DeltaLaws.{AreRows, rows_related, delta_constant}
 

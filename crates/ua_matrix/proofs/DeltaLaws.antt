@@ -1,8 +1,8 @@
 -- The congruence Delta is the least partition that relates the two rows of each matrix.
 use Rattle.std.proofs.Common.{◌≡◌, ℕ, suc, ◌<◌, Bool, true, false, List, [], ◌∷◌, ◌++◌, length, map, replicate, refl, sym, ap, ◌∙◌, subst, arith, length-append}
-use Rattle.std.specs.Prelude.{Contains, MatchBool, ◌↔◌, slice_index, slice_index_or}
-use Rattle.std.specs.List.{AllByRecursion, AllZip, range_with_len}
-use Rattle.std.proofs.lemmas.List.{length-map, get_or_default}
+use Rattle.std.specs.Prelude.{Contains, MatchBool, ◌↔◌, slice_index}
+use Rattle.std.specs.List.{AllByRecursion, AllZip}
+use Rattle.std.proofs.lemmas.List.{get_or_default}
 use Rattle.std.proofs.lemmas.List.FromFn.{length-range_with_len}
 use Rattle.std.proofs.lemmas.List.Elements.{All-from_recursion}
 use Rattle.ua_table.specs.Algebras.{Vector, FiniteAlgebra, arities_of, value_at, apply, column}
@@ -10,7 +10,7 @@ use Rattle.ua_table.specs.Terms.{Tree, Generator, Application, Trees, none, more
 use Rattle.ua_table.proofs.ApplyLemmas.{value-below}
 use Rattle.ua_table.proofs.GeneratedLaws.{generator_in, result_in}
 use Rattle.ua_table.proofs.Lists.{Contains-map, Contains-map_from, AllZip-length, all_at, all_append, all_front, all_back, all_from_contains, all_map, all_weaker}
-use Rattle.ua_part.specs.Partitions.{Partition, IsPartition, SameBlock, LiesBelow, identity_on, merged}
+use Rattle.ua_part.specs.Partitions.{Partition, IsPartition, SameBlock, identity_on, merged}
 use Rattle.ua_part.proofs.PartitionLaws.{IsConstant, same_itself, same_back, same_through, identity-IsPartition, identity-same}
 use Rattle.ua_part.proofs.MergeLaws.{length-merged, merged-IsPartition, merged-above, merged-relates, merged-constant}
 use Rattle.ua_prod.specs.Congruences.{IsCongruence, RelatesAll, IsCg}
@@ -20,7 +20,7 @@ use Rattle.ua_cong.specs.Closings.{IsOne}
 use Rattle.ua_cong.proofs.ClosingLaws.{at_range, all_of_range, related_more}
 use Rattle.ua_matrix.specs.Centrality.{Variable, IsRelated}
 use Rattle.ua_matrix.specs.Matrices.{marked, variables_of, matrix_of, matrix_generators, IsMatrix}
-use Rattle.ua_matrix.specs.Deltas.{IsAlgebraOfPairs, diagonal_pairs, IsDelta, matrix_of_rows, HasRelatedRows}
+use Rattle.ua_matrix.specs.Deltas.{IsAlgebraOfPairs, diagonal_pairs, matrix_of_rows, HasRelatedRows}
 use Rattle.ua_matrix.proofs.Deciding.{variables_related, variable_in}
 
 -- ---- the least partition that relates some pairs

@@ -3,7 +3,8 @@ use Rattle.std.specs.Prelude.{◌≡◌, ℕ, ◌<◌, List, [], ◌∷◌, leng
 use Rattle.std.specs.List.{AllByRecursion, flat_map, range_with_len}
 use Rattle.ua_table.specs.Algebras.{Vector, FiniteAlgebra, IsAlgebra, arities_of, value_at}
 use Rattle.ua_part.specs.Partitions.{Partition, SameBlock}
-use Rattle.ua_prod.specs.Congruences.{IsCg}
+use Rattle.ua_matrix.specs.Matrices.{IsMatrix}
+use Rattle.ua_prod.specs.Congruences.{IsCongruence, IsCg}
 
 -- the elements of b stand for the pairs that beta relates, and its operations are those of a at both places
 pub record IsAlgebraOfPairs (a : FiniteAlgebra) (beta : Partition) (left right : ℕ → ℕ) (number : ℕ → ℕ → ℕ) (b : FiniteAlgebra) : Type 0 where
@@ -24,6 +25,13 @@ pub record IsDelta (a : FiniteAlgebra) (alpha beta : Partition) (left right : �
   pub pairs : IsAlgebraOfPairs a beta left right number b
   pub generated : IsCg b (diagonal_pairs number alpha) delta
 
+-- so it is in an algebra where alpha and beta are congruences
+pub record IsDeltaIn (a : FiniteAlgebra) (alpha beta : Partition) (left right : ℕ → ℕ) (number : ℕ → ℕ → ℕ) (b : FiniteAlgebra) (delta : Partition) : Type 0 where
+  pub algebra : IsAlgebra a
+  pub alpha_is : IsCongruence a alpha
+  pub beta_is : IsCongruence a beta
+  pub delta_is : IsDelta a alpha beta left right number b delta
+
 -- the matrix with these two pairs as its rows
 abbrev pub matrix_of_rows : (ℕ → ℕ) → (ℕ → ℕ) → ℕ → ℕ → Vector
 matrix_of_rows left right d e = left d ∷ right d ∷ left e ∷ right e ∷ []
@@ -34,6 +42,11 @@ pub record HasRelatedRows (left right : ℕ → ℕ) (delta : Partition) (m : Ve
   pub lower : ℕ
   pub related : SameBlock delta upper lower
   pub rows : m ≡ matrix_of_rows left right upper lower
+
+-- a partition of the pairs that relates the two rows of each matrix
+pub record RelatesRows (a : FiniteAlgebra) (alpha beta : Partition) (left right : ℕ → ℕ) (b : FiniteAlgebra) (q : Partition) : Type 0 where
+  pub size : length q ≡ b.size
+  pub rows : (d e : ℕ) → d < b.size → e < b.size → IsMatrix a alpha beta (matrix_of_rows left right d e) → SameBlock q d e
 
 -- no block of Delta has a pair that theta relates and one that it does not
 abbrev pub AreUniform : (ℕ → ℕ) → (ℕ → ℕ) → Partition → Partition → Type 0

@@ -4,3 +4,4 @@ pub mod Deltas
 pub mod Worked
 pub mod Answers
 pub mod Permitted
+pub mod Squares

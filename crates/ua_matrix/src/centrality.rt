@@ -2,6 +2,7 @@
 
 ghost use Rattle.std.specs.Prelude.{◌≡◌, ℕ, length, IfOk, replicate};
 ghost use Rattle.std.specs.List.{AllByRecursion};
+ghost use Rattle.ua_table.specs.Algebras.{Vector};
 ghost use Rattle.ua_table.specs.Listings.{vectors_of, IsClosedListing};
 ghost use Rattle.ua_prod.specs.Congruences.{IsCongruence};
 ghost use Rattle.ua_close.specs.Answers.{rows_in};
@@ -15,7 +16,7 @@ use std::alloc::{AllocError, Global};
 use std::thread::Threads;
 use ua_close::{CloseError, Closure, Gate, Listing, Run, close_set, laws, steps_for};
 use ua_part::Part;
-use ua_table::{Algebra, Elem, Frame};
+use ua_table::{Algebra, Elem, Frame, Vectors};
 use ua_term::Steps;
 
 /// Whether a congruence centralizes another modulo a third.
@@ -52,6 +53,18 @@ pub fn matrices<R: Threads + Sync, G: Gate>(
     let _width = frame.width();
     let gens = generating_matrices(alloc, a, alpha, beta)?;
     close_set(rt, alloc, &frame, &gens, run)
+}
+
+/// The rows of a listing of matrices.
+pub fn rows_of(alloc: Global, list: &Listing) -> Result<Vectors, AllocError>
+    requires { AllByRecursion (λ (v : Vector). length v ≡ 4) (vectors_of list.now) }
+    ensures { IfOk result (λ rows. rows.items ≡ vectors_of list.now) }
+{
+    let mut rows = Vectors::new(alloc, 4);
+    for i in 0..list.len() {
+        rows.add(list.row(i))?;
+    }
+    Ok(rows)
 }
 
 /// The entries of a row of four.

@@ -1,13 +1,13 @@
 //! Matrices that refute the term condition.
 
-ghost use Rattle.std.specs.Prelude.{◌+◌, ◌<◌, ◌↔◌, length, IsTrue, IfSome, IfNone};
+ghost use Rattle.std.specs.Prelude.{◌+◌, ◌<◌, ◌↔◌, [], length, slice_index_or, IsTrue, IfSome, IfNone};
 ghost use Rattle.std.specs.List.{AllByRecursion};
 ghost use Rattle.ua_table.specs.Listings.{vectors_of, ranks_of};
 ghost use Rattle.ua_matrix.specs.Matrices.{AreFour, Goes, Fails, IsFirstFailure, IsFirstOfFront};
 
 use ua_close::Listing;
 use ua_part::Part;
-use ua_table::Elem;
+use ua_table::{Elem, Vectors};
 
 /// Whether the first row of a matrix is in delta, and the second is not.
 pub fn fails(matrix: &[Elem], delta: &Part) -> bool
@@ -17,6 +17,21 @@ pub fn fails(matrix: &[Elem], delta: &Part) -> bool
     let first = delta.same(u32::from(matrix[0]), u32::from(matrix[1]));
     let second = delta.same(u32::from(matrix[2]), u32::from(matrix[3]));
     first && !second
+}
+
+/// The first matrix that fails with a congruence.
+pub fn failing(matrices: &Vectors, delta: &Part) -> Option<u32>
+    requires { AllByRecursion (AreFour (length delta.now)) matrices.now.items }
+    ensures within { IfSome result (λ i. i < length matrices.now.items) }
+    ensures some { IfSome result (λ i. Fails delta.now (slice_index_or matrices.now.items i [])) }
+    ensures none { IfNone result (AllByRecursion (Goes delta.now) matrices.now.items) }
+{
+    for i in 0..matrices.len() {
+        if fails(matrices.get(i), delta) {
+            return Some(i);
+        }
+    }
+    None
 }
 
 /// Of the first i matrices and the next, the one that fails and has the least rank, where this is the one

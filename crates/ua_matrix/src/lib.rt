@@ -3,9 +3,12 @@
 
 pub mod calls;
 mod centrality;
+mod deltas;
 mod failures;
 mod generators;
 pub mod laws;
+mod leading;
 
-pub use centrality::{Central, matrices};
-pub use failures::fails;
+pub use centrality::{Central, matrices, rows_of};
+pub use failures::{failing, fails};
+pub use leading::deciding_matrices;

@@ -2,9 +2,7 @@ use Rattle.std.proofs.Common.{◌≡◌, ◌<◌, [], length, sym, subst, arith,
 use Rattle.std.specs.Prelude.{slice_index_or}
 use Rattle.std.proofs.lemmas.Bool.{cases_lt}
 use Rattle.std.proofs.lemmas.List.Elements.{All-from_recursion}
-use Rattle.std.proofs.lemmas.List.{length-map}
 use Rattle.std.proofs.lemmas.Option.{get_or_from_slice_get}
-use Rattle.ua_table.specs.Listings.{Row, vectors_of}
 use Rattle.ua_matrix.specs.Matrices.{AreFour, Fails}
 use Rattle.ua_comm.specs.Growths.{IsTakenIn, IsLower}
 use Rattle.ua_comm.proofs.GrowthLaws.{swept_growing, swept_above, swept_lower}
@@ -12,21 +10,21 @@ use Rattle.ua_comm.proofs.growth.sweep.Goals as goal
 
 pub take_in-requires-clause-matrix : goal.take_in-requires-clause-matrix
 take_in-requires-clause-matrix c =
-    let matrices = vectors_of c.args.list.now in
-    let w : c.loop-i.i < length matrices = (let n = length-map c.args.list.now (λ (r : Row). r.vector) in omega (arith, c.loop-i-test.true, c.len-i-end.ensures, n)) in
-    subst (AreFour c.args.a.now.size) (get_or_from_slice_get matrices c.loop-i.i c.row.result.now [] c.row.ensures)
-    (All-from_recursion (AreFour c.args.a.now.size) matrices c.requires.list c.loop-i.i [] w)
+    let matrices = c.args.matrices.now.items in
+    let w : c.loop-i.i < length matrices = omega (arith, c.loop-i-test.true, c.len-i-end.ensures) in
+    subst (AreFour c.args.a.now.size) (get_or_from_slice_get matrices c.loop-i.i c.get.result.now [] c.get.ensures.vector)
+    (All-from_recursion (AreFour c.args.a.now.size) matrices c.requires.matrices c.loop-i.i [] w)
 
 pub loop-i-preserved : goal.loop-i-preserved
 loop-i-preserved c =
     let a = c.args.a.now in
-    let matrices = vectors_of c.args.list.now in
+    let matrices = c.args.matrices.now.items in
     let i = c.loop-i.i in
     let old = c.loop-i.grown in
     let new = c.in_ok-grown.grown in
     let start = c.args.delta in
-    let w : i < length matrices = (let n = length-map c.args.list.now (λ (r : Row). r.vector) in omega (arith, c.loop-i-test.true, c.len-i-end.ensures, n)) in
-    let here = get_or_from_slice_get matrices i c.row.result.now [] c.row.ensures in
+    let w : i < length matrices = omega (arith, c.loop-i-test.true, c.len-i-end.ensures) in
+    let here = get_or_from_slice_get matrices i c.get.result.now [] c.get.ensures.vector in
     let taken : IsTakenIn a old (slice_index_or matrices i []) new = subst (λ m. IsTakenIn a old m new) (sym here) c.in_ok-grown.ensures in
     let inv = c.loop-i.invariant in
     record {

@@ -1,8 +1,0 @@
-use Rattle.std.proofs.Common.{ℕ, ◌<◌, []}
-use Rattle.std.specs.Prelude.{slice_index_or}
-use Rattle.ua_table.specs.Listings.{vectors_of}
-use Rattle.ua_matrix.specs.Matrices.{Fails}
-use Rattle.ua_comm.proofs.growth.failing.Given as goal
-
-abbrev pub invariant-loop-i : goal.invariant-loop-i
-invariant-loop-i l = (j : ℕ) → j < l.i → ¬ Fails l.delta (slice_index_or (vectors_of l.list) j [])
