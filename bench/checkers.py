@@ -118,7 +118,7 @@ class Comparison:
         """What the checker in Coq takes, the program takes."""
         told, error, status = ran([self.coq, "/dev/stdin"], script)
         found = told.split(b"\n")[:-1]
-        if status not in (0, 1) or len(found) != len(lines):
+        if status not in (0, 1, 3) or len(found) != len(lines):
             self.differ(f"the checker in Coq ended with {status} {error!r}", script)
             return
         for line, other in zip(lines, found):

@@ -25,7 +25,7 @@ def at(value, path):
 def changed_number(draw, number):
     """A number that is mostly another element or position, and now and then none."""
     if draw.random() < 0.15:
-        return draw.choice([2**26, 2**26 + 1, 2**32 - 1, 2**32, 2**64, -1, 1.5])
+        return draw.choice([2**26 + 1, 2**32 - 1, 2**32, 2**64, -1, 1.5])
     return draw.choice([number + 1, max(number - 1, 0), draw.randrange(2), draw.randrange(8)])
 
 

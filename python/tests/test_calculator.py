@@ -229,6 +229,8 @@ class Answers(unittest.TestCase):
                 with self.subTest(name=name):
                     self.assertEqual(len(self.calc.answers_to(text)), len(Script.parse(text)))
                     self.assertTrue(replies)
+        (error,) = self.calc.answers_to("algebra M size 2 end # ä\n\n close M 2 [0\n  5]")
+        self.assertEqual((str(error.place), error.token), ("4:3", "5"))
         with self.assertRaises(ScriptFault):
             self.calc.answers_to("con")
 

@@ -168,6 +168,12 @@ class Checking(unittest.TestCase):
         quaternary = Algebra.from_functions("Q", 2, {"h": lambda w, x, y, z: w & x & y & z})
         self.assertEqual(str(check_text(quaternary, rows.format("[[0,1],[1,0]]"))), "flaw result h 0 0 0 1")
 
+    def test_a_wide_power_without_rows(self):
+        constant = Algebra.from_tables("C", {"f": [0, 1], "c": 0})
+        text = '{"gens":[],"kind":"listing","origins":[],"ranks":[],"rows":[],"width":67108864}'
+        self.assertEqual(str(check_text(constant, text)), "flaw result c")
+        self.assertEqual(str(check_text(MEET, text)), "valid")
+
     def test_large_algebras(self):
         large = Algebra.from_functions("Z", 300, {"minus": lambda x, y: (x - y) % 300})
         cert = {"gens": [[150]], "kind": "not_member", "rows": [[0], [150]], "target": [1], "width": 1}

@@ -16,6 +16,7 @@ from uacalc import (
     Script,
     Series,
     Undecided,
+    Yes,
 )
 
 from .support import examples
@@ -109,6 +110,25 @@ class Reading(unittest.TestCase):
     def test_the_examples(self):
         for name, script, reply in examples():
             self.assertEqual(len(answers_to(script, reply)), len(Script.parse(script)), name)
+
+    def test_the_terms_and_the_certificates_of_the_examples(self):
+        terms = certificates = 0
+        for name, text, reply in examples():
+            script = Script.parse(text)
+            algebras = {item.name: item for item in script.items if isinstance(item, Algebra)}
+            for command, answer in zip(script.commands, answers_to(text, reply)):
+                with self.subTest(name=name, command=command.text()):
+                    if isinstance(answer, Certificate):
+                        self.assertTrue(answer.check(algebras[command.values[0]]))
+                        certificates += 1
+                    elif isinstance(answer, Yes) and command.word == "member":
+                        algebra = algebras[command.values[0]]
+                        vectors = [list(map(algebra.element, vector)) for vector in command.values[2]]
+                        target = list(map(algebra.element, command.values[3]))
+                        points = zip(*vectors) if vectors else [()] * len(target)
+                        self.assertEqual([answer.term.value(algebra, point) for point in points], target)
+                        terms += 1
+        self.assertGreater(min(terms, certificates), 5)
 
     def test_a_reply_that_is_cut_is_never_read(self):
         for name, script, reply in examples():

@@ -113,6 +113,10 @@ class Check(unittest.TestCase):
         script = f"algebra M size 2\nop meet 2 = 0 0 0 1 1\nop join 2 = 0 1 1 1\nend\ncheck M {OUTSIDE}\n"
         self.assertEqual(run_tool(["check"], script.encode()), (b"", b"syntax 2:21 word\n", 2))
 
+    def test_a_script_longer_than_the_program_takes(self):
+        script = f"{MEET.block()}# {'x' * 2**24}\ncheck M {MEMBER}\n"
+        self.assertEqual(run_tool(["check"], script.encode()), (b"valid\n", b"", 0))
+
     def test_what_is_no_such_script(self):
         told = b" only blocks and `check` may stand here, and at least one `check`\n"
         self.assertEqual(run_tool(["check"], b""), (b"", b"1:1" + told, 2))

@@ -13,6 +13,7 @@ from .progress import Progress
 from .questions import Questions
 from .replies import Answer, Replies
 from .script import Script
+from .tokens import latin
 
 
 def bounded(value: int, what: str, high: int) -> int:
@@ -81,13 +82,16 @@ class Calculator(Questions):
         `progress` a bar is drawn on standard error while the answers come, at a terminal alone. Raises `TimeLimit`, with
         the answers that were whole by then, `ProgramError` and `ReplyFault`; never is a half answer among others.
         """
+        asked, extra = separated(script)
+        return self._run(asked, asked.text(), extra, errors, progress)
+
+    def _run(self, asked: Script, text: str, extra: Set[int], errors: str, progress: bool) -> List[Answer]:
+        """The answers to a script with this text, without the extra ones."""
         if errors not in ("raise", "keep"):
             raise InputFault("errors are to be raised or to be kept")
-        asked, extra = separated(script)
-        text = asked.text()
         process = Process(self._words(), text.encode("latin-1"), self.seconds)
         found: List[Answer] = []
-        bar = Progress(len(script)) if progress else None
+        bar = Progress(len(asked) - len(extra)) if progress else None
         try:
             for number, answer in enumerate(Replies(asked, process.lines(), text, self.budget)):
                 if isinstance(answer, CommandError) and errors == "raise":
@@ -114,8 +118,12 @@ class Calculator(Questions):
         raise error
 
     def answers_to(self, text: Union[str, bytes], errors: str = "keep", progress: bool = True) -> List[Answer]:
-        """The answers to the commands of a script that is written, as `run` tells them; `ScriptFault` where it is none."""
-        return self.run(Script.parse(text), errors, progress)
+        """The answers to the commands of a script that is written, as `run` tells them; `ScriptFault` where it is none.
+
+        Places are those of the text. Where a `series` with `cg` or `comm` behind it exceeds the budget, which partitions
+        are its own cannot be told, and `ReplyFault` is raised.
+        """
+        return self._run(Script.parse(text), latin(text), set(), errors, progress)
 
     def ask(self, word: str, *values: Any, cert: bool = False) -> Answer:
         """The answer to one question, as `Script.ask` puts it."""

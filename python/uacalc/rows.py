@@ -1,7 +1,7 @@
 """Operations on vectors of a power, and whether rows are closed under them.
 
 For each choice of the first arguments an operation is applied to all rows in its last place at once, column by column, so
-that Python's own loops do the work: some ten million look-ups a second where an algebra has at most 256 elements.
+that Python's own loops do the work: some millions of look-ups a second where an algebra has at most 256 elements.
 """
 
 from __future__ import annotations
@@ -62,7 +62,7 @@ def first_missing(
     columns = list(zip(*rows))
     for name, operation in algebra.operations.items():
         if operation.arity == 0:
-            if operation.values * width not in found:
+            if not rows or operation.values * width not in found:
                 return name, ()
             continue
         if not rows:
