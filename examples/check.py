@@ -4,7 +4,7 @@
 An example is a file NAME.ua here with its reply in NAME.out, or a fenced block marked `script` in a document with
 the next block, marked `reply`. The program runs with one worker, and with the words in NAME.args, one on a line, or after
 the mark `script`. Cases stand in the folder `cases`, and `cases.py` runs them. Each way to end without all replies is tried
-too, with its status and its line on standard error, but for want of memory.
+too, with its status and its line on standard error, but for want of memory. All files name the version that VERSION has.
 
 usage: check.py PROGRAM
 """
@@ -74,11 +74,28 @@ def ends_so(program, words, source, sink, status, line):
     return (run.stdout or b"", run.stderr, run.returncode) == (b"", line, status)
 
 
+def other_versions():
+    """The files that name another version than VERSION does."""
+    root = HERE.parent
+    version = (root / "VERSION").read_text(encoding="utf-8").strip()
+    named = {
+        "README.md": f"Version {version}:",
+        "CHANGELOG.md": f"\n## {version}\n",
+        "CITATION.cff": f"\nversion: {version}\n",
+        "docs/QUOTING.md": f"UACalc {version}",
+        "python/uacalc/__init__.py": f'__version__ = "{version}"',
+    }
+    return [file for file, words in named.items() if words not in (root / file).read_text(encoding="utf-8")]
+
+
 def main():
     if len(sys.argv) != 2:
         sys.exit(__doc__)
     wrong = 0
     count = 0
+    for file in other_versions():
+        wrong += 1
+        print(f"{file}: another version than in VERSION")
     for name, *example in scripts():
         count += 1
         if not is_as_expected(sys.argv[1], *example):

@@ -48,7 +48,7 @@ from .replies import Replies
 from .script import Script
 from .terms import Application, Element, Step, Steps, Term, Variable
 
-__version__ = "1.0.0"
+__version__ = "0.9.0"
 
 __all__ = [
     "Algebra",
