@@ -44,7 +44,14 @@ fn write_result(operations: &Operations, op: u32, rows: &Rows, pair: Pair, scrat
 
 /// Whether the result of an operation at a row and another is that other one.
 #[inline(always)]
-fn keeps(operations: &Operations, op: u32, rows: &Rows, row: u32, other: u32, scratch: &mut Scratch) -> bool
+fn keeps(
+    operations: &Operations,
+    op: u32,
+    rows: &Rows,
+    row: u32,
+    other: u32,
+    scratch: &mut Scratch,
+) -> bool
     requires rows { AreRowsIn operations.now rows.now }
     requires binary { slice_index (arities operations.now) op ≡ 2 }
     requires row { row < length rows.now.items }
@@ -59,7 +66,14 @@ fn keeps(operations: &Operations, op: u32, rows: &Rows, row: u32, other: u32, sc
 
 /// A row that was not reached, from this one on: where the operation has it as an idempotent, one after another takes
 /// its place that keeps it, so that in a semilattice the last one comes from no others.
-fn choose(basis: &Basis, operations: &Operations, op: u32, rows: &Rows, first: u32, scratch: &mut Scratch) -> u32
+fn choose(
+    basis: &Basis,
+    operations: &Operations,
+    op: u32,
+    rows: &Rows,
+    first: u32,
+    scratch: &mut Scratch,
+) -> u32
     requires rows { AreRowsIn operations.now rows.now }
     requires binary { slice_index (arities operations.now) op ≡ 2 }
     requires room { length rows.now.items ≤ basis.now.room }
@@ -85,7 +99,13 @@ fn choose(basis: &Basis, operations: &Operations, op: u32, rows: &Rows, first: u
 
 /// One step: a result more, or a base.
 #[inline(always)]
-fn step(basis: &mut Basis, operations: &Operations, op: u32, rows: &Rows, scratch: &mut Scratch) -> Option<Progress>
+fn step(
+    basis: &mut Basis,
+    operations: &Operations,
+    op: u32,
+    rows: &Rows,
+    scratch: &mut Scratch,
+) -> Option<Progress>
     requires rows { AreRowsIn operations.now rows.now }
     requires binary { slice_index (arities operations.now) op ≡ 2 }
     requires basis { IsBasis operations.now op rows.now.items basis.old }
@@ -101,7 +121,9 @@ fn step(basis: &mut Basis, operations: &Operations, op: u32, rows: &Rows, scratc
     match basis.next(count) {
         Next::Complete => Some(Progress::Complete),
         Next::Missing(row) => {
-            if basis.len() >= (FEW + count / 16) as usize || basis.len() >= FEW_REACHED + basis.reached() / 16 {
+            if basis.len() >= (FEW + count / 16) as usize
+                || basis.len() >= FEW_REACHED + basis.reached() / 16
+            {
                 return Some(Progress::GivenUp);
             }
             basis.add(choose(basis, operations, op, rows, row, scratch));
@@ -122,7 +144,14 @@ fn step(basis: &mut Basis, operations: &Operations, op: u32, rows: &Rows, scratc
 
 /// Goes on with a basis of these rows, under an operation of two arguments: by so many steps at most, until it is
 /// complete, or a result is none of the rows. A step is a result of the operation and a look-up, or a base.
-pub fn advance(basis: &mut Basis, operations: &Operations, op: u32, rows: &Rows, scratch: &mut Scratch, steps: u32) -> Progress
+pub fn advance(
+    basis: &mut Basis,
+    operations: &Operations,
+    op: u32,
+    rows: &Rows,
+    scratch: &mut Scratch,
+    steps: u32,
+) -> Progress
     requires rows { AreRowsIn operations.now rows.now }
     requires binary { slice_index (arities operations.now) op ≡ 2 }
     requires basis { IsBasis operations.now op rows.now.items basis.old }

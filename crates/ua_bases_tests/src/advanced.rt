@@ -44,7 +44,12 @@ fn rows_from(rt: &impl Abort, alloc: Global, frame: &Frame, first: Elem) -> Resu
 }
 
 /// How far a basis of the rows comes with so many steps, and how many bases it has then.
-fn advanced(alloc: Global, frame: &Frame, rows: &Rows, steps: u32) -> Result<(Progress, usize), Fail>
+fn advanced(
+    alloc: Global,
+    frame: &Frame,
+    rows: &Rows,
+    steps: u32,
+) -> Result<(Progress, usize), Fail>
     requires { AreRowsIn frame.now rows.now }
 {
     if !is_associative(frame, 0) {
@@ -58,7 +63,12 @@ fn advanced(alloc: Global, frame: &Frame, rows: &Rows, steps: u32) -> Result<(Pr
 }
 
 /// How far a basis of the vectors from this number on comes.
-fn meets<R: Abort>(rt: &R, alloc: Global, first: Elem, steps: u32) -> Result<(Progress, usize), Fail> {
+fn meets<R: Abort>(
+    rt: &R,
+    alloc: Global,
+    first: Elem,
+    steps: u32,
+) -> Result<(Progress, usize), Fail> {
     let algebra = semilattice(alloc)?;
     let frame = Frame::power(&algebra, 3)?;
     let rows = rows_from(rt, alloc, &frame, first)?;

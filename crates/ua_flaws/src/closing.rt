@@ -132,7 +132,14 @@ fn is_known_closed(
     }
     let mut basis = Basis::new(alloc);
     let steps = u32::MAX;
-    let progress = advance(&mut basis, &table.operations, op, table.rows, scratch, steps);
+    let progress = advance(
+        &mut basis,
+        &table.operations,
+        op,
+        table.rows,
+        scratch,
+        steps,
+    );
     matches!(progress, Progress::Complete)
 }
 
