@@ -14,7 +14,7 @@ echo "== congruences"
 bench/congruences.py "$program"
 echo "== commands"
 bench/commands.py "$program"
-bench/normal_subgroups.py "$program" 14000
+bench/normal_subgroups.py "$program"
 echo "== jobs"
 bench/jobs.py "$program"
 echo "== certificates"

@@ -5,9 +5,9 @@ use std::alloc::Global;
 use std::process::Abort;
 use std::test::Fail;
 use std::thread::Threads;
-use ua_close::{CloseError, FreeGate, Run};
-use ua_matrix::Central;
+use ua_close::{CloseError, Closure, FreeGate, Run};
 use ua_matrix::calls::central;
+use ua_matrix::{Central, matrices};
 use ua_part::Part;
 use ua_prod::{Clash, is_congruence};
 use ua_table::{Algebra, Elem, Name, OpTable, Origin};
@@ -175,5 +175,26 @@ fn too_wide(rt: HostRuntime) -> Result<(), Fail> {
         cells: 4_000_000,
     };
     assert_eq!(rt; error, Some(wide));
+    Ok(())
+}
+
+/// The full congruence of the lattice of two elements has all matrices, in order.
+#[test]
+fn all_matrices(rt: HostRuntime) -> Result<(), Fail> {
+    let alloc = rt.alloc();
+    let lattice = algebra(alloc, 2, &[b"0001", b"0111"])?;
+    let full = congruence(alloc, &lattice, b"00")?;
+    for workers in [1, 2, 16] {
+        let run = Run::new(16, workers, &FreeGate).ok_or("a number out of its limits")?;
+        let Closure::Closed(list) = matrices(&rt, alloc, &lattice, &full, &full, &run)? else {
+            return Err("more than sixteen".into());
+        };
+        assert_eq!(rt; list.len(), 16);
+        for i in 0..list.len() {
+            let bits = [i >= 8, i % 8 >= 4, i % 4 >= 2, i % 2 >= 1];
+            let row = bits.map(|bit| Elem::from(bit));
+            assert_eq!(rt; list.row(i), row.as_slice());
+        }
+    }
     Ok(())
 }

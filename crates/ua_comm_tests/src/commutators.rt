@@ -1,7 +1,10 @@
 //! Commutators that are known, with 1, 2 and 16 workers: in groups those of normal subgroups, in lattices and
 //! semilattices the meets.
 
-use crate::given::{algebra, chain, congruence, permutations, put_part, quaternions, sums_of_four};
+use crate::given::{
+    algebra, chain, congruence, long_chain, permutations, put_part, quaternions, sums_of_four,
+    sums_of_nine,
+};
 use std::alloc::Global;
 use std::process::Abort;
 use std::test::Fail;
@@ -111,4 +114,33 @@ fn two_elements(rt: HostRuntime) -> Result<(), Fail> {
     expect(&rt, alloc, &lattice, 1, &[(full.0, full.1, b"e")])?;
     let bare = algebra(alloc, 2, &[])?;
     expect(&rt, alloc, &bare, 10_000, &[(full.0, full.1, b"01")])
+}
+
+/// The pairs of nine elements are told by the blocks of Delta. The sums have 729 matrices.
+#[test]
+fn nine_elements(rt: HostRuntime) -> Result<(), Fail> {
+    let alloc = rt.alloc();
+    let full: &[u8] = b"000000000";
+    let thirds: &[u8] = b"012012012";
+    let none: &[u8] = b"012345678";
+    let sums = sums_of_nine(alloc)?;
+    expect(
+        &rt,
+        alloc,
+        &sums,
+        729,
+        &[(full, full, none), (full, thirds, none)],
+    )?;
+    expect(&rt, alloc, &sums, 728, &[(full, full, b"e")])?;
+    let low: &[u8] = b"000345678";
+    let high: &[u8] = b"012333333";
+    let middle: &[u8] = b"001111178";
+    let meet: &[u8] = b"002345678";
+    let cases = [
+        (full, full, full),
+        (full, low, low),
+        (low, high, none),
+        (middle, low, meet),
+    ];
+    expect(&rt, alloc, &long_chain(alloc)?, 10_000, &cases)
 }

@@ -48,6 +48,21 @@ pub(crate) fn chain(alloc: Global) -> Result<Algebra, Fail> {
     algebra(alloc, 3, &[b"000011012", b"012112222"])
 }
 
+/// The sums modulo 9.
+pub(crate) fn sums_of_nine(alloc: Global) -> Result<Algebra, Fail> {
+    let sums = b"012345678123456780234567801345678012456780123567801234678012345780123456801234567";
+    algebra(alloc, 9, &[sums])
+}
+
+/// The lattice of nine elements in a chain.
+pub(crate) fn long_chain(alloc: Global) -> Result<Algebra, Fail> {
+    let meets =
+        b"000000000011111111012222222012333333012344444012345555012345666012345677012345678";
+    let joins =
+        b"012345678112345678222345678333345678444445678555555678666666678777777778888888888";
+    algebra(alloc, 9, &[meets, joins])
+}
+
 /// The congruence with these labels of the elements.
 pub(crate) fn congruence(alloc: Global, a: &Algebra, labels: &[u8]) -> Result<Part, Fail>
     ensures { IfOk result (IsCongruence a.now) }
