@@ -9,7 +9,6 @@ are to refuse them at the same place. A difference is printed, and ends the run 
 
 import argparse
 import collections
-import os
 import pathlib
 import subprocess
 import sys
@@ -19,8 +18,10 @@ from damage import damaged, damaged_block, draw_from
 PACKAGE = pathlib.Path(__file__).resolve().parents[1] / "python"
 sys.path.insert(0, str(PACKAGE))
 
-from uacalc import Algebra, Calculator, Certificate, InputFault, Operation, Script  # noqa: E402
+from uacalc import Algebra, Calculator, Certificate, Operation, Script  # noqa: E402
+from uacalc.tools.check import checked  # noqa: E402
 
+GROUP = 20  # algebras whose certificates are checked by one run
 COPIES = 7  # damaged copies of each certificate
 NAMES = ["bot", "a", "b", "c", "top"]
 
@@ -59,29 +60,37 @@ def questions(draw, script, made):
     script.ask("hm", made, cert=True)
 
 
-def certificates(program, draw, count):
-    """Algebras, each with its certificates, so many in all: damaged copies are counted too."""
+def groups(program, draw, count):
+    """Groups of algebras, each with its certificates and damaged copies, until there are so many in all."""
     calculator = Calculator(program, budget=60)
     made = 0
     while made < count:
         script = Script()
-        found = [algebra(draw, f"A{number}") for number in range(20)]
+        group = {}
         asked = []
-        for drawn in found:
+        for number in range(GROUP):
+            drawn = algebra(draw, f"A{number}")
             before = len(script)
             questions(draw, script, drawn)
             asked += [drawn] * (len(script) - before)
         for drawn, answer in zip(asked, calculator.run(script, errors="keep", progress=False)):
             if isinstance(answer, Certificate):
                 text = answer.text()
-                made += 1 + COPIES
-                yield drawn, answer.kind, [text.encode()] + [damaged(draw, text) for _ in range(COPIES)]
+                copies = [text.encode()] + [damaged(draw, text) for _ in range(COPIES)]
+                group.setdefault(drawn.name, (drawn, []))[1].append((answer.kind, copies))
+                made += len(copies)
+        yield list(group.values())
 
 
 def ran(words, text):
-    environment = {**os.environ, "PYTHONPATH": str(PACKAGE)}
-    run = subprocess.run(words, input=text, capture_output=True, check=False, env=environment)
+    run = subprocess.run(words, input=text, capture_output=True, check=False)
     return run.stdout, run.stderr, run.returncode
+
+
+def in_python(text):
+    """What `python3 -m uacalc check` does with a text, in this process."""
+    told, fault, status = checked(text)
+    return told.encode(), fault.encode(), status
 
 
 class Comparison:
@@ -97,22 +106,35 @@ class Comparison:
         self.differences += 1
         print(f"{what}:\n{text.decode(errors='replace')[:2000]}\n", flush=True)
 
-    def check(self, head, drawn, texts):
-        """Certificates on one algebra, behind a line of the version or none."""
-        block = head + drawn.block().encode()
-        script = block + b"".join(f"check {drawn.name} ".encode() + text + b"\n" for text in texts)
+    def check(self, head, group):
+        """Certificates on the algebras of a group, after a line of the version or none."""
+        pieces = [head]
+        for drawn, certificates in group:
+            texts = [text for _, copies in certificates for text in copies]
+            pieces.append(drawn.block().encode())
+            pieces += [b"check %s %s\n" % (drawn.name.encode(), text) for text in texts]
+        script = b"".join(pieces)
         told, error, status = ran([self.program], script)
         if status:
             self.differ(f"the program ended with {status} {error!r}", script)
             return
         lines = told.split(b"\n")[:-1]
-        python, error, status = ran([sys.executable, "-m", "uacalc", "check"], script)
+        python, error, status = in_python(script)
         if (python, error, status) != (told, b"", 0 if set(lines) == {b"valid"} else 1):
-            self.differ(f"Python tells otherwise, {error.decode()}\n{told.decode()}\n{python.decode()}", script)
+            self.compare_lines(script, lines, python.split(b"\n")[:-1], error)
         for line in lines:
-            self.counts[line.split()[0].decode() + (f" {line.split()[1].decode()}" if line != b"valid" else "")] += 1
-        if self.coq and len(lines) == len(texts):
+            self.counts[line.decode(errors="replace") if line == b"valid" else b" ".join(line.split()[:2]).decode()] += 1
+        if self.coq:
             self.check_coq(script, lines)
+
+    def compare_lines(self, script, lines, others, error):
+        """Tells the certificates of which the two say different things."""
+        texts = [line for line in script.split(b"\n") if line.startswith(b"check")]
+        for text, line, other in zip(texts, lines, others):
+            if line != other:
+                self.differ(f"the program tells {line!r}, Python {other!r}", text)
+        if len(lines) != len(others):
+            self.differ(f"Python tells {len(others)} lines of {len(lines)}, {error!r}", script)
 
     def check_coq(self, script, lines):
         """What the checker in Coq takes, the program takes."""
@@ -129,15 +151,26 @@ class Comparison:
     def refuse(self, script):
         """A script with a damaged block: the same fault, or the same replies."""
         told, error, status = ran([self.program], script)
-        python, python_error, python_status = ran([sys.executable, "-m", "uacalc", "check"], script)
+        python, python_error, python_status = in_python(script)
         self.counts["damaged blocks refused" if status == 5 else "damaged blocks that are blocks"] += 1
-        good = (told, error) == (python, python_error) and (status == 5) == (python_status == 2)
-        if not good:
+        if (told, error) != (python, python_error) or (status == 5) != (python_status == 2):
             self.differ(f"status {status} {told} {error}, Python {python_status} {python} {python_error}", script)
         if self.coq:
             coq_told, _, coq_status = ran([self.coq, "/dev/stdin"], script)
-            if (coq_status != 2) != (status == 0) and coq_status == 0:
+            if status and coq_status != 2:
                 self.differ(f"the checker in Coq takes it: {coq_told}", script)
+
+
+def damaged_scripts(draw, drawn, text):
+    """Scripts with a damaged block, and one with the same block twice."""
+    block = drawn.block().encode()
+    head = b"version 2\n" if drawn.version == 2 or draw.random() < 0.5 else b""
+    line = b"check %s %s\n" % (drawn.name.encode(), text)
+    for _ in range(3):
+        yield damaged_block(draw, head + block) + line
+    if draw.random() < 0.2:
+        yield head + block + damaged_block(draw, block) + line
+        yield head + block + line + block + line
 
 
 def main():
@@ -150,19 +183,14 @@ def main():
     draw = draw_from(options.seed)
     comparison = Comparison(options)
     kinds = collections.Counter()
-    try:
-        for drawn, kind, texts in certificates(options.program, draw, options.certificates):
-            kinds[kind] += 1
-            head = b"version 2\n" if drawn.version == 2 or draw.random() < 0.5 else draw.choice([b"", b"version 1\n"])
-            comparison.check(head, drawn, texts)
-            block = head + drawn.block().encode()
-            line = f"check {drawn.name} ".encode() + texts[0] + b"\n"
-            comparison.refuse(damaged_block(draw, block) + line)
-            if draw.random() < 0.2:
-                comparison.refuse(block + damaged_block(draw, drawn.block().encode()) + line)
-                comparison.refuse(block + line + block + line)
-    except InputFault as fault:
-        sys.exit(f"checkers: {fault}")
+    for group in groups(options.program, draw, options.certificates):
+        kinds.update(kind for _, certificates in group for kind, _ in certificates)
+        first = [pair for pair in group if pair[0].version == 1]
+        for head, part in ((b"", first), (b"version 1\n", first[:3]), (b"version 2\n", group)):
+            comparison.check(head, part)
+        for drawn, certificates in group:
+            for script in damaged_scripts(draw, drawn, certificates[0][1][0]):
+                comparison.refuse(script)
     print("certificates of the program:", ", ".join(f"{kind} {count}" for kind, count in sorted(kinds.items())))
     print("told by the program:", ", ".join(f"{word} {count}" for word, count in sorted(comparison.counts.items())))
     print(f"checkers: {comparison.differences} differences")

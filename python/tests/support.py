@@ -2,6 +2,7 @@
 
 from __future__ import annotations
 
+import io
 import os
 import subprocess
 import sys
@@ -9,8 +10,10 @@ import tempfile
 import unittest
 from pathlib import Path
 from typing import Iterator, List, Tuple
+from unittest import mock
 
 from uacalc import Algebra, Calculator, ProgramError
+from uacalc.__main__ import main
 from uacalc.process import PROGRAM, find_program
 
 PACKAGE = Path(__file__).resolve().parents[1]
@@ -40,13 +43,29 @@ def needs_program(test):  # type: ignore[no-untyped-def]
     return unittest.skipUnless(has_program(), f"there is no program: set {PROGRAM}")(test)
 
 
-def run_tool(words: List[str], source: bytes = b"", cwd: Path = CASES) -> Tuple[bytes, bytes, int]:
-    """Standard output, standard error and status of a tool."""
+def run_process(words: List[str], source: bytes = b"") -> Tuple[bytes, bytes, int]:
+    """Standard output, standard error and status of a tool, run as a process."""
     environment = {**os.environ, "PYTHONPATH": str(PACKAGE)}
     run = subprocess.run(
-        [sys.executable, "-m", "uacalc", *words], input=source, capture_output=True, check=False, env=environment, cwd=cwd
+        [sys.executable, "-m", "uacalc", *words], input=source, capture_output=True, check=False, env=environment
     )
     return run.stdout, run.stderr, run.returncode
+
+
+def run_tool(words: List[str], source: bytes = b"") -> Tuple[bytes, bytes, int]:
+    """The same of a tool that is run here, in the folder of the cases."""
+    streams = [io.TextIOWrapper(io.BytesIO(text), encoding="utf-8", write_through=True) for text in (source, b"", b"")]
+    before = os.getcwd()
+    os.chdir(CASES)
+    try:
+        with mock.patch.multiple(sys, stdin=streams[0], stdout=streams[1], stderr=streams[2]):
+            status = main(words)
+    except SystemExit as end:
+        status = int(end.code or 0)
+    finally:
+        os.chdir(before)
+    out, error = (stream.buffer.getvalue() for stream in streams[1:])  # type: ignore[attr-defined]
+    return out, error, status
 
 
 def examples() -> Iterator[Tuple[str, bytes, bytes]]:

@@ -11,7 +11,7 @@ import unittest
 from uacalc.__main__ import TOOLS
 from uacalc.process import find_program
 
-from .support import CASES, EXAMPLES, MEET, NAMED, examples, needs_program, run_tool
+from .support import CASES, EXAMPLES, MEET, NAMED, examples, needs_program, run_process, run_tool
 from .test_checking import LISTING, MEMBER, OUTSIDE
 
 
@@ -47,6 +47,14 @@ class Cases(unittest.TestCase):
 
 
 class Words(unittest.TestCase):
+    def test_a_tool_is_a_process(self):
+        case = CASES / "gap2script-group.in"
+        wanted = run_tool(["gap2script", *words_of(case)], case.read_bytes())
+        self.assertEqual(run_process(["gap2script", *words_of(case)], case.read_bytes()), wanted)
+        self.assertEqual(run_process(["con2dot"], b"types 0\n")[2], 1)
+        self.assertEqual(run_process(["check"], b"check M {}")[:2], (b"error unknown 1:7\n", b""))
+        self.assertEqual(run_process([])[2], 2)
+
     def test_each_tool_tells_its_words(self):
         for tool in TOOLS:
             out, error, status = run_tool([tool, "--help"])

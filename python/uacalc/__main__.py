@@ -20,7 +20,7 @@ TOOLS = {
 def usage() -> str:
     """The tools, a line for each."""
     lines = [f"  {tool:12} {what}" for tool, what in TOOLS.items()]
-    return "\n".join(["usage: python3 -m uacalc TOOL [WORD ..]; --help behind a tool tells its words", *lines, ""])
+    return "\n".join(["usage: python3 -m uacalc TOOL [WORD ..]; --help after a tool tells its words", *lines, ""])
 
 
 def main(words: Optional[List[str]] = None) -> int:

@@ -228,7 +228,7 @@ class Algebra:
         return "\n".join([*lines, "end", ""])
 
     def script(self) -> str:
-        """The block, behind the line of version 2 where it needs that."""
+        """The block, after the line of version 2 where it needs that."""
         return ("version 2\n" if self.version == 2 else "") + self.block()
 
     def same_signature(self, other: "Algebra") -> bool:

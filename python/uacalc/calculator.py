@@ -24,7 +24,7 @@ def bounded(value: int, what: str, high: int) -> int:
 
 
 def separated(script: Script) -> Tuple[Script, Set[int]]:
-    """The script with a question more behind each `series` whose reply might run on into the next, and their numbers."""
+    """The script with a question more after each `series` whose reply might run on into the next, and their numbers."""
     asked = Script()
     asked._version = script.version
     extra: Set[int] = set()
@@ -120,7 +120,7 @@ class Calculator(Questions):
     def answers_to(self, text: Union[str, bytes], errors: str = "keep", progress: bool = True) -> List[Answer]:
         """The answers to the commands of a script that is written, as `run` tells them; `ScriptFault` where it is none.
 
-        Places are those of the text. Where a `series` with `cg` or `comm` behind it exceeds the budget, which partitions
+        Places are those of the text. Where a `series` with `cg` or `comm` after it exceeds the budget, which partitions
         are its own cannot be told, and `ReplyFault` is raised.
         """
         return self._run(Script.parse(text), latin(text), set(), errors, progress)

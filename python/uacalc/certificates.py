@@ -71,7 +71,7 @@ class Reading:
         return self.listed(value, path, Reading.numbers)
 
     def step(self, value: Any, path: str) -> Step:
-        """A step: a text, and numbers behind it."""
+        """A step: a text, and numbers after it."""
         if type(value) is not list or not value:
             self.shape(path)
         if type(value[0]) is not str:

@@ -40,7 +40,7 @@ class Form:
     can_certify: bool = False
 
     def certified(self) -> Tuple[Operand, ...]:
-        """The operands behind `cert`: no mode is among them."""
+        """The operands after `cert`: no mode is among them."""
         return tuple(operand for operand in self.operands if not isinstance(operand, Mode))
 
 
@@ -140,7 +140,7 @@ class Command:
 
     @property
     def word(self) -> str:
-        """The word of the form, `close` also behind `cert`."""
+        """The word of the form, `close` also after `cert`."""
         return self.form.word
 
     @property

@@ -37,8 +37,8 @@ class Identity:
 class Chain:
     """A kind of chain of terms d_0, .., d_m: d_0 is x, d_m is the last variable.
 
-    Each term satisfies the identities `own`. Behind a term of even index `even` links it to the next: the one at the
-    first pattern is the other at the second; behind one of odd index `odd` does. Rows have a coordinate for each of the
+    Each term satisfies the identities `own`. After a term of even index `even` links it to the next: the one at the
+    first pattern is the other at the second; after one of odd index `odd` does. Rows have a coordinate for each of the
     patterns and each assignment; `by_parity` says whether what is reached at even and at odd indices is told apart.
     """
 

@@ -12,7 +12,7 @@ from typing import IO, Iterator, List, Optional, Union, cast
 from .faults import ProgramError
 
 PROGRAM = "UACALC"  # the variable of the environment that names the program
-MOMENT = 0.5  # seconds that a program gets to end behind its last line
+MOMENT = 0.5  # seconds that a program gets to end after its last line
 BUILT = Path(__file__).resolve().parents[2] / "crates" / "uacalc" / "out" / "uacalc"
 
 

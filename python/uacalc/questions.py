@@ -164,7 +164,7 @@ class Questions:
     def interpolate(self, algebra: Algebra, arity: int, points: Iterable[Elements], polynomial: bool = False) -> Membership:
         """Whether some operation of terms, or of polynomials, has given values at given arguments.
 
-        Each point is the arguments and the value behind them; the arguments differ.
+        Each point is the arguments and the value after them; the arguments differ.
         """
         return self.ask("clone", algebra, arity, "polynomial" if polynomial else "term", ("partial", list(points)))
 
@@ -251,7 +251,7 @@ class Questions:
     def certify_clone(self, algebra: Algebra, arity: int, values: Elements, polynomial: bool = False) -> Certified:
         """A certificate that an operation is one of terms, or of polynomials, or that it is not, by `cert member`.
 
-        The generators are the projections, and for polynomials the constants behind them; the target is the values.
+        The generators are the projections, and for polynomials the constants after them; the target is the values.
         """
         return self.certify_member(algebra, *of_clone(algebra, arity, values, polynomial))
 

@@ -38,7 +38,7 @@ class Replies:
     """The answers to the commands of a script, in their order, read from the lines of its replies as they come.
 
     An answer is an object of this package, or a `CommandError` that is not raised. What is not the replies to this script
-    raises `ReplyFault`; so does what is cut, or stands behind them. `text` is the script's text, where it is not the one
+    raises `ReplyFault`; so does what is cut, or stands after them. `text` is the script's text, where it is not the one
     that the script writes, and `budget` the one that the program was given, where it is known.
     """
 
@@ -61,7 +61,7 @@ class Replies:
                 yield self._answer(item, next(followers))
         if self.lines.peek() is not None:
             self.lines.take("nothing")
-            self.lines.fault("nothing may stand behind the last reply")
+            self.lines.fault("nothing may stand after the last reply")
 
     def _put(self, algebra: Algebra) -> None:
         self._algebras[algebra.name] = algebra

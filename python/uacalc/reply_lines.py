@@ -27,9 +27,9 @@ class Lines:
         self.number = 0
         self.last = ""
 
-    def fault(self, message: str, behind: Optional[str] = None) -> NoReturn:
-        """The line that was taken last is not what it should be, at its beginning or where its end `behind` begins."""
-        column = 1 if behind is None else len(self.last) - len(behind) + 1
+    def fault(self, message: str, rest: Optional[str] = None) -> NoReturn:
+        """The line that was taken last is not what it should be, at its beginning or where its end `rest` begins."""
+        column = 1 if rest is None else len(self.last) - len(rest) + 1
         raise ReplyFault(message, Place(max(self.number, 1), column))
 
     def peek(self) -> Optional[str]:
@@ -83,12 +83,12 @@ class Scope:
         """A generator, or an operation at numbers below a bound; the text is the end of the line."""
         name, *words = text.split(" ")
         for number, word in enumerate(words):
-            behind = " ".join(words[number:])
+            rest = " ".join(words[number:])
             if not NUMBER.fullmatch(word):
-                lines.fault(f"a number is needed, and {word} is none", behind)
+                lines.fault(f"a number is needed, and {word} is none", rest)
             bound = generators if name == "gen" else below
             if bound is not None and int(word) >= bound:
-                lines.fault(f"{word} names {'no generator' if name == 'gen' else 'no earlier step'}", behind)
+                lines.fault(f"{word} names {'no generator' if name == 'gen' else 'no earlier step'}", rest)
         if len(words) != self._arity(lines, name, len(words), text):
             before = "before" if self.algebra is None else "is its arity"
             lines.fault(f"{name} has {len(words)} arguments here, and {self._arities.get(name, 1)} {before}", text)
@@ -105,7 +105,7 @@ class Scope:
 
 
 def count_in(lines: Lines, text: str, head: str) -> Optional[int]:
-    """The number behind these words, where the line is these words and a number."""
+    """The number after these words, where the line is these words and a number."""
     front, _, number = text.rpartition(" ")
     return int(number) if front == head and NUMBER.fullmatch(number) else None
 
@@ -187,7 +187,7 @@ def read_pair(lines: Lines, text: str, below: int) -> Tuple[int, int]:
 
 
 def read_tail(lines: Lines, head: str, below: int) -> Tuple[int, ...]:
-    """The numbers below a bound behind some words, ascending."""
+    """The numbers below a bound after some words, ascending."""
     line = lines.take(f"`{head}`")
     words = line[len(head) :].split(" ")[1:] if line != head else []
     if not line.startswith(head) or (line != head and not line.startswith(head + " ")):

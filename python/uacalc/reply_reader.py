@@ -88,7 +88,7 @@ class ReplyReader:
         return self.algebra.size if self.algebra else None
 
     def count(self, line: str, head: str) -> Optional[int]:
-        """The number behind these words."""
+        """The number after these words."""
         return count_in(self.lines, line, head)
 
     def budget(self, line: str) -> Optional[int]:
@@ -108,7 +108,7 @@ class ReplyReader:
         return read_steps(self.lines, self.scope, count, generators)
 
     def exceeded(self, budget: int) -> answers.Exceeds:
-        """The rows behind an `exceeds`."""
+        """The rows after an `exceeds`."""
         return answers.Exceeds(budget, answers.Rows(self.algebra, self.rows(budget + 1)))
 
     def no(self, what: str) -> Any:

@@ -148,7 +148,7 @@ class Script:
     def add(self, algebra: Algebra) -> str:
         """Puts the block of an algebra, unless it stands there; answers the name that it has in this script.
 
-        That is its own name, or, where another algebra has that, the same with a number behind it.
+        That is its own name, or, where another algebra has that, the same with a number after it.
         """
         name = algebra.name
         number = 0

@@ -274,7 +274,7 @@ class Steps(Sequence[Step]):
         return self._terms[index]
 
     def text(self) -> str:
-        """The lines of the steps, each behind its number."""
+        """The lines of the steps, each after its number."""
         return "".join(f"{index} {step}\n" for index, step in enumerate(self._steps))
 
     def __str__(self) -> str:

@@ -37,7 +37,7 @@ def latin(text: Text) -> str:
 class Tokens:
     """The tokens of a text, taken one after another.
 
-    `kind` is that of the next token: `word`, `number`, `mark`, `json`, `bad`, or `end` behind the last one; `text` is
+    `kind` is that of the next token: `word`, `number`, `mark`, `json`, `bad`, or `end` after the last one; `text` is
     the token, and `start` the number of bytes before it.
     """
 

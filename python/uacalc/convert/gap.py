@@ -1,7 +1,7 @@
 """Tables as GAP prints them, with entries from 1.
 
 A table is a list of lists as deep as the operation has arguments: a number is a constant, a list of numbers an operation
-of one argument, a list of such lists one of two. Several tables stand one behind another. A table may stand in an
+of one argument, a list of such lists one of two. Several tables stand one after another. A table may stand in an
 assignment, `mul := [ [ 1, 2 ], [ 2, 1 ] ];`, which names it. A list of texts, `[ "e", "a" ]`, has the names of the
 elements. Ranges, `[ 1 .. 4 ]` and `[ 1, 3 .. 7 ]`, and comments from `#` on are read.
 """
@@ -101,7 +101,7 @@ def entry(tokens: Tokens, depth: int = 0) -> Entry:
 
 
 def rest_of_range(tokens: Tokens, entries: List[Entry]) -> List[Entry]:
-    """What `[ 1 .. 4 ]` and `[ 1, 3 .. 7 ]` have behind the numbers that are written."""
+    """What `[ 1 .. 4 ]` and `[ 1, 3 .. 7 ]` have after the numbers that are written."""
     start = tokens.start()
     written = [first.value for first in entries if isinstance(first.value, int)]
     if not 1 <= len(entries) <= 2 or len(written) != len(entries):

@@ -190,7 +190,7 @@ def models(source: str) -> List[Model]:
 
 
 def read_mace4(text: Text, name: str = "A") -> List[Algebra]:
-    """The algebras of the models; several have the name with 0, 1, .. behind it. `InputFault` where there is none."""
+    """The algebras of the models; several have the name with 0, 1, .. after it. `InputFault` where there is none."""
     found = placed(text, models)
     names = [name] if len(found) == 1 else [f"{name}{index}" for index in range(len(found))]
     return [model.algebra(word) for word, model in zip(names, found)]

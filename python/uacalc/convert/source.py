@@ -30,7 +30,7 @@ def placed(text: Text, read: Callable[[str], T]) -> T:
 
 
 def script_of(algebras: Iterable[Algebra]) -> str:
-    """The blocks of algebras, behind the line of version 2 where one needs it."""
+    """The blocks of algebras, after the line of version 2 where one needs it."""
     found = list(algebras)
     line = "version 2\n" if any(algebra.version == 2 for algebra in found) else ""
     return line + "".join(algebra.block() for algebra in found)

@@ -8,7 +8,7 @@ than the program takes. The status is 0 where all are valid, 1 where one is not,
 from __future__ import annotations
 
 import sys
-from typing import Dict, List
+from typing import Dict, List, Tuple
 
 from ..algebra import Algebra
 from ..checking import check_text
@@ -18,29 +18,43 @@ from ..tokens import latin
 from .common import parser_of, read_input, write_output
 
 
-def run(words: List[str]) -> int:
-    """Runs the tool, and answers its status."""
-    parser_of("check", __doc__).parse_args(words)
-    text = read_input()
-    try:
-        script = Script.parse(text)
-    except ScriptFault as fault:
-        sys.stderr.write(f"{fault}\n")
-        return 2
-    other = next((command for command in script.commands if command.word != "check"), None)
-    if other is not None or not script.commands:
-        place = other.places[0] if other else place_of(latin(text), len(text))
-        sys.stderr.write(f"{place} only blocks and `check` may stand here, and at least one `check`\n")
-        return 2
+def verdicts(script: Script) -> Tuple[List[str], bool]:
+    """What is told of each certificate, and whether all are valid."""
     algebras: Dict[str, Algebra] = {}
+    told = []
     are_valid = True
     for item in script.items:
         if isinstance(item, Algebra):
             algebras[item.name] = item
             continue
         name, json = item.values
-        known = name in algebras
-        verdict = check_text(algebras[name], json.encode("latin-1")) if known else f"error unknown {item.places[0]}"
-        are_valid = are_valid and known and bool(verdict)
-        write_output(f"{verdict}\n")
-    return 0 if are_valid else 1
+        if name in algebras:
+            verdict = check_text(algebras[name], json.encode("latin-1"))
+            told.append(str(verdict))
+        else:
+            told.append(f"error unknown {item.places[0]}")
+        are_valid = are_valid and name in algebras and bool(verdict)
+    return told, are_valid
+
+
+def checked(text: bytes) -> Tuple[str, str, int]:
+    """What is to be printed, what is to be said on standard error, and the status."""
+    try:
+        script = Script.parse(text)
+    except ScriptFault as fault:
+        return "", f"{fault}\n", 2
+    other = next((command for command in script.commands if command.word != "check"), None)
+    if other is not None or not script.commands:
+        place = other.places[0] if other else place_of(latin(text), len(text))
+        return "", f"{place} only blocks and `check` may stand here, and at least one `check`\n", 2
+    told, are_valid = verdicts(script)
+    return "".join(f"{line}\n" for line in told), "", 0 if are_valid else 1
+
+
+def run(words: List[str]) -> int:
+    """Runs the tool, and answers its status."""
+    parser_of("check", __doc__).parse_args(words)
+    told, fault, status = checked(read_input())
+    write_output(told)
+    sys.stderr.write(fault)
+    return status

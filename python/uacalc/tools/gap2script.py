@@ -1,6 +1,6 @@
 """Turns tables as GAP prints them, with entries from 1, into a block: gap2script [ALGEBRA [OPERATION ..]] < TABLES
 
-The words behind the algebra's name name the tables in order; a table without a name is f0, f1, .. by its place. A list of
+The words after the algebra's name name the tables in order; a table without a name is f0, f1, .. by its place. A list of
 texts, `[ "e", "a" ]`, has the names of the elements; the block is then one of version 2, whose line stands before it.
 """
 

@@ -1,6 +1,6 @@
 """Turns models as Mace4 prints them into blocks: mace2script [ALGEBRA] < MODELS
 
-One model has the algebra's name; several have this name with 0, 1, .. behind it. A function whose symbol is no name of an
+One model has the algebra's name; several have this name with 0, 1, .. after it. A function whose symbol is no name of an
 operation gets another name, and a comment says which. Relations are left out, and a comment says so.
 """
 
