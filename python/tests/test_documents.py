@@ -8,6 +8,7 @@ import subprocess
 import sys
 import unittest
 
+from uacalc import __version__
 from uacalc.process import find_program
 
 from .support import PACKAGE, ROOT, needs_program
@@ -28,6 +29,9 @@ class Documents(unittest.TestCase):
             with self.subTest(code=code), contextlib.redirect_stdout(printed):
                 exec(compile(code, "docs/PYTHON.md", "exec"), names)
             self.assertEqual(printed.getvalue(), wanted)
+
+    def test_the_version_is_that_of_the_repository(self):
+        self.assertEqual(__version__, (ROOT / "VERSION").read_text(encoding="utf-8").strip())
 
     def test_links(self):
         for page in [*(ROOT / "docs").glob("*.md"), ROOT / "README.md", ROOT / "checker" / "README.md"]:
