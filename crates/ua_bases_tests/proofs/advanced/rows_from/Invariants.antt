@@ -2,4 +2,4 @@ use Rattle.ua_bases.specs.Steps.{AreRowsIn}
 use Rattle.ua_bases_tests.proofs.advanced.rows_from.Given as goal
 
 abbrev pub invariant-loop-k : goal.invariant-loop-k
-invariant-loop-k l = AreRowsIn l.frame l.rows
+invariant-loop-k g l = AreRowsIn l.frame l.rows
