@@ -107,7 +107,7 @@ class Algebra:
             if not lists and not names:
                 raise InputFault("there is no list, so the number of elements is not known", name)
             size = len(lists[0]) if lists else len(names)
-        numbers = {word: number for number, word in enumerate(names)}
+        numbers: Dict[Entry, int] = {word: number for number, word in enumerate(names)}
         operations = {}
         for word, table in tables.items():
             operation = operation_of(word, table, size)
@@ -237,7 +237,7 @@ class Algebra:
             (name, op.arity) for name, op in other.operations.items()
         ]
 
-    def _key(self) -> tuple:
+    def _key(self) -> Tuple[Any, ...]:
         return (self.size, tuple(self.operations.items()), self.names)
 
     def __eq__(self, other: object) -> bool:

@@ -54,7 +54,7 @@ class Reading:
             self.range = self.range or path
         return value
 
-    def listed(self, value: Any, path: str, read: Reader, first: int = 0) -> tuple:
+    def listed(self, value: Any, path: str, read: Reader, first: int = 0) -> Tuple[Any, ...]:
         """The items of a list, of which the first has this number."""
         if type(value) is not list:
             self.shape(path)
@@ -192,7 +192,7 @@ class Certificate:
         return check(algebra, self)
 
 
-class Object(dict):
+class Object(Dict[str, Any]):
     """An object of JSON; `depth` is how many arrays and objects stand in one another, with keys that stand twice."""
 
     depth = 1

@@ -2,7 +2,7 @@
 
 from __future__ import annotations
 
-from typing import NamedTuple, Optional, Tuple, Union
+from typing import Any, NamedTuple, Optional, Sequence, Tuple, Union
 
 
 class Place(NamedTuple):
@@ -115,10 +115,10 @@ class ProgramError(UacalcError):
 class TimeLimit(UacalcError):
     """The program was ended because its time was over. `answers` are those that were whole by then."""
 
-    def __init__(self, seconds: float, answers: list):
+    def __init__(self, seconds: float, answers: Sequence[Any]):
         super().__init__(f"no end after {seconds} seconds, with {len(answers)} answers")
         self.seconds = seconds
-        self.answers = answers
+        self.answers = list(answers)
 
 
 class Undecided(UacalcError):

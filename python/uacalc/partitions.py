@@ -3,7 +3,7 @@
 from __future__ import annotations
 
 import re
-from typing import Iterable, Iterator, List, Sequence, Tuple, Union
+from typing import Dict, Iterable, Iterator, List, Sequence, Set, Tuple, Union
 
 from .faults import InputFault
 
@@ -41,7 +41,7 @@ class Partition:
     @classmethod
     def from_labels(cls, labels: Sequence[object]) -> "Partition":
         """Elements are in one block where their labels are equal."""
-        blocks: dict = {}
+        blocks: Dict[object, List[int]] = {}
         for element, label in enumerate(labels):
             blocks.setdefault(label, []).append(element)
         return cls(blocks.values())
@@ -87,10 +87,10 @@ class Partition:
         return Partition.from_labels(list(zip(self.labels, other.labels)))
 
     def __or__(self, other: "Partition") -> "Partition":
-        joined: List[set] = [set(block) for block in self.blocks]
+        joined: List[Set[int]] = [set(block) for block in self.blocks]
         for block in other.blocks:
             touched = [part for part in joined if not part.isdisjoint(block)]
-            joined = [part for part in joined if part.isdisjoint(block)] + [set().union(*touched)]
+            joined = [part for part in joined if part.isdisjoint(block)] + [set(block).union(*touched)]
         return Partition(joined)
 
     def __str__(self) -> str:

@@ -267,10 +267,11 @@ class ReplyReader:
         found = TYPED.fullmatch(self.lines.take("a type"))
         if found is None:
             return self.no("`type T` with a number from 1 to 5, or `exceeds`,")
-        lower, upper, number, first, second = (None if word is None else int(word) for word in found.groups())
-        if lower >= upper or (self.size is not None and first is not None and max(first, second) >= self.size):
+        lower, upper = int(found[1]), int(found[2])
+        number, pair = (int(found[3]), (int(found[4]), int(found[5]))) if found[3] is not None else (None, None)
+        if lower >= upper or (self.size is not None and pair is not None and max(pair) >= self.size):
             self.lines.fault("a cover and a pair of elements are needed")
-        return TypedCover(lower, upper, number, None if first is None else (first, second))
+        return TypedCover(lower, upper, number, pair)
 
     def centrality(self, line: str) -> Union[answers.Central, answers.NotCentral, answers.Exceeds]:
         """Of `central`: that it centralizes, or a matrix."""

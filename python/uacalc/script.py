@@ -2,7 +2,7 @@
 
 from __future__ import annotations
 
-from typing import Any, Dict, Iterator, List, Optional, Tuple, Union
+from typing import Any, Dict, Iterator, List, Optional, Set, Tuple, Union
 
 from .algebra import Algebra, Operation
 from .commands import FORMS, Command
@@ -20,7 +20,7 @@ class Reader:
     def __init__(self, text: Text):
         self.tokens = Tokens(text)
         self.version = 1
-        self.taken: set = set()
+        self.taken: Set[str] = set()
         self.items: List[Item] = []
 
     def read(self) -> None:

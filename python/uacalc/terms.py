@@ -65,7 +65,11 @@ class Term:
 
     def depth(self) -> int:
         """The number of parentheses that are open at once in the text."""
-        return self.fold(lambda node, depths: 1 + max(depths) if depths else 0)
+
+        def deeper(_: Term, depths: List[int]) -> int:
+            return 1 + max(depths) if depths else 0
+
+        return self.fold(deeper)
 
     def text(self, limit: int = LONGEST) -> str:
         """The term as `eval` reads it, `meet(x0, x1)`; `InputFault` where it has more characters than the limit."""

@@ -3,7 +3,7 @@
 from __future__ import annotations
 
 import re
-from typing import NoReturn, Optional, Tuple, Union
+from typing import List, NoReturn, Optional, Tuple, Union
 
 from .faults import Place, ScriptFault, place_of
 from .limits import NUMBER_DIGITS, WORD_BYTES
@@ -113,7 +113,7 @@ class Tokens:
             self.fault("word")
         return self.take()
 
-    def numbers(self, count: int, below: int) -> list:
+    def numbers(self, count: int, below: int) -> List[int]:
         """Takes up to so many plain numbers below a bound: quickly, and fewer where something else stands among them."""
         run = NUMBERS.match(self.source, self.start)
         limit = min(run.end(), self.start + (NUMBER_DIGITS + 1) * count)  # type: ignore[union-attr]
