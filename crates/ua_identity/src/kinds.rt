@@ -177,7 +177,7 @@ impl Kind {
         self.own
     }
 
-    /// What each term's vector has at that pattern. It is empty where there is none.
+    /// What each term's vector has at that pattern, if there is one.
     pub fn own_values(&self, alloc: Global, size: u32) -> Result<Vec<Elem>, AllocError>
         requires some { 0 < size }
         requires small { size ≤ SIZE }
