@@ -1,5 +1,6 @@
 -- The commands `cond` and `nu`: where their operands fail, and what they are answered.
 use Rattle.std.specs.Prelude.{ℕ, nat_le, ◌&&◌, List}
+use Rattle.ua_identity.specs.declared.limits.TheConstants.{PLACES, NEAR_UNANIMITY}
 use Rattle.ua_identity.specs.Conditions.{TermCondition, maltsev, majority, minority, pixley, near_unanimity}
 use Rattle.ua_cond.specs.Permitted.{MayDecide}
 use Rattle.ua_text.specs.declared.named.Block.{Block}
@@ -19,9 +20,9 @@ condition_of Majority = majority
 condition_of Minority = minority
 condition_of Pixley = pixley
 
--- nu NAME K: from 3 to 16 variables
+-- nu NAME K: as many variables as a near-unanimity term may have
 abbrev pub nu_checks : Number → Checks
-nu_checks k = range_at (unless (nat_le 3 k.value && nat_le k.value 16) k.place)
+nu_checks k = range_at (unless (nat_le NEAR_UNANIMITY k.value && nat_le k.value PLACES) k.place)
 
 -- steps of a term that meets the condition, or the rows where there is none
 abbrev pub ConditionAnswer : Block → Bounds → TermCondition → List ℕ → Type 0

@@ -12,6 +12,7 @@ use std::thread::Threads;
 use ua_close::{Answer, CloseError};
 use ua_cond::decide;
 use ua_identity::Condition;
+use ua_identity::limits::{NEAR_UNANIMITY, PLACES};
 use ua_reply::{Context, FirstErrors, Known, Refusal, member_reply, refusal_reply};
 use ua_script::{CondWord, Number, Word};
 use ua_table::Gate;
@@ -61,12 +62,12 @@ pub fn answer_cond<R: Threads + Sync, G: Gate>(
     member_reply(context.alloc, known, context.run.budget, &answer)
 }
 
-/// Whether there are 3 to 16 variables.
+/// Whether there are as many variables as a near-unanimity term may have.
 pub fn variables_of(k: Number) -> FirstErrors
     ensures { AreFirst (nu_checks k) result }
 {
     let mut errors = FirstErrors::none();
-    if k.value < 3 || k.value > 16 {
+    if k.value < u32::from(NEAR_UNANIMITY) || k.value > u32::from(PLACES) {
         errors.range = Some(k.place);
     }
     errors

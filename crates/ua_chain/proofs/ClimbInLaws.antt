@@ -17,7 +17,7 @@ use Rattle.ua_table.specs.Orders.{IsSerialListing}
 use Rattle.ua_table.proofs.Lists.{mapped_at, found, all_from_contains, all_from_places}
 use Rattle.ua_term.specs.Steps.{StepList}
 use Rattle.ua_walk.specs.declared.ladders.Climb.{Climb}
-use Rattle.ua_walk.specs.Sequences.{BeginsWith, EndsWith}
+use Rattle.ua_table.specs.Sequences.{BeginsWith, EndsWith}
 use Rattle.ua_walk.specs.Ladders.{LinkLists, IsAllowed, IsLeastClimb, HasNoClimb}
 use Rattle.ua_walk.specs.Climbs.{TellsClimb}
 use Rattle.ua_walk.proofs.ClimbLaws.{marked_low}

@@ -9,7 +9,7 @@ use Rattle.ua_table.specs.Listings.{Row, vectors_of, IsClosedListing, IsExceedin
 use Rattle.ua_table.specs.Orders.{IsSerialListing}
 use Rattle.ua_term.specs.Steps.{StepList, AreSteps, step_term}
 use Rattle.ua_close.specs.Needed.{AreStepsFor}
-use Rattle.ua_walk.specs.Sequences.{BeginsWith, EndsWith}
+use Rattle.ua_table.specs.Sequences.{BeginsWith, EndsWith}
 use Rattle.ua_identity.specs.Chains.{ChainKind, IsChain, IsLeastChain, power_of, generators_of, AreReached}
 use Rattle.ua_chain.specs.declared.chains.Chain.{Chain}
 use Rattle.ua_chain.specs.declared.chains.Chain.TheVariants.{Yes, No, Exceeds}

@@ -14,7 +14,7 @@ use Rattle.ua_table.specs.Terms.{Tree, IsTerm}
 use Rattle.ua_table.specs.Refusals.{refusal_if, first_refusal}
 use Rattle.ua_table.proofs.Lists.{all_from_places}
 use Rattle.ua_table.proofs.RefusalLemmas.{passed}
-use Rattle.ua_walk.specs.Sequences.{Alternates, BeginsWith, EndsWith}
+use Rattle.ua_table.specs.Sequences.{Alternates, BeginsWith, EndsWith}
 use Rattle.ua_identity.specs.Chains.{ChainKind, AreLinked, IsOwn, IsPlace, IsChain}
 use Rattle.ua_identity.specs.Patterns.{all_fillings}
 use Rattle.ua_cert.specs.declared.certs.CertStep.{CertStep}

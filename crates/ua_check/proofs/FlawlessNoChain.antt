@@ -13,7 +13,7 @@ use Rattle.ua_table.specs.Generated.{Sg}
 use Rattle.ua_table.specs.Refusals.{refusal_if}
 use Rattle.ua_table.proofs.Lists.{found, Contains-slice_get, all_at}
 use Rattle.ua_table.proofs.RefusalLemmas.{refusal_if-false}
-use Rattle.ua_walk.specs.Sequences.{Alternates, EndsWith, ends_even}
+use Rattle.ua_table.specs.Sequences.{Alternates, EndsWith, ends_even}
 use Rattle.ua_identity.specs.Chains.{AreLinked, IsOwn, IsPlace, IsBeginning, IsChain, is_among_even, IsReached, generators_of, AreReached}
 use Rattle.ua_identity.specs.Patterns.{all_fillings, vector_of}
 use Rattle.ua_cert.specs.declared.certs.ChainName.{ChainName}

@@ -18,7 +18,7 @@ use Rattle.ua_table.proofs.RefusalLemmas.{passed, refusal_if-false}
 use Rattle.ua_term.specs.Steps.{AreSteps}
 use Rattle.ua_term.specs.Assignments.{assignments}
 use Rattle.ua_term.proofs.AssignmentLaws.{assignment_from, read_all}
-use Rattle.ua_walk.specs.Sequences.{Alternates, BeginsWith, EndsWith}
+use Rattle.ua_table.specs.Sequences.{Alternates, BeginsWith, EndsWith}
 use Rattle.ua_identity.specs.Identities.{TermIdentity, at_pattern, Satisfies}
 use Rattle.ua_identity.specs.Conditions.{Meets}
 use Rattle.ua_identity.specs.Chains.{ChainKind, Link, AreLinked, IsOwn, IsPlace, IsChain}

@@ -11,7 +11,7 @@ use Rattle.ua_table.specs.declared.limits.TheConstants.{WIDTH}
 use Rattle.ua_table.specs.Refusals.{refusal_if}
 use Rattle.ua_table.specs.Generated.{Sg}
 use Rattle.ua_table.proofs.Lists.{found}
-use Rattle.ua_walk.specs.Sequences.{Alternates, EndsWith}
+use Rattle.ua_table.specs.Sequences.{Alternates, EndsWith}
 use Rattle.ua_identity.specs.Identities.{xyx, xxy, xyy}
 use Rattle.ua_identity.specs.Chains.{Link, AreLinked, IsOwn, IsPlace, generators_of}
 use Rattle.ua_identity.specs.Patterns.{all_fillings, vector_of}

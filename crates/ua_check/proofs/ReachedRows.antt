@@ -9,7 +9,7 @@ use Rattle.ua_table.specs.Algebras.{Vector, FiniteAlgebra, arities_of}
 use Rattle.ua_table.specs.Terms.{Tree, Generator, IsTerm, eval}
 use Rattle.ua_table.proofs.Lists.{found, Contains-head, Contains-tail, Contains-cases, Contains-none, All-slice_get, all_append}
 use Rattle.ua_table.proofs.RefusalLemmas.{refusal_if-false}
-use Rattle.ua_walk.specs.Sequences.{Alternates, BeginsWith, EndsWith, ends_even}
+use Rattle.ua_table.specs.Sequences.{Alternates, BeginsWith, EndsWith, ends_even}
 use Rattle.ua_identity.specs.Identities.{xxy, xyx, xyy}
 use Rattle.ua_identity.specs.Chains.{AreLinked, IsOwn, IsPlace, is_among_even, IsReached, AreReached}
 use Rattle.ua_identity.specs.Patterns.{vector_of}

@@ -8,7 +8,7 @@ use Rattle.ua_table.specs.Terms.{Tree, IsTerm}
 use Rattle.ua_table.specs.Refusals.{refusal_if, first_refusal}
 use Rattle.ua_term.specs.Steps.{AreSteps}
 use Rattle.ua_term.specs.Assignments.{assignments}
-use Rattle.ua_identity.specs.declared.limits.TheConstants.{PLACES}
+use Rattle.ua_identity.specs.declared.limits.TheConstants.{PLACES, NEAR_UNANIMITY}
 use Rattle.ua_identity.specs.Identities.{TermIdentity, at_pattern}
 use Rattle.ua_identity.specs.Conditions.{TermCondition, Meets, IsMet, maltsev, majority, minority, pixley, near_unanimity}
 use Rattle.ua_identity.specs.Patterns.{condition_power, argument_vectors, value_vector}
@@ -29,9 +29,9 @@ condition_of Minority k = minority
 condition_of Pixley k = pixley
 condition_of Nu k = near_unanimity k
 
--- a near-unanimity term has 3 places or more, within the limit, and the others have 3
+-- a near-unanimity term has places within its limits, and the others have 3
 abbrev pub has_places : CondName → ℕ → Bool
-has_places Nu k = nat_le 3 k && nat_le k PLACES
+has_places Nu k = nat_le NEAR_UNANIMITY k && nat_le k PLACES
 has_places Maltsev k = k == 3
 has_places Majority k = k == 3
 has_places Minority k = k == 3

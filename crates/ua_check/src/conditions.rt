@@ -22,7 +22,7 @@ use ua_flaws::outside::outside;
 use ua_flaws::steps::read_steps;
 use ua_flaws::vectors::vectors;
 use ua_flaws::{CheckError, Flaw, ListName};
-use ua_identity::limits::PLACES;
+use ua_identity::limits::{NEAR_UNANIMITY, PLACES};
 use ua_identity::{Condition, laws};
 use ua_table::limits::WIDTH;
 use ua_table::{Algebra, Elem, Listed, Origin, Vectors};
@@ -32,7 +32,7 @@ fn has_places(name: CondName, k: u32) -> bool
     ensures { result ≡ conditions.has_places name k }
 {
     match name {
-        CondName::Nu => k >= 3 && k <= u32::from(PLACES),
+        CondName::Nu => k >= u32::from(NEAR_UNANIMITY) && k <= u32::from(PLACES),
         CondName::Maltsev | CondName::Majority | CondName::Minority | CondName::Pixley => k == 3,
     }
 }

@@ -4,7 +4,7 @@ use Rattle.std.specs.List.{AllByRecursion}
 use Rattle.ua_table.specs.Algebras.{Vector, FiniteAlgebra, Product, arities_of}
 use Rattle.ua_table.specs.Terms.{Tree, IsTerm, eval}
 use Rattle.ua_term.specs.Assignments.{IsAssignment}
-use Rattle.ua_walk.specs.Sequences.{Alternates, BeginsWith, EndsWith, ends_even}
+use Rattle.ua_table.specs.Sequences.{Alternates, BeginsWith, EndsWith, ends_even}
 use Rattle.ua_identity.specs.Identities.{VariablePattern, TermIdentity, at_pattern, Satisfies}
 use Rattle.ua_identity.specs.Patterns.{vector_of, power, generators}
 

@@ -2,7 +2,7 @@
 
 ghost use Rattle.std.specs.Prelude.{◌≡◌, ◌<◌, ◌≤◌, ◌↔◌, length, IsSome, IfSome, IfOk, IsTrue};
 ghost use Rattle.std.specs.List.{AllByRecursion};
-ghost use Rattle.ua_identity.specs.declared.limits.TheConstants.{PLACES};
+ghost use Rattle.ua_identity.specs.declared.limits.TheConstants.{NEAR_UNANIMITY, PLACES};
 ghost use Rattle.ua_identity.specs.Identities.{TermIdentity, over_two};
 ghost use Rattle.ua_identity.specs.Conditions.{IsIdentity, IsCondition, near_unanimous};
 ghost use Rattle.ua_identity.specs.Conditions as conditions;
@@ -147,7 +147,7 @@ impl Condition {
     /// A. Baker and A. F. Pixley, Polynomial interpolation and the Chinese remainder theorem for algebraic
     /// systems, 1975).
     pub fn nu(alloc: Global, k: u8) -> Result<Condition, AllocError>
-        requires some { 3 ≤ k }
+        requires some { NEAR_UNANIMITY ≤ k }
         requires small { k ≤ PLACES }
         ensures { IfOk result (λ c. c ≡ conditions.near_unanimity k) }
     {

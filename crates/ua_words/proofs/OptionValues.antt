@@ -12,7 +12,7 @@ use Rattle.clap.specs.declared.error.kind.ErrorKind.{ErrorKind}
 use Rattle.clap.specs.declared.error.kind.ErrorKind.TheVariants as kind
 use Rattle.clap.specs.declared.parser.matches.Found.{Found}
 use Rattle.clap.proofs.WalkLemmas.{first_value-rows, list_any-map}
-use Rattle.ua_table.specs.declared.limits.TheConstants.{BUDGET, WORKERS}
+use Rattle.ua_table.specs.declared.limits.TheConstants.{BUDGET, POOL, WORKERS}
 use Rattle.ua_words.specs.declared.words.TheConstants.{USUAL_WORKERS, USUAL_BUDGET, USUAL_JOBS}
 use Rattle.ua_words.specs.declared.words.Settings.{Settings}
 use Rattle.ua_words.specs.declared.words.Values.{Values}
@@ -83,7 +83,7 @@ record AskFor (choices : List Choice) : Type 0 where
   budget : ℕ
   is_budget : IsNumber USUAL_BUDGET BUDGET (value_of Budget choices) budget
   jobs : ℕ
-  is_jobs : IsNumber USUAL_JOBS WORKERS (value_of Jobs choices) jobs
+  is_jobs : IsNumber USUAL_JOBS POOL (value_of Jobs choices) jobs
   seed : Option ℕ
   is_seed : IsSeed (value_of Generate choices) seed
 
@@ -123,9 +123,9 @@ plain_choices (c ∷ choices) once asked = by_name c.name refl (plain_choices ch
           }),
         )
     by_name Jobs e rest =
-        let own : IsNumber USUAL_JOBS WORKERS (Some c.value) asked.jobs = rw e at asked.is_jobs in
+        let own : IsNumber USUAL_JOBS POOL (Some c.value) asked.jobs = rw e at asked.is_jobs in
         let none : value_of Jobs choices ≡ None = rw e at once.0 in (
-          number_plain USUAL_JOBS WORKERS c.value asked.jobs (lit< tt) own,
+          number_plain USUAL_JOBS POOL c.value asked.jobs (lit< tt) own,
           rest (record {
             workers = asked.workers;
             is_workers = rw e at asked.is_workers;
@@ -189,20 +189,20 @@ no_budget words found values kept some none a =
     none a.settings.budget (rw v.budget a.asked.budget)
 
 pub no_jobs : (words : List Text) (found : Option Values) (values : Values) → KeepsValues words found → found ≡ Some values
-    → ((n : ℕ) → IsNumber USUAL_JOBS WORKERS (option_map (λ text. text.now) values.jobs) n → ⊥) → AreAccepted words → ⊥
+    → ((n : ℕ) → IsNumber USUAL_JOBS POOL (option_map (λ text. text.now) values.jobs) n → ⊥) → AreAccepted words → ⊥
 no_jobs words found values kept some none a =
     let v = kept_values words found values kept some a in
     none a.settings.jobs (rw v.jobs a.asked.jobs)
 
 -- the numbers that the values write are those of every reading
 pub too_many : (words : List Text) (found : Option Values) (values : Values) (workers jobs : ℕ) → KeepsValues words found → found ≡ Some values
-    → IsNumber USUAL_WORKERS WORKERS (option_map (λ text. text.now) values.workers) workers → IsNumber USUAL_JOBS WORKERS (option_map (λ text. text.now) values.jobs) jobs
+    → IsNumber USUAL_WORKERS WORKERS (option_map (λ text. text.now) values.workers) workers → IsNumber USUAL_JOBS POOL (option_map (λ text. text.now) values.jobs) jobs
     → WORKERS < jobs * workers → AreAccepted words → ⊥
 too_many words found values workers jobs kept some w j many a =
     let v = kept_values words found values kept some a in
     let choices = a.asked.choices in
     let own = same_number USUAL_WORKERS WORKERS (value_of Workers choices) workers a.settings.workers (lit< tt) (subst (λ value. IsNumber USUAL_WORKERS WORKERS value workers) v.workers w) a.asked.workers in
-    let side = same_number USUAL_JOBS WORKERS (value_of Jobs choices) jobs a.settings.jobs (lit< tt) (subst (λ value. IsNumber USUAL_JOBS WORKERS value jobs) v.jobs j) a.asked.jobs in
+    let side = same_number USUAL_JOBS POOL (value_of Jobs choices) jobs a.settings.jobs (lit< tt) (subst (λ value. IsNumber USUAL_JOBS POOL value jobs) v.jobs j) a.asked.jobs in
     let more : WORKERS < a.settings.jobs * a.settings.workers = subst (λ n. WORKERS < n) (λ i. side i * own i) many in
     omega (arith, more, a.asked.together)
 
@@ -214,7 +214,7 @@ no_seed words found values kept some none a =
 
 pub given_asked : (words : List Text) (found : Option Values) (values : Values) (workers budget jobs : ℕ) (seed : Option ℕ) → IfSome found (GiveValues words) → found ≡ Some values
     → IsNumber USUAL_WORKERS WORKERS (option_map (λ text. text.now) values.workers) workers → IsNumber USUAL_BUDGET BUDGET (option_map (λ text. text.now) values.budget) budget
-    → IsNumber USUAL_JOBS WORKERS (option_map (λ text. text.now) values.jobs) jobs → jobs * workers ≤ WORKERS → IsSeed (option_map (λ text. text.now) values.generate) seed
+    → IsNumber USUAL_JOBS POOL (option_map (λ text. text.now) values.jobs) jobs → jobs * workers ≤ WORKERS → IsSeed (option_map (λ text. text.now) values.generate) seed
     → Asks words (record { workers = workers; budget = budget; jobs = jobs; generate = seed })
 given_asked words found values workers budget jobs seed given some w b j few s =
     let g : GiveValues words values = subst (λ (o : Option Values). IfSome o (GiveValues words)) some given in
@@ -223,7 +223,7 @@ given_asked words found values workers budget jobs seed given some w b j few s =
       given = g.given;
       workers = subst (λ (value : Option (List ℕ)). IsNumber USUAL_WORKERS WORKERS value workers) g.values_are.workers w;
       budget = subst (λ (value : Option (List ℕ)). IsNumber USUAL_BUDGET BUDGET value budget) g.values_are.budget b;
-      jobs = subst (λ (value : Option (List ℕ)). IsNumber USUAL_JOBS WORKERS value jobs) g.values_are.jobs j;
+      jobs = subst (λ (value : Option (List ℕ)). IsNumber USUAL_JOBS POOL value jobs) g.values_are.jobs j;
       together = few;
       generate = subst (λ (value : Option (List ℕ)). IsSeed value seed) g.values_are.generate s;
     }
@@ -236,6 +236,6 @@ asked_once words s t a b =
     let same : (n : OptionName) → value_of n b.choices ≡ value_of n a.choices = λ n. sym (right n) ∙ left n in
     let w = same_number USUAL_WORKERS WORKERS (value_of Workers a.choices) s.workers t.workers (lit< tt) a.workers (subst (λ value. IsNumber USUAL_WORKERS WORKERS value t.workers) (same Workers) b.workers) in
     let g = same_number USUAL_BUDGET BUDGET (value_of Budget a.choices) s.budget t.budget (lit< tt) a.budget (subst (λ value. IsNumber USUAL_BUDGET BUDGET value t.budget) (same Budget) b.budget) in
-    let j = same_number USUAL_JOBS WORKERS (value_of Jobs a.choices) s.jobs t.jobs (lit< tt) a.jobs (subst (λ value. IsNumber USUAL_JOBS WORKERS value t.jobs) (same Jobs) b.jobs) in
+    let j = same_number USUAL_JOBS POOL (value_of Jobs a.choices) s.jobs t.jobs (lit< tt) a.jobs (subst (λ value. IsNumber USUAL_JOBS POOL value t.jobs) (same Jobs) b.jobs) in
     let n = same_seed (value_of Generate a.choices) s.generate t.generate a.generate (subst (λ value. IsSeed value t.generate) (same Generate) b.generate) in
     λ i. record { workers = w i; budget = g i; jobs = j i; generate = n i }

@@ -2,7 +2,7 @@
 use Rattle.std.specs.Prelude.{◌≡◌, ℕ, ◌*◌, ◌≤◌, if◌then◌else◌, Bool, true, false, List, [], ◌∷◌, ◌++◌, Option, None, Some, codes}
 use Rattle.std.specs.List.{flat_map}
 use Rattle.std.specs.Fmt.{decimal}
-use Rattle.ua_table.specs.declared.limits.TheConstants.{BUDGET, WORKERS}
+use Rattle.ua_table.specs.declared.limits.TheConstants.{BUDGET, POOL, WORKERS}
 use Rattle.ua_words.specs.declared.words.Settings.{Settings}
 use Rattle.ua_words.specs.declared.words.TheConstants.{USUAL_WORKERS, USUAL_BUDGET, USUAL_JOBS, SEED}
 
@@ -74,7 +74,7 @@ pub record Asks (words : List (List ℕ)) (settings : Settings) : Type 0 where
   pub given : Give words choices
   pub workers : IsNumber USUAL_WORKERS WORKERS (value_of Workers choices) settings.workers
   pub budget : IsNumber USUAL_BUDGET BUDGET (value_of Budget choices) settings.budget
-  pub jobs : IsNumber USUAL_JOBS WORKERS (value_of Jobs choices) settings.jobs
+  pub jobs : IsNumber USUAL_JOBS POOL (value_of Jobs choices) settings.jobs
   pub together : settings.jobs * settings.workers ≤ WORKERS
   pub generate : IsSeed (value_of Generate choices) settings.generate
 

@@ -6,12 +6,12 @@ ghost use Rattle.std.specs.Str.{bytes_eq};
 ghost use Rattle.clap.specs.Simple.{app_of, with_rule};
 ghost use Rattle.ua_words.specs.Words.{Asks, AreAccepted, IsNumber, IsSeed, Writes};
 ghost use Rattle.ua_words.specs.Options.{option_rule, options_app, has_plain_front, GiveValues, KeepsValues};
-ghost use Rattle.ua_table.specs.declared.limits.TheConstants.{BUDGET, WORKERS};
+ghost use Rattle.ua_table.specs.declared.limits.TheConstants.{BUDGET, POOL, WORKERS};
 
 use clap::error::ErrorKind;
 use clap::{Arg, Command};
 use std::alloc::{AllocError, Global};
-use ua_table::limits::{BUDGET, WORKERS};
+use ua_table::limits::{BUDGET, POOL, WORKERS};
 
 /// How many workers there are where no word tells it.
 pub const USUAL_WORKERS: u32 = 4;
@@ -164,7 +164,7 @@ pub fn settings_of(alloc: Global, words: &[String]) -> Result<Option<Settings>, 
     let Some(budget) = number(values.budget, USUAL_BUDGET, BUDGET) else {
         return Ok(None);
     };
-    let Some(jobs) = number(values.jobs, USUAL_JOBS, WORKERS) else {
+    let Some(jobs) = number(values.jobs, USUAL_JOBS, POOL) else {
         return Ok(None);
     };
     let together = u64::from(jobs) * u64::from(workers);
