@@ -7,4 +7,5 @@ pub mod NoChainLaws
 pub mod ValueLaws
 pub mod FlawlessTerms
 pub mod ReachedRows
+pub mod SideLaws
 pub mod FlawlessNoChain

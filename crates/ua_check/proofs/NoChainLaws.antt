@@ -34,7 +34,7 @@ use Rattle.ua_check.proofs.ReachedLaws.{is_kind}
 -- ---- tests
 
 -- one that stands among the positions leads where it does
-any_at : (f : ℕ → Bool) (ps : List ℕ) (p : ℕ) → holds_position ps p ≡ true → f p ≡ true → list_any f ps ≡ true
+pub any_at : (f : ℕ → Bool) (ps : List ℕ) (p : ℕ) → holds_position ps p ≡ true → f p ≡ true → list_any f ps ≡ true
 any_at f [] p h e = cc
 any_at f (q ∷ ps) p h e =
     elim (q == p) as (λ b. (q == p) ≡ b → (b || holds_position ps p) ≡ true → (f q || list_any f ps) ≡ true) [

@@ -12,7 +12,7 @@ ghost use Rattle.ua_check.specs.Reached as reached;
 ghost use Rattle.ua_check.specs.ChartsOf.{IsChartOf};
 
 use crate::chains::named;
-use crate::charts::Chart;
+use crate::charts::{Chart, entries_of};
 use crate::positions::Positions;
 use crate::reached::{ended, followed, marks, odd_positions, parity, positions, started};
 use std::alloc::{AllocError, Global};
@@ -88,13 +88,17 @@ fn reached(
     let n = chart.rows.len();
     let even_marks = marks(alloc, n, even)?;
     let odd_marks = marks(alloc, n, odd)?;
+    let from_even = entries_of(alloc, chart, chart.kind.even().first, even_marks.as_slice())?;
+    let from_odd = entries_of(alloc, chart, chart.kind.odd().first, odd_marks.as_slice())?;
     let even = Positions {
         list: even,
         marks: even_marks.as_slice(),
+        entries: &from_even,
     };
     let odd = Positions {
         list: odd,
         marks: odd_marks.as_slice(),
+        entries: &from_odd,
     };
     started(chart.rows, start, &even)?;
     followed(chart, &even, &odd)?;

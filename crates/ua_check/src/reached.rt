@@ -4,7 +4,7 @@ ghost use Rattle.std.specs.Prelude.{◌≡◌, ◌<◌, ℕ, false, [], length, 
 ghost use Rattle.std.specs.List.{AllByRecursion};
 ghost use Rattle.std.specs.Result.{result_err};
 ghost use Rattle.ua_check.specs.Reached as reached;
-ghost use Rattle.ua_check.specs.ChartsOf.{IsChartOf, AreMarks, row_at};
+ghost use Rattle.ua_check.specs.ChartsOf.{IsChartOf, AreMarks, IsSide, row_at};
 
 use crate::charts::{Chart, is_led_to, is_own};
 use crate::positions::Positions;
@@ -74,22 +74,24 @@ fn is_started(rows: &Rows, start: &[Elem], even: &Positions, i: u32) -> bool
     rows.row(i) != start || even.marks[i as usize]
 }
 
-/// Whether row i has not what each term has by itself, or stands on the other side wherever one that is
+/// Whether row i has not what each term has by itself, or is on the other side wherever one that is
 /// reached leads to it.
 fn is_followed(chart: &Chart, even: &Positions, odd: &Positions, i: u32) -> bool
     requires chart { IsChartOf chart.now }
     requires row { i < length chart.now.rows.now.items }
-    requires even { AreMarks (length chart.now.rows.now.items) even.now }
-    requires odd { AreMarks (length chart.now.rows.now.items) odd.now }
+    requires even { IsSide chart.now chart.now.kind.now.even even.now }
+    requires odd { IsSide chart.now chart.now.kind.now.odd odd.now }
     ensures { result ≡ reached.is_followed chart.now.size chart.now.kind.now chart.now.rows.now.items even.now.list.now odd.now.list.now i (row_at chart.now i) }
 {
     if !is_own(chart, i) {
         return true;
     }
+    // What this call ensures is that the patterns of a link have the same variables.
+    let _patterns = chart.kind.patterns();
     let even_link = chart.kind.even();
     let odd_link = chart.kind.odd();
-    (odd.marks[i as usize] || !is_led_to(chart, even_link, even.list, i))
-        && (even.marks[i as usize] || !is_led_to(chart, odd_link, odd.list, i))
+    (odd.marks[i as usize] || !is_led_to(chart, even_link, even, i))
+        && (even.marks[i as usize] || !is_led_to(chart, odd_link, odd, i))
 }
 
 /// Whether row i is not the end, or is not reached.
@@ -118,8 +120,8 @@ pub(crate) fn started(rows: &Rows, start: &[Elem], even: &Positions) -> Result<(
 /// The first row that one that is reached leads to, and that does not stand on the other side.
 pub(crate) fn followed(chart: &Chart, even: &Positions, odd: &Positions) -> Result<(), Flaw>
     requires chart { IsChartOf chart.now }
-    requires even { AreMarks (length chart.now.rows.now.items) even.now }
-    requires odd { AreMarks (length chart.now.rows.now.items) odd.now }
+    requires even { IsSide chart.now chart.now.kind.now.even even.now }
+    requires odd { IsSide chart.now chart.now.kind.now.odd odd.now }
     ensures { result_err result ≡ reached.row_flaw (reached.is_followed chart.now.size chart.now.kind.now chart.now.rows.now.items even.now.list.now odd.now.list.now) chart.now.rows.now.items }
 {
     for i in 0..chart.rows.len() {
