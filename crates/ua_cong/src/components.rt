@@ -15,14 +15,6 @@ use crate::settling::settle;
 use std::alloc::{AllocError, Global};
 use ua_table::{Algebra, Elem};
 
-/// Of a pair that is not found yet, and of one that is settled, in place of its number.
-const UNSEEN: u32 = 0;
-
-const SETTLED: u32 = u32::MAX;
-
-/// No translation, and no row.
-const NONE: u32 = u32::MAX;
-
 /// What the search walks over, and how many different principal congruences are enough.
 #[derive(Drop)]
 struct Ground<'a> {
@@ -32,16 +24,23 @@ struct Ground<'a> {
     limit: u32,
 }
 
+/// How far the search is with a pair.
+#[derive(Clone, Copy)]
+enum State {
+    Unseen,
+    /// Its number in the order in which pairs are found.
+    Found(u32),
+    /// The place of its row.
+    Settled(u32),
+}
+
 /// What is noted of a pair.
 #[derive(Clone, Copy)]
 struct Node {
-    /// Its number in the order in which pairs are found.
-    number: u32,
+    state: State,
     /// A pair to which it leads that is settled before it, itself at first, and the translation.
     via: u32,
-    by: u32,
-    /// The place of its row, once it is settled.
-    place: u32,
+    by: Option<u32>,
 }
 
 /// A pair on the path from where the search began.
@@ -54,12 +53,12 @@ struct Frame {
     /// The least number of a pair, not settled yet, to which this one was seen to lead, and how.
     low: u32,
     via: u32,
-    by: u32,
+    by: Option<u32>,
     /// The translation to the settled pair with the fewest blocks so far, and how many these are.
-    best: u32,
+    best: Option<u32>,
     blocks: u32,
-    /// The row of the last settled pair that was seen.
-    last: u32,
+    /// The place of the row of the last settled pair that was seen.
+    last: Option<u32>,
 }
 
 /// How far the search has come.
@@ -95,7 +94,7 @@ enum Turn {
 
 /// A place as a number of 32 bits. All places here are fewer.
 fn narrow(place: usize) -> u32 {
-    place.min(NONE as usize) as u32
+    place.min(u32::MAX as usize) as u32
 }
 
 /// The rank of a pair of two different elements.
@@ -121,20 +120,20 @@ fn relates(known: &Known, place: u32, x: Elem, y: Elem) -> bool {
 
 /// Sees that the pair of a frame leads to a settled one.
 fn see_settled(ground: &Ground, known: &Known, frame: &mut Frame, k: u32, place: u32) -> Seen {
-    if place == frame.last {
+    if frame.last == Some(place) {
         return Seen::Nothing;
     }
-    frame.last = place;
+    frame.last = Some(place);
     let Some((x, y)) = ground.pairs.get(frame.pair as usize).copied() else {
         return Seen::Nothing;
     };
     if relates(known, place, x, y) {
-        frame.by = k;
+        frame.by = Some(k);
         return Seen::Same;
     }
     let blocks = known.blocks_at(place);
     if blocks < frame.blocks {
-        frame.best = k;
+        frame.best = Some(k);
         frame.blocks = blocks;
     }
     Seen::Nothing
@@ -160,18 +159,18 @@ fn see(
     let Some(node) = nodes.get(at) else {
         return Seen::Nothing;
     };
-    if node.number == SETTLED {
-        return see_settled(ground, known, frame, k, node.place);
+    match node.state {
+        State::Unseen => Seen::New(narrow(at)),
+        State::Settled(place) => see_settled(ground, known, frame, k, place),
+        State::Found(number) => {
+            if number < frame.low {
+                frame.low = number;
+                frame.via = narrow(at);
+                frame.by = Some(k);
+            }
+            Seen::Nothing
+        }
     }
-    if node.number == UNSEEN {
-        return Seen::New(narrow(at));
-    }
-    if node.number < frame.low {
-        frame.low = node.number;
-        frame.via = narrow(at);
-        frame.by = k;
-    }
-    Seen::Nothing
 }
 
 /// Goes on along the translations of the pair of a frame, up to one that gives a pair not found yet or one that
@@ -200,12 +199,8 @@ fn enter(trail: &mut Trail, pair: u32) -> Result<(), AllocError> {
     trail.count = trail.count.saturating_add(1);
     let number = trail.count;
     if let Some(node) = trail.nodes.get_mut(pair as usize) {
-        *node = Node {
-            number,
-            via: pair,
-            by: NONE,
-            place: NONE,
-        };
+        node.state = State::Found(number);
+        node.via = pair;
     }
     trail.open.push(pair)?;
     trail.path.push(Frame {
@@ -214,12 +209,20 @@ fn enter(trail: &mut Trail, pair: u32) -> Result<(), AllocError> {
         next: 0,
         low: number,
         via: pair,
-        by: NONE,
-        best: NONE,
+        by: None,
+        best: None,
         blocks: u32::MAX,
-        last: NONE,
+        last: None,
     })?;
     Ok(())
+}
+
+/// Notes the place of the row of a pair.
+fn note_settled(trail: &mut Trail, pair: u32, place: u32) {
+    trail.waiting = 0;
+    if let Some(node) = trail.nodes.get_mut(pair as usize) {
+        node.state = State::Settled(place);
+    }
 }
 
 /// Settles a pair, by the translation with this number, unless enough principal congruences are found.
@@ -229,7 +232,7 @@ fn settle_pair(
     trail: &mut Trail,
     known: &mut Known,
     pair: u32,
-    by: u32,
+    by: Option<u32>,
 ) -> Result<(), AllocError>
     requires known { IsKnown ground.now.algebra.now known.old }
     requires limit { ground.now.limit < u32.MAX }
@@ -245,11 +248,8 @@ fn settle_pair(
         return Ok(());
     }
     settle(alloc, ground.algebra, known, x, y, ground.moves.get(by))?;
-    let place = place_of(ground.algebra, known, x, y).unwrap_or(NONE);
-    trail.waiting = 0;
-    if let Some(node) = trail.nodes.get_mut(pair as usize) {
-        node.number = SETTLED;
-        node.place = place;
+    if let Some(place) = place_of(ground.algebra, known, x, y) {
+        note_settled(trail, pair, place);
     }
     Ok(())
 }
@@ -262,7 +262,7 @@ fn trace(trail: &mut Trail, pair: u32) -> Result<(), AllocError> {
         let Some(node) = trail.nodes.get(at as usize).copied() else {
             return Ok(());
         };
-        if node.number == SETTLED {
+        if matches!(node.state, State::Settled(_)) {
             return Ok(());
         }
         trail.chain.push(at)?;
@@ -293,8 +293,10 @@ fn settle_traced(
         let Some(next) = trail.chain.pop() else {
             return Ok(());
         };
-        let by = trail.nodes.get(next as usize).map_or(NONE, |node| node.by);
-        settle_pair(alloc, ground, trail, known, next, by)?;
+        let Some(node) = trail.nodes.get(next as usize).copied() else {
+            return Ok(());
+        };
+        settle_pair(alloc, ground, trail, known, next, node.by)?;
     }
     Ok(())
 }
@@ -336,7 +338,7 @@ fn go_back(trail: &mut Trail, frame: Frame) {
         if frame.low < before.low {
             before.low = frame.low;
             before.via = frame.pair;
-            before.by = before.next;
+            before.by = Some(before.next);
         }
     }
 }
@@ -358,6 +360,7 @@ fn leave(
 {
     let first = frame.low == frame.number;
     let by = if same { frame.by } else { frame.best };
+    // Of a large component a pair is settled early: the rest of its pairs then stop at one that is settled.
     if same || first || trail.waiting > ground.algebra.size() {
         settle_pair(alloc, ground, trail, known, frame.pair, by)?;
     }
@@ -409,11 +412,10 @@ fn search_from(
     ensures known { OnOk result (IsKnown ground.now.algebra.now known.new) }
     ensures within { length known.new.rows.items ≤ ground.now.limit + 1 }
 {
-    let number = trail
-        .nodes
-        .get(pair as usize)
-        .map_or(SETTLED, |node| node.number);
-    if number != UNSEEN {
+    let Some(node) = trail.nodes.get(pair as usize).copied() else {
+        return Ok(());
+    };
+    if !matches!(node.state, State::Unseen) {
         return Ok(());
     }
     enter(trail, pair)?;
@@ -449,10 +451,9 @@ pub fn settle_components(
         limit,
     };
     let unseen = Node {
-        number: UNSEEN,
-        via: NONE,
-        by: NONE,
-        place: NONE,
+        state: State::Unseen,
+        via: 0,
+        by: None,
     };
     let mut trail = Trail {
         nodes: vec![in alloc; unseen; pairs.len()]?,

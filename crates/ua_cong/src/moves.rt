@@ -175,8 +175,8 @@ impl Moves {
         &self.values[start..end]
     }
 
-    /// Where one of them is found.
-    pub fn get(&self, k: u32) -> Option<Move> {
-        self.list.get(k as usize).copied()
+    /// Where one of them is found, if it is given.
+    pub fn get(&self, k: Option<u32>) -> Option<Move> {
+        self.list.get(k? as usize).copied()
     }
 }
