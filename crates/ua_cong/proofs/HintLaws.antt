@@ -1,20 +1,27 @@
 -- A known principal congruence of a pair that another pair forces lies below that of the other.
-use Rattle.std.proofs.Common.{ℕ, [], ◌∷◌, subst, sym}
+use Rattle.std.proofs.Common.{ℕ, [], ◌∷◌}
 use Rattle.std.specs.Prelude.{slice_index_or}
 use Rattle.ua_table.specs.Algebras.{FiniteAlgebra}
 use Rattle.ua_part.specs.Partitions.{Partition, SameBlock, LiesBelow}
 use Rattle.ua_prod.specs.Congruences.{IsCongruence, IsCg}
-use Rattle.ua_cong.specs.declared.hints.Hunt.{Hunt}
+use Rattle.ua_cong.specs.declared.known.Known.{Known}
 use Rattle.ua_cong.specs.Closings.{IsForced}
 use Rattle.ua_cong.specs.Extensions.{IsCgAbove}
 use Rattle.ua_cong.specs.Hints.{IsHint}
 use Rattle.ua_cong.specs.Known.{IsPlaceOf}
 
-pub hint_of : (hunt : Hunt) (u v place : ℕ) → IsForced hunt.algebra.now ((hunt.first, hunt.second) ∷ []) u v → IsPlaceOf hunt.algebra.now hunt.known.now u v place → IsHint hunt place
-hint_of hunt u v place forced h = record {
+pub hint_of : (a : FiniteAlgebra) (known : Known) (x y u v place : ℕ) → IsForced a ((x, y) ∷ []) u v → IsPlaceOf a known u v place → IsHint a known x y place
+hint_of a known x y u v place forced h = record {
   within = h.within;
   congruence = h.principal.congruence;
   below = λ q cq s. h.principal.least q cq (forced q cq (s, tt), tt);
+}
+
+-- where it relates the pair, it is that of the pair
+pub place_of_hint : (a : FiniteAlgebra) (known : Known) (x y place : ℕ) → IsHint a known x y place → SameBlock (slice_index_or known.rows.items place []) x y → IsPlaceOf a known x y place
+place_of_hint a known x y place h s = record {
+  within = h.within;
+  principal = record { congruence = h.congruence; relates = (s, tt); least = λ q cq rel. h.below q cq rel.0 };
 }
 
 -- the least congruence above one that lies below that of a pair, and relates the pair, is that of the pair
@@ -24,7 +31,3 @@ cg_from_above a p q x y below h = record {
   relates = (h.relates, tt);
   least = λ r cr rel. h.least r cr (below r cr rel.0) rel.0;
 }
-
--- where the congruence relates the pair, it is that one
-pub above_itself : (a : FiniteAlgebra) (p : Partition) (x y : ℕ) → IsCongruence a p → SameBlock p x y → IsCgAbove a p x y p
-above_itself a p x y cp s = record { congruence = cp; above = λ u v t. t; relates = s; least = λ r cr below t. below }

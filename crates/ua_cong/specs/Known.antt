@@ -1,5 +1,5 @@
 -- Principal congruences that are known.
-use Rattle.std.specs.Prelude.{◌≡◌, ℕ, ◌<◌, ◌≤◌, List, [], length, map, slice_index_or}
+use Rattle.std.specs.Prelude.{◌≡◌, ◌⊎◌, ℕ, ◌<◌, List, [], length, slice_index_or, Contains}
 use Rattle.std.specs.List.{AllByRecursion}
 use Rattle.ua_table.specs.Algebras.{FiniteAlgebra}
 use Rattle.ua_part.specs.Partitions.{Partition}
@@ -17,13 +17,16 @@ pub record IsPlaceOf (a : FiniteAlgebra) (known : Known) (x y place : ℕ) : Typ
   pub within : place < length known.rows.items
   pub principal : IsPrincipal a (x, y, slice_index_or known.rows.items place [])
 
--- each pair has its principal congruence among the rows, and each row is the principal congruence of a pair
+-- nothing is said of a pair, or the row at its place is its principal congruence
+abbrev pub IsNoneOrKnown : FiniteAlgebra → List Partition → ℕ × ℕ × ℕ → Type 0
+IsNoneOrKnown a rows e = (e.0 ≡ e.1) ⊎ IsKnownPair a rows e
+
+-- what is said of a pair holds, and each row is the principal congruence of a pair
 pub record IsKnown (a : FiniteAlgebra) (known : Known) : Type 0 where
   pub width : known.rows.width ≡ a.size
-  pub pairs : AllByRecursion (IsKnownPair a known.rows.items) known.pairs.items
+  pub pairs : AllByRecursion (IsNoneOrKnown a known.rows.items) known.pairs.items
   pub rows : AllByRecursion (IsPrincipalCongruence a) known.rows.items
-  pub few : length known.rows.items ≤ length known.pairs.items
 
--- the pairs, without their places
-abbrev pub known_pairs : Known → List (ℕ × ℕ)
-known_pairs known = map (λ (e : ℕ × ℕ × ℕ). (e.0, e.1)) known.pairs.items
+-- what is in the one list is in the other
+abbrev pub AreKept : List Partition → List Partition → Type 0
+AreKept old new = (p : Partition) → Contains old p → Contains new p

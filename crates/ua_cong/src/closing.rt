@@ -1,7 +1,7 @@
 //! The congruence that pairs generate: elements are united until every unary translation takes united
 //! elements to united elements.
 
-ghost use Rattle.std.specs.Prelude.{◌≡◌, ◌≢◌, ℕ, ◌<◌, ◌≤◌, ◌^◌, [], ◌∷◌, ◌++◌, length, slice_index, IfOk, OnOk, IfSome};
+ghost use Rattle.std.specs.Prelude.{◌≡◌, ℕ, ◌<◌, ◌≤◌, [], ◌∷◌, ◌++◌, length, slice_index, IfOk, OnOk, IfSome};
 ghost use Rattle.std.specs.List.{AllByRecursion};
 ghost use Rattle.ua_table.specs.declared.limits.TheConstants.{SIZE};
 ghost use Rattle.ua_table.specs.Algebras.{IsAlgebra, arities_of};
@@ -12,7 +12,7 @@ ghost use Rattle.ua_cong.specs.Extensions.{led_pairs, IsCgAbove};
 ghost use Rattle.ua_cong.specs.Known.{IsKnown, IsPlaceOf};
 ghost use Rattle.ua_cong.specs.States.{IsState, HasGrown};
 
-use crate::known::Known;
+use crate::known::{Known, rank};
 use std::alloc::{AllocError, Global};
 use ua_part::{DisjointSets, Part};
 use ua_prod::Translations;
@@ -33,15 +33,6 @@ struct Closing {
     work: Vec<(Elem, Elem)>,
 }
 
-/// The place of a pair of elements, the first the lower, among all such pairs in lexicographic order.
-fn rank(size: usize, x: usize, y: usize) -> usize
-    requires size { size < 2 ^ 16 }
-    requires order { x < y }
-    requires within { y < size }
-{
-    x * (2 * size - x - 1) / 2 + y - x - 1
-}
-
 /// The place of the principal congruence of this pair, the first the lower, if it is known, by one look-up.
 fn known_at(algebra: &Algebra, known: &Known, low: Elem, high: Elem) -> Option<u32>
     requires known { IsKnown algebra.now known.now }
@@ -58,18 +49,19 @@ fn known_at(algebra: &Algebra, known: &Known, low: Elem, high: Elem) -> Option<u
     Some(*place)
 }
 
-/// The place of the principal congruence of two elements, if it is known.
+/// The place of the principal congruence of two different elements, if it is known.
 pub fn place_of(algebra: &Algebra, known: &Known, x: Elem, y: Elem) -> Option<u32>
     requires known { IsKnown algebra.now known.now }
-    requires apart { x ≢ y }
     requires first { x < algebra.now.size }
     requires second { y < algebra.now.size }
     ensures { IfSome result (IsPlaceOf algebra.now known.now x y) }
 {
     if x < y {
         known_at(algebra, known, x, y)
-    } else {
+    } else if y < x {
         known_at(algebra, known, y, x)
+    } else {
+        None
     }
 }
 

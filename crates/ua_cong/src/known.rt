@@ -1,16 +1,18 @@
 //! Principal congruences that are known.
 
-ghost use Rattle.std.specs.Prelude.{◌≡◌, ◌+◌, ◌<◌, ◌≤◌, [], ◌∷◌, ◌++◌, length, OnOk};
+ghost use Rattle.std.specs.Prelude.{◌≡◌, ◌+◌, ◌<◌, ◌≤◌, ◌^◌, [], length, IfOk, OnOk};
 ghost use Rattle.ua_table.specs.Algebras.{FiniteAlgebra};
+ghost use Rattle.ua_table.specs.declared.limits.TheConstants.{SIZE};
 ghost use Rattle.ua_cong.specs.Closings.{AreElements, IsPrincipal};
-ghost use Rattle.ua_cong.specs.Known.{IsKnown, known_pairs};
+ghost use Rattle.ua_cong.specs.Known.{IsKnown, IsPlaceOf, AreKept};
+ghost use Rattle.ua_cong.specs.Principals.{HasPrincipal};
 
 use std::alloc::{AllocError, Global};
 use ua_rows::Rows;
 use ua_table::{Algebra, Elem};
 
 /// The principal congruences of some pairs of elements: each different one once, as a row, and for each
-/// pair the place of its own.
+/// pair, by its rank, the place of its own. Where a pair's is not known, two equal elements stand there.
 #[derive(Drop)]
 pub struct Known {
     pub pairs: Vec<(Elem, Elem, u32)>,
@@ -19,10 +21,18 @@ pub struct Known {
     pub blocks: Vec<u32>,
 }
 
+/// The place of a pair of elements, the first the lower, among all such pairs in lexicographic order.
+pub fn rank(size: usize, x: usize, y: usize) -> usize
+    requires size { size < 2 ^ 16 }
+    requires order { x < y }
+    requires within { y < size }
+{
+    x * (2 * size - x - 1) / 2 + y - x - 1
+}
+
 impl Known {
-    /// None, of an algebra of this size. It takes no memory.
+    /// None, of an algebra of this size, and no room to learn of pairs. It takes no memory.
     pub fn new(alloc: Global, size: u32) -> Known
-        ensures pairs { result.pairs.items ≡ [] }
         ensures rows { result.rows.items ≡ [] }
         ensures known { (a : FiniteAlgebra) → a.size ≡ size → IsKnown a result }
     {
@@ -31,6 +41,21 @@ impl Known {
             rows: Rows::new(alloc, size),
             blocks: Vec::new(alloc),
         }
+    }
+
+    /// None, of an algebra of this size, with room for each pair.
+    pub fn with_room(alloc: Global, size: u32) -> Result<Known, AllocError>
+        requires { size ≤ SIZE }
+        ensures rows { IfOk result (λ known. known.rows.items ≡ []) }
+        ensures known { IfOk result (λ known. (a : FiniteAlgebra) → a.size ≡ size → IsKnown a known) }
+    {
+        let size_of_all = size as usize;
+        let pairs = vec![in alloc; (0, 0, 0); size_of_all * size_of_all / 2]?;
+        Ok(Known {
+            pairs,
+            rows: Rows::new(alloc, size),
+            blocks: Vec::new(alloc),
+        })
     }
 
     /// How many blocks the row at a place has.
@@ -58,7 +83,24 @@ fn note_blocks(blocks: &mut Vec<u32>, place: u32, row: &[Elem]) -> Result<(), Al
     Ok(())
 }
 
-/// Takes in the principal congruence of one pair more.
+/// Notes the place of a pair's principal congruence, where there is room.
+pub fn note(_algebra: &Algebra, known: &mut Known, first: Elem, second: Elem, place: u32)
+    requires known { IsKnown _algebra.now known.old }
+    requires elements { AreElements _algebra.now (first, second) }
+    requires place { IsPlaceOf _algebra.now known.old first second place }
+    ensures known { IsKnown _algebra.now known.new }
+    ensures rows { known.new.rows.items ≡ known.old.rows.items }
+{
+    if first >= second {
+        return;
+    }
+    let at = rank(_algebra.size() as usize, first as usize, second as usize);
+    if at < known.pairs.len() {
+        known.pairs[at] = (first, second, place);
+    }
+}
+
+/// Takes in the principal congruence of a pair.
 pub fn learn(
     _algebra: &Algebra,
     known: &mut Known,
@@ -72,11 +114,11 @@ pub fn learn(
     requires room { length known.old.rows.items < u32.MAX }
     ensures few { length known.new.rows.items ≤ length known.old.rows.items + 1 }
     ensures known { OnOk result (IsKnown _algebra.now known.new) }
-    ensures pairs { OnOk result (known_pairs known.new ≡ known_pairs known.old ++ (first, second) ∷ []) }
-    ensures count { OnOk result (length known.new.pairs.items ≡ length known.old.pairs.items + 1) }
+    ensures kept { OnOk result (AreKept known.old.rows.items known.new.rows.items) }
+    ensures there { OnOk result (HasPrincipal _algebra.now known.new.rows.items (first, second)) }
 {
     let place = known.rows.enter(row)?;
-    known.pairs.push((first, second, place))?;
+    note(_algebra, known, first, second, place);
     note_blocks(&mut known.blocks, place, row)?;
     Ok(())
 }

@@ -2,9 +2,12 @@
 #![tactic(auto)]
 
 mod closing;
+mod components;
 mod hints;
 mod known;
+mod moves;
 mod pairs;
+mod settling;
 
 pub use closing::{cg, cg_above};
 pub use pairs::{distinct_principals, principals};

@@ -57,10 +57,10 @@ fn ordered_principals<R: Threads + Sync>(
 
 /// All congruences of an algebra, where there are no more than the budget of a run.
 ///
-/// The principal congruences are found by the run's workers, and all others are joins of them. With n
-/// congruences, of which j are principal and no join of others, this takes at most 2nj joins. Only different
-/// congruences are kept, and the search ends where they are more than the budget: for principal ones before
-/// any join. No closure is run, so the gate of the run is not passed.
+/// All but the principal congruences are joins of these. With n congruences, of which j are principal and no
+/// join of others, this takes at most 2nj joins. Only different congruences are kept, and the search ends where
+/// they are more than the budget: for principal ones before any join. It takes so little time that the run's
+/// workers are not asked. No closure is run, so the gate of the run is not passed.
 pub fn congruences<R: Threads + Sync, G: Gate>(
     rt: &R,
     alloc: Global,

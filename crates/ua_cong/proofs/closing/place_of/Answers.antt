@@ -18,5 +18,5 @@ turned a known x y (Some k) h = record {
   };
 }
 
-pub returns-else-x-y : goal.returns-else-x-y
-returns-else-x-y c = turned c.args.algebra.now c.args.known.now c.args.y c.args.x c.known_at-else-x-y.result c.known_at-else-x-y.ensures
+pub returns-then-y-x : goal.returns-then-y-x
+returns-then-y-x c = turned c.args.algebra.now c.args.known.now c.args.y c.args.x c.known_at-then-y-x.result c.known_at-then-y-x.ensures
