@@ -10,7 +10,7 @@ use crate::bases::{Basis, Next, Pair};
 use ua_rows::{Operations, Rows, Scratch};
 
 /// A basis may have so many bases, and one more for each sixteen rows.
-const FEW: u32 = 64;
+pub const FEW: usize = 64;
 
 /// It may have so many, and one more for each sixteen rows that were reached.
 const FEW_REACHED: usize = 256;
@@ -121,7 +121,7 @@ fn step(
     match basis.next(count) {
         Next::Complete => Some(Progress::Complete),
         Next::Missing(row) => {
-            if basis.len() >= (FEW + count / 16) as usize
+            if basis.len() >= FEW + count as usize / 16
                 || basis.len() >= FEW_REACHED + basis.reached() / 16
             {
                 return Some(Progress::GivenUp);
