@@ -16,6 +16,7 @@ use Rattle.ua_type.specs.Subtraces.{pair_generators, Generates}
 use Rattle.ua_type.specs.Trials.{HasMorePairs}
 use Rattle.ua_type.specs.Outcomes.{GoesBack, IsVain, IsMinimal}
 use Rattle.ua_type.specs.Known.{IsSettled}
+use Rattle.ua_type.specs.Marks.{ArePairRows}
 use Rattle.ua_type.specs.Descents.{AreGenerated, IsLacking, LeadsTo, IsDescent}
 use Rattle.ua_type.proofs.GeneratedPairs.{generates_itself, generates_through}
 use Rattle.ua_type.proofs.TrialLaws.{row_pair, within_budget}
@@ -111,6 +112,9 @@ module _ (b : FiniteAlgebra) (budget : ℕ) where
   -- rows have two elements
   pub rows_two : IsAlgebra b → (d : Descent) → IsDescent b budget d → (v : Vector) → Contains (vectors_of d.list) v → length v ≡ 2
   rows_two alg d h v c = (row_pair b budget d.pair.0 d.pair.1 alg h.first h.second d.list h.closed v c).pair.width
+
+  pub pair_rows : IsAlgebra b → (d : Descent) → IsDescent b budget d → ArePairRows b d.list
+  pair_rows alg d h v c = let p = (row_pair b budget d.pair.0 d.pair.1 alg h.first h.second d.list h.closed v c).pair in (p.width, p.first, p.second)
 
   -- where the pair and what it generates stay, what it generates of the first pair stays
   pub stays : (x y : ℕ) (old new : Descent) → new.pair ≡ old.pair → Generates b x y old.pair.0 old.pair.1 → Generates b x y new.pair.0 new.pair.1

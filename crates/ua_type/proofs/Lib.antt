@@ -11,3 +11,4 @@ pub mod SearchLaws
 pub mod CoverLaws
 pub mod SquareLaws
 pub mod TypingLaws
+pub mod MarkLaws

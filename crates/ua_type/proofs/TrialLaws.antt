@@ -24,7 +24,7 @@ use Rattle.ua_type.specs.Trials.{HasMorePairs, ArePairsNarrow, ArePairsWide}
 use Rattle.ua_type.specs.declared.trials.Trial.TheVariants.{Beyond}
 use Rattle.ua_type.specs.Outcomes.{GoesBack, MayTry}
 use Rattle.ua_type.specs.Descents.{IsLacking}
-use Rattle.ua_type.proofs.GeneratedPairs.{generates_itself, no_more_pairs, same_count}
+use Rattle.ua_type.proofs.GeneratedPairs.{no_more_pairs, same_count}
 use Rattle.ua_type.proofs.PairLaws.{square-IsProduct, pair_vectors, ArePair, pair_from}
 
 pub has_from : (o : Option ℕ) (vs : List Vector) (v : Vector) → IfSome o (λ i. slice_get vs i ≡ Some v) → IfNone o (¬ Contains vs v) → IsTrue (is_some o) ↔ Contains vs v
@@ -63,12 +63,6 @@ module _ (b : FiniteAlgebra) (budget x y : ℕ) (alg : IsAlgebra b) (xw : x < b.
       record { pair = pair; generated = g; within = λ more. within_budget (no_more_pairs b budget x y (slice_index v 0) (slice_index v 1) g more) }
 
 -- ---- whether a pair generates another
-
--- the pair itself need not be asked
-pub itself_back : (b : FiniteAlgebra) (row : Vector) (pair : ℕ × ℕ) → slice_index row 0 ≡ pair.0 → slice_index row 1 ≡ pair.1 → GoesBack b row pair
-itself_back b row pair first second _ =
-    subst (λ u. Generates b (slice_index row 0) (slice_index row 1) u pair.1) first
-    (subst (λ u. Generates b (slice_index row 0) (slice_index row 1) (slice_index row 0) u) second (generates_itself b (slice_index row 0) (slice_index row 1)))
 
 module _ (b : FiniteAlgebra) (budget workers x y : ℕ) where
   pairs_exceed : (rows : List Row) → MayClose (replicate 2 b) (pair_generators b x y) budget workers (Ok (Exceeds rows)) → HasMorePairs b budget x y

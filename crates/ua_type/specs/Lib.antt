@@ -4,6 +4,7 @@ pub mod Types
 pub mod Trials
 pub mod Outcomes
 pub mod Known
+pub mod Marks
 pub mod Descents
 pub mod Searches
 pub mod Squares

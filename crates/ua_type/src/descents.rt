@@ -4,10 +4,13 @@
 ghost use Rattle.std.specs.Prelude.{◌≡◌, ◌<◌, ◌++◌, [], ◌∷◌, length, slice_index, OnOk, IfOk};
 ghost use Rattle.ua_type.specs.Trials.{HasMorePairs, ArePairsNarrow};
 ghost use Rattle.ua_type.specs.Known.{IsRight};
+ghost use Rattle.ua_type.specs.Marks.{AreMarks};
 ghost use Rattle.ua_type.specs.Descents.{MayAsk, IsDescent, MaySift, MaySettle};
 
 use crate::known::Known;
-use crate::pairs::{is_same, sought};
+use crate::leads::{is_known, mark, marks_to};
+use crate::marks::Marks;
+use crate::pairs::sought;
 use std::alloc::{AllocError, Global};
 use std::thread::Threads;
 use ua_close::{CloseError, Gate, Goal, Listing, Reach, Run};
@@ -78,13 +81,14 @@ impl Descent {
     }
 }
 
-/// Asks the pair of a row whether it generates another pair. What it generates is within the budget, and closed
-/// until that pair is found.
+/// Asks the pair of a row whether it generates another pair. Unless marks tell that it does, what it generates
+/// is closed until that pair is found, within the budget.
 fn ask<R: Threads + Sync, G: Gate>(
     rt: &R,
     alloc: Global,
     b: &Algebra,
     known: &Known,
+    marks: &Marks,
     row: &[Elem],
     pair: (Elem, Elem),
     run: &Run<G>,
@@ -94,6 +98,7 @@ fn ask<R: Threads + Sync, G: Gate>(
     requires second { slice_index row.now 1 < b.now.size }
     requires low { pair.0 < b.now.size }
     requires high { pair.1 < b.now.size }
+    requires marks { AreMarks b.now pair marks.now }
     requires within { ¬ HasMorePairs b.now run.now.budget (slice_index row.now 0) (slice_index row.now 1) }
     ensures { MayAsk b.now run.now.budget known.now row.now pair result }
 {
@@ -101,11 +106,11 @@ fn ask<R: Threads + Sync, G: Gate>(
     if c == d {
         return Ok(Asked::Back);
     }
-    if is_same((c, d), pair) {
-        return Ok(Asked::Back);
-    }
     if known.is_settled((c, d)) {
         return Ok(Asked::Settled);
+    }
+    if is_known(b, marks, (c, d)) {
+        return Ok(Asked::Back);
     }
     let goal = Goal::Target([pair.0, pair.1].to_vec(alloc)?);
     match sought(rt, alloc, b, c, d, &goal, run)? {
@@ -116,7 +121,7 @@ fn ask<R: Threads + Sync, G: Gate>(
 }
 
 /// Asks the pairs that a pair generates, up to the first that does not generate it or is settled. Those that
-/// do are put to the pairs that generate it.
+/// do are put to the pairs that generate it. Those from which translations lead back to it are known to.
 pub fn sift<R: Threads + Sync, G: Gate>(
     rt: &R,
     alloc: Global,
@@ -131,15 +136,17 @@ pub fn sift<R: Threads + Sync, G: Gate>(
 {
     // What this call ensures says that the algebra is one.
     let _size = b.size();
+    let mut marks = marks_to(alloc, b, descent.pair, &descent.list)?;
     for i in 0..descent.list.len() {
         let row = descent.list.row(i);
         let (c, d) = (row[0], row[1]);
-        match ask(rt, alloc, b, known, row, descent.pair, run)? {
+        match ask(rt, alloc, b, known, &marks, row, descent.pair, run)? {
             Asked::Settled => return Ok(Sifted::Settled),
             Asked::Lacks(list) => return Ok(Sifted::Lacks { pair: (c, d), list }),
             Asked::Back => {
                 if c != d {
                     descent.put_above((c, d))?;
+                    mark(b, &mut marks, (c, d));
                 }
             }
         }

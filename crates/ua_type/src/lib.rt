@@ -6,6 +6,8 @@ mod descents;
 mod generators;
 mod known;
 pub mod laws;
+mod leads;
+mod marks;
 mod pairs;
 mod quotients;
 mod searches;

@@ -29,8 +29,11 @@ fn quotient_by(alloc: Global, a: &Algebra, p: &Part) -> Result<Algebra, AllocErr
 {
     match quotient(alloc, a.name().copy(alloc)?, a, p) {
         Ok(b) => Ok(b),
+        Err(ProdError::OutOfMemory) => Err(AllocError),
         Err(ProdError::NotCongruence(_)) => unreachable!(),
-        Err(_) => Err(AllocError),
+        Err(ProdError::Signature) => unreachable!(),
+        Err(ProdError::Size) => unreachable!(),
+        Err(ProdError::NotClosed { .. }) => unreachable!(),
     }
 }
 

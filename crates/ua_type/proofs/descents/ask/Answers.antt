@@ -3,13 +3,11 @@ use Rattle.std.specs.Prelude.{Ok, slice_index}
 use Rattle.std.proofs.lemmas.Result.{err_from_is_err_and}
 use Rattle.ua_table.specs.Algebras.{IsVector}
 use Rattle.ua_close.specs.declared.reaches.Reach.{Reach}
-use Rattle.ua_type.proofs.TrialLaws.{itself_back, wide_all, MaySeek, met_back, closed_lacks, never_beyond}
+use Rattle.ua_type.proofs.TrialLaws.{wide_all, MaySeek, met_back, closed_lacks, never_beyond}
 use Rattle.ua_type.proofs.descents.ask.Goals as goal
 
-pub returns-then-is_same : goal.returns-then-is_same
-returns-then-is_same g c =
-    let same = c.is_same.ensures.0 c.if-is_same.true in
-    itself_back c.args.b.now c.args.row.now c.args.pair same.0 same.1
+pub returns-then-is_known : goal.returns-then-is_known
+returns-then-is_known g c _ = c.is_known.ensures c.args.pair c.requires.marks c.if-is_known.true
 
 pub sought-requires-clause-goal : goal.sought-requires-clause-goal
 sought-requires-clause-goal g c _ _ =

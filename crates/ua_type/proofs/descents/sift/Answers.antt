@@ -1,4 +1,4 @@
-use Rattle.std.proofs.Common.{◌≡◌, ◌+◌, List, length, ◌∙◌, ap, subst, arith}
+use Rattle.std.proofs.Common.{◌≡◌, ◌+◌, ℕ, List, length, sym, ◌∙◌, ap, subst, arith}
 use Rattle.std.specs.Prelude.{Ok, slice_index}
 use Rattle.std.specs.HashSet as set
 use Rattle.std.proofs.lemmas.List.{length-map}
@@ -6,11 +6,19 @@ use Rattle.std.proofs.lemmas.Result.{err_from_is_err_and}
 use Rattle.ua_table.specs.Listings.{Row}
 use Rattle.ua_part.specs.Labels.{same_labels}
 use Rattle.ua_type.specs.declared.descents.Asked.{Asked}
+use Rattle.ua_type.specs.Subtraces.{Generates}
+use Rattle.ua_type.specs.Marks.{AreMarks}
 use Rattle.ua_type.specs.Descents.{MayAsk}
 use Rattle.ua_type.proofs.KnownLaws.{settled_is}
-use Rattle.ua_type.proofs.DescentLaws.{row_width, row_first, row_second, row_within, row_generated, row_leads, row_settles, one_back, back_below, descent_more, all_back}
+use Rattle.ua_type.proofs.DescentLaws.{row_width, row_first, row_second, row_within, row_generated, row_leads, row_settles, pair_rows, one_back, back_below, descent_more, all_back}
 use Rattle.ua_type.proofs.descents.sift.Goals.{then-c-d+in_ok-put_above-in-Back, else-c-d}
 use Rattle.ua_type.proofs.descents.sift.Goals as goal
+
+pub marks_to-requires-clause-pairs : goal.marks_to-requires-clause-pairs
+marks_to-requires-clause-pairs g c = pair_rows c.args.b.now c.args.run.now.budget c.size-size.ensures.algebra.algebra c.args.descent.now c.requires.descent
+
+pub ask-requires-clause-marks : goal.ask-requires-clause-marks
+ask-requires-clause-marks g c _ _ = subst (λ (p : ℕ × ℕ). AreMarks c.args.b.now p c.loop-i.marks) (sym c.loop-i.invariant.0) c.loop-i.invariant.4
 
 pub bounds-row-0 : goal.bounds-row-0
 bounds-row-0 g c =
@@ -34,9 +42,18 @@ ask-requires-clause-second g c _ _ = row_second c.args.b.now c.args.run.now.budg
 pub ask-requires-clause-within : goal.ask-requires-clause-within
 ask-requires-clause-within g c _ _ = row_within c.args.b.now c.args.run.now.budget c.size-size.ensures.algebra.algebra c.loop-i.descent c.loop-i.invariant.2 c.loop-i.i c.row-row.result.now c.row-row.ensures
 
+pub mark-requires-clause-size : goal.mark-requires-clause-size
+mark-requires-clause-size g c = c.loop-i.invariant.4.size
+
+pub mark-requires-clause-first : goal.mark-requires-clause-first
+mark-requires-clause-first g c = row_first c.args.b.now c.args.run.now.budget c.size-size.ensures.algebra.algebra c.loop-i.descent c.loop-i.invariant.2 c.loop-i.i c.row-row.result.now c.row-row.ensures
+
+pub mark-requires-clause-second : goal.mark-requires-clause-second
+mark-requires-clause-second g c = row_second c.args.b.now c.args.run.now.budget c.size-size.ensures.algebra.algebra c.loop-i.descent c.loop-i.invariant.2 c.loop-i.i c.row-row.result.now c.row-row.ensures
+
 pub returns-in_err-ask : goal.returns-in_err-ask
 returns-in_err-ask g c =
-    let p = err_from_is_err_and c.from_residual.result c.from_residual.ensures.1 in
+    let p = err_from_is_err_and c.from_residual-in_err-ask.result c.from_residual-in_err-ask.ensures.1 in
     rw (p.1, p.2) c.in_err-ask.ensures
 
 pub returns-in-Settled : goal.returns-in-Settled
@@ -82,14 +99,15 @@ loop-i-preserved g c =
       | then-c-d+in_ok-put_above-in-Back w ↦
           let pair = w.in_ok-put_above-in-Back.ensures.pair in
           let list = w.in_ok-put_above-in-Back.ensures.list in
-          rw w.descent-is (
+          rw (w.descent-is, w.marks-is) (
             pair ∙ c.loop-i.invariant.0,
             list ∙ c.loop-i.invariant.1,
             descent_more b budget c.loop-i.descent w.put_above.new.self (slice_index row 0, slice_index row 1) pair list w.in_ok-put_above-in-Back.ensures.above
                 (row_leads b budget alg c.loop-i.descent d c.loop-i.i row c.row-row.ensures w.if-c-d.true back) d,
             back_below b budget c.loop-i.descent w.put_above.new.self (c.loop-i.i + 1) pair list below,
+            w.mark.ensures c.args.descent.now.pair c.loop-i.invariant.4 (subst (λ (p : ℕ × ℕ). Generates b (slice_index row 0) (slice_index row 1) p.0 p.1) c.loop-i.invariant.0 (back w.if-c-d.true)),
           )
-      | else-c-d w ↦ rw w.descent-is (c.loop-i.invariant.0, c.loop-i.invariant.1, d, below)
+      | else-c-d w ↦ rw (w.descent-is, w.marks-is) (c.loop-i.invariant.0, c.loop-i.invariant.1, d, below, c.loop-i.invariant.4)
     ]
 
 pub returns : goal.returns
