@@ -1,5 +1,5 @@
 -- Pairs that are known to generate one pair.
-use Rattle.std.specs.Prelude.{◌≡◌, ℕ, ◌*◌, ◌<◌, Bool, true, false, List, length, slice_index, slice_index_or, Contains}
+use Rattle.std.specs.Prelude.{◌≡◌, ℕ, ◌<◌, Bool, true, false, List, length, slice_index, slice_index_or, Contains}
 use Rattle.ua_table.specs.Algebras.{Vector, FiniteAlgebra}
 use Rattle.ua_table.specs.Listings.{Row, vectors_of}
 use Rattle.ua_prod.specs.Constructions.{pair_number, first_of, second_of}

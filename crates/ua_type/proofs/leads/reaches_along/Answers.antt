@@ -1,4 +1,4 @@
-use Rattle.std.proofs.Common.{◌≡◌, ◌<◌, ℕ, List, true, length, sym, ap, subst, ◌∙◌, arith, Some}
+use Rattle.std.proofs.Common.{◌≡◌, ◌<◌, ℕ, List, sym, ap, subst, ◌∙◌, arith, Some}
 use Rattle.std.specs.Prelude.{slice_index, slice_get}
 use Rattle.std.specs.List.{AllByRecursion}
 use Rattle.std.proofs.lemmas.List.Elements.{All-from_recursion}
@@ -6,7 +6,6 @@ use Rattle.ua_table.specs.Algebras.{Operation}
 use Rattle.ua_prod.specs.Translations.{row_at}
 use Rattle.ua_prod.proofs.ClashLaws.{arity_is, size_is, table_at}
 use Rattle.ua_type.specs.Subtraces.{Generates}
-use Rattle.ua_type.specs.Marks.{is_marked}
 use Rattle.ua_type.proofs.MarkLaws.{translated}
 use Rattle.ua_type.proofs.leads.reaches_along.Goals as goal
 
