@@ -32,7 +32,9 @@ class Structures(unittest.TestCase):
     @unittest.skipUnless(SAGE, "Sage is not installed")
     def test_each(self):
         environment = {**os.environ, "PYTHONPATH": str(PACKAGE)}
-        run = subprocess.run([SAGE, "-c", QUESTIONS], capture_output=True, check=False, env=environment)
+        run = subprocess.run(
+            [SAGE, "-c", QUESTIONS], stdin=subprocess.DEVNULL, capture_output=True, check=False, env=environment
+        )
         self.assertEqual(run.returncode, 0, run.stderr)
         blocks = [text + "end\n" for text in run.stdout.decode().split("end\n")[:-1]]
         boolean, pentagon, klein, symmetric, integers, field, monoid = map(Algebra.from_block, blocks)
