@@ -8,7 +8,7 @@ these are its first words.
 import itertools
 import sys
 
-from congruences import block, measured
+from congruences import block, groupoid, measured
 
 
 def integers(modulus):
@@ -44,6 +44,37 @@ def chain(size):
     return block(size, [(2, min), (2, max)])
 
 
+def subspaces(prime):
+    """The subspaces of the projective plane over the integers by a prime: a simple lattice with two elements for each point."""
+    numbers = range(prime)
+    points = [(1, a, b) for a in numbers for b in numbers] + [(0, 1, a) for a in numbers] + [(0, 0, 1)]
+    whole = frozenset(range(len(points)))
+    lines = [
+        frozenset(at for at, point in enumerate(points) if sum(x * y for x, y in zip(point, line)) % prime == 0)
+        for line in points
+    ]
+    spaces = [frozenset(), *(frozenset([at]) for at in whole), *lines, whole]
+    number = {space: at for at, space in enumerate(spaces)}
+    # Two points span the line that holds both, and a point and a line not through it the whole plane.
+    span = {pair: line for line in lines for pair in itertools.permutations(line, 2)}
+
+    def join(a, b):
+        low, high = sorted((spaces[a], spaces[b]), key=len)
+        if low <= high:
+            return number[high]
+        return number[span[(*low, *high)] if len(high) == 1 else whole]
+
+    return block(len(spaces), [(2, lambda a, b: number[spaces[a] & spaces[b]]), (2, join)])
+
+
+def cube_and_chain():
+    """The product of the lattice of subsets of three elements and a chain of five: 40 elements."""
+    members = list(itertools.product(range(2), range(2), range(2), range(5)))
+    number = {member: at for at, member in enumerate(members)}
+    operations = [lambda a, b, f=f: number[tuple(map(f, members[a], members[b]))] for f in (min, max)]
+    return block(len(members), [(2, operation) for operation in operations])
+
+
 def full(size):
     """The partition with one block."""
     return "|" + " ".join(map(str, range(size))) + "|"
@@ -77,6 +108,10 @@ def main():
         ("types of the ring of 60", ring(60), "types A", "types 20"),
         ("types of the group A4", even_permutations(4), "types A", "types 2"),
         ("types of a chain of 8", chain(8), "types A", "types 448"),
+        ("types, random operation on 100", groupoid(100)[0], "types A", "types 1"),
+        ("types of the plane over 7", subspaces(7), "types A", "types 1"),
+        ("types of the group A5", even_permutations(5), "types A", "types 1"),
+        ("commutator in a lattice of 40", cube_and_chain(), f"comm A {full(40)} {full(40)}", "exceeds 20000"),
         ("near-unanimity of 16 variables", lattice, "nu A 16", "yes"),
         ("Maltsev term of the group A4", even_permutations(4), "cond A maltsev", "yes"),
         ("majority in the integers by 12", integers(12), "cond A majority", "no 1728"),

@@ -95,13 +95,16 @@ def main():
         ("random operation on 200 elements", *groupoid(200)),
         ("cycle of 997", *cycle(997, 2)),
         ("chain of 300", *chain(300)),
+        ("chain of 300, budget 50,000", *chain(300), 50_000),
+        ("chain of 1,000", *chain(1000)),
     ]
-    for name, algebra, known in workloads:
-        command = [sys.argv[1], "--workers", "1", "--budget", str(BUDGET)]
+    for name, algebra, known, *budgets in workloads:
+        budget = budgets[0] if budgets else BUDGET
+        command = [sys.argv[1], "--workers", "1", "--budget", str(budget)]
         out, seconds, peak = measured(command, f"{algebra}con A\n".encode())
         head = out.split(b"\n", 1)[0].decode()
-        right = f"congruences {known}" if known <= BUDGET else f"exceeds {BUDGET}"
-        verdict = "as known" if head == right else f"NOT {known}"
+        right = f"congruences {known}" if known <= budget else f"exceeds {budget}"
+        verdict = "as known" if head == right else f"NOT {right}"
         print(f"{name:34} {head:18} {seconds:8.2f} s {peak:6.0f} MiB  {verdict}")
 
 
