@@ -2,3 +2,4 @@ pub mod MemberLaws
 pub mod HomLaws
 pub mod FlawLaws
 pub mod ExtensionLaws
+mod TwinLaws

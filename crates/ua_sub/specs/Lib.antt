@@ -1,4 +1,5 @@
 pub mod Members
+pub mod Twins
 pub mod Homs
 pub mod Permitted
 pub mod Extensions

@@ -6,6 +6,7 @@ mod flaws;
 mod homs;
 pub mod laws;
 mod members;
+mod twins;
 
 pub use flaws::{HomFlaw, is_hom};
 pub use homs::{Hom, HomError};

@@ -1,11 +1,13 @@
 //! The elements that elements of an algebra generate.
 
-ghost use Rattle.std.specs.Prelude.{◌≡◌, ◌<◌, ◌^◌, length, IfOk};
+ghost use Rattle.std.specs.Prelude.{◌≡◌, ◌<◌, ◌^◌, [], ◌∷◌, length, IfOk};
 ghost use Rattle.std.specs.List.{AllByRecursion};
 ghost use Rattle.ua_table.specs.Algebras.{Vector};
 ghost use Rattle.ua_table.specs.Listings.{vectors_of};
 ghost use Rattle.ua_sub.specs.Members.{singles, contents, AreMembers, AreOnes};
+ghost use Rattle.ua_sub.specs.Twins.{AreOnesBelow};
 
+use crate::twins::{Question, twin};
 use std::alloc::{AllocError, Global};
 use std::slice;
 use std::thread::Threads;
@@ -66,7 +68,33 @@ pub fn sub<R: Threads + Sync, G: Gate>(
     }
 }
 
-/// What each element alone generates, in order.
+/// What an element generates, where what each lower one does is listed. It is copied from the list where one
+/// that generates the same turns up.
+fn one<R: Threads + Sync, G: Gate>(
+    rt: &R,
+    alloc: Global,
+    algebra: &Algebra,
+    lists: &[Vec<Elem>],
+    x: Elem,
+    run: &Run<G>,
+) -> Result<Vec<Elem>, AllocError>
+    requires element { x < algebra.now.size }
+    requires lists { AreOnesBelow algebra.now x (contents lists.now) }
+    ensures { IfOk result (λ members. AreMembers algebra.now (x ∷ []) members.items) }
+{
+    let question = Question {
+        algebra,
+        lists,
+        element: x,
+    };
+    match twin(alloc, &question)? {
+        Some(y) => Vec::from_slice(alloc, lists[y as usize].as_slice()),
+        None => sub(rt, alloc, algebra, &[x], run),
+    }
+}
+
+/// What each element alone generates, in order. Where an element is found to generate an earlier one that
+/// generates it, the list of that one is copied.
 pub fn ones<R: Threads + Sync, G: Gate>(
     rt: &R,
     alloc: Global,
@@ -77,7 +105,7 @@ pub fn ones<R: Threads + Sync, G: Gate>(
 {
     let mut lists = Vec::with_capacity(alloc, algebra.size() as usize)?;
     for x in 0..algebra.size() {
-        let members = sub(rt, alloc, algebra, &[x as Elem], run)?;
+        let members = one(rt, alloc, algebra, lists.as_slice(), x as Elem, run)?;
         lists.push(members)?;
     }
     Ok(lists)
