@@ -20,6 +20,9 @@ use ua_table::{Algebra, Frame, Vectors};
 /// The numbers of workers, for answers that do not depend on them.
 pub(crate) const ANY: &[u32] = &[1, 2, 16];
 
+/// Two workers and sixteen.
+pub(crate) const SEVERAL: &[u32] = &[2, 16];
+
 /// Which call is made.
 pub(crate) enum Call {
     Closure,
