@@ -5,7 +5,7 @@ program := crates/uacalc/out/uacalc
 .PHONY: build try check long bench fmt
 
 build:
-	@echo "Every crate is proved first: about forty minutes on four cores, and seconds where nothing has changed."
+	@echo "Every crate is proved first: about an hour on four cores, and seconds where nothing has changed."
 	.ci/build
 	$(program) --workers 1 < examples/meet.ua
 

@@ -19,7 +19,7 @@ PACKAGE = pathlib.Path(__file__).resolve().parents[1] / "python"
 sys.path.insert(0, str(PACKAGE))
 
 from uacalc import Algebra, Calculator, Certificate, Operation, Script  # noqa: E402
-from uacalc.tools.check import checked  # noqa: E402
+from uacalc.tools.check import checked, verdicts  # noqa: E402
 
 GROUP = 20  # algebras whose certificates are checked by one run
 COPIES = 7  # damaged copies of each certificate
@@ -125,7 +125,8 @@ class Comparison:
         for line in lines:
             self.counts[line.decode(errors="replace") if line == b"valid" else b" ".join(line.split()[:2]).decode()] += 1
         if self.coq:
-            self.check_coq(script, lines)
+            # A path with a key that has an escape for a line feed takes two lines, so verdicts are counted and not lines.
+            self.check_coq(script, [verdict.encode() for verdict in verdicts(Script.parse(script))[0]])
 
     def compare_lines(self, script, lines, others, error):
         """Tells the certificates of which the two say different things."""
