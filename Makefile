@@ -9,7 +9,7 @@ build:
 	.ci/build
 	$(program) --workers 1 < examples/meet.ua
 
-# The first example, answered by the unproved program, in about a minute.
+# The first example, answered by the unproved program, in a minute or two.
 try:
 	cd crates/uacalc && rt try -- --workers 1 < ../../examples/meet.ua
 
