@@ -11,7 +11,7 @@ an r with r(a,b,b) = a and r(c,c,d) = d for all pairs. In the same way, let s sa
 s(a,b,b) = a for some. For one more let u = s(a,b,b), and take r with r(a,u,u) = a: then r(x, s(x,y,y), s(x,y,z)) does.
 
 Of the 19,683 tables those are asked about that come first among their isomorphic and anti-isomorphic copies: every
-fortieth of these, or as the number on the command line says. With 1, all, there are 62,424 questions.
+twentieth of these, or as the number on the command line says. With 1, all, there are 62,424 questions.
 """
 
 import sys
@@ -29,7 +29,7 @@ def copies(table):
         yield tuple(renamed[3 * y + x] for x in range(3) for y in range(3))
 
 
-step = int(sys.argv[1]) if sys.argv[1:] else 40
+step = int(sys.argv[1]) if sys.argv[1:] else 20
 tables = [table for table in product(range(3), repeat=9) if table == min(copies(table))]
 groupoids = [Algebra(f"A{number}", 3, {"f": Operation(2, table)}) for number, table in enumerate(tables[::step])]
 print(len(tables), "groupoids up to isomorphism and exchange of the arguments, of which", len(groupoids), "are asked about")
