@@ -1,4 +1,4 @@
-//! Tests of partitions, of congruences and their clashes, and of lattices of congruences.
+//! Tests of partitions, of congruences and their clashes, and of algebras made from others.
 #![tactic(auto)]
 
 #[cfg(test)]
@@ -7,7 +7,5 @@ mod clashes;
 mod congruences;
 #[cfg(test)]
 mod constructions;
-#[cfg(test)]
-mod lattices;
 #[cfg(test)]
 mod partitions;

@@ -1,7 +1,0 @@
-use Rattle.std.proofs.Common.{refl}
-use Rattle.std.specs.List.{IsDistinct}
-use Rattle.ua_lattice_tests.proofs.constructions.turned.Goals as goal
-
-pub reduct-requires-clause-different : goal.reduct-requires-clause-different
-unfolding IsDistinct
-reduct-requires-clause-different c = ((refl, tt), (tt, tt))
