@@ -27,6 +27,7 @@ Scripts that are too long for a file are made here (`made`).
 
 import concurrent.futures
 import dataclasses
+import itertools
 import os
 import pathlib
 import re
@@ -184,8 +185,34 @@ TRIALS = {
 }
 
 
+def section_of(title, blocks):
+    """A section of cases that are made here, tried with one worker."""
+    return Section(title, "cases", {"blocks": blocks, "workers": "1", "version": "2"}, [])
+
+
+def tables():
+    """Whether operations are those of terms or polynomials. By sums modulo 2, those of three variables are the sums of some,
+    and these and their complements. The Boolean algebra has all, of which every eighth is asked, and so has the greatest
+    of two and the next element on three elements (E. L. Post, Introduction to a general theory of elementary propositions)."""
+    sums = section_of("sums", "algebra S size 2 op plus 2 = 0 1 1 0 end\n")
+    boolean = section_of("Boolean", "algebra B size 2 op and 2 = 0 0 0 1 op or 2 = 0 1 1 1 op not 1 = 1 0 end\n")
+    post = section_of("Post", "algebra P size 3 op max 2 = 0 1 2 1 1 2 2 2 2 op next 1 = 1 2 0 end\n")
+    odd = [tuple(bin(place & chosen).count("1") % 2 for place in range(8)) for chosen in range(8)]
+    for values in itertools.product((0, 1), repeat=8):
+        total = f"total [{' '.join(map(str, values))}]"
+        is_sum, is_affine = values in odd, values in odd or tuple(1 - value for value in values) in odd
+        yield sums, f"clone S 3 term {total}", "yes ..\n" if is_sum else "no ..\n"
+        yield sums, f"clone S 3 polynomial {total}", "yes ..\n" if is_affine else "no ..\n"
+        if values[:3] == (1, 0, 1):
+            yield boolean, f"clone B 3 term {total}", "yes ..\n"
+            yield boolean, f"clone B 3 polynomial {total}", "yes ..\n"
+    for values in itertools.product((0, 1, 2), repeat=3):
+        yield post, f"clone P 1 term total [{' '.join(map(str, values))}]", "yes ..\n"
+
+
 def trials():
-    """Each question of each file: its section, the question and its reply."""
+    """Each question of each file, and of those made here: its section, the question and its reply."""
+    yield from tables()
     for file in sorted(FOLDER.glob("*.cases")):
         for section in sections(file):
             has_replies = section.kind not in ("refused words", "certificates")

@@ -1,13 +1,7 @@
-//! Tests of memberships in clones: which tables terms and polynomials agree with.
+//! Tests of memberships in clones that no script can ask, and of the polynomials of their steps.
 #![tactic(auto)]
 
 #[cfg(test)]
-mod bounds;
-#[cfg(test)]
 mod given;
-#[cfg(test)]
-mod known;
-#[cfg(test)]
-mod ternary;
 #[cfg(test)]
 mod trees;

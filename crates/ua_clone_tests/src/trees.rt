@@ -9,7 +9,7 @@ use std::test::Fail;
 use std::thread::Threads;
 use ua_clone::{Points, Poly, clone_member, laws, poly_value, to_poly};
 use ua_close::{Answer, FreeGate, Run};
-use ua_table::{Algebra, Elem};
+use ua_table::{Algebra, Elem, Vectors};
 
 /// The assignment with this number.
 fn assignment(alloc: Global, n: u32, k: u8, number: u32) -> Result<Vec<Elem>, Fail> {
@@ -92,5 +92,24 @@ fn values_of_polynomials(rt: HostRuntime) -> Result<(), Fail> {
             assert!(rt; text.len() > 0);
         }
     }
+    Ok(())
+}
+
+/// Points with the same arguments and different values, which no script may write: no polynomial agrees with both.
+#[test]
+fn arguments_that_stand_twice(rt: HostRuntime) -> Result<(), Fail> {
+    let alloc = rt.alloc();
+    let (a, k, kind) = heading(alloc, b"M1p")?;
+    let run = Run::new(10_000, 1, &FreeGate).ok_or("a number out of its limits")?;
+    let mut vectors = Vectors::new(alloc, 2);
+    assert!(rt; vectors.width() == 2);
+    vectors.add(&[1, 1])?;
+    vectors.add(&[1, 0])?;
+    let points = Points::Partial(vectors);
+    assert!(rt; points.fit(&a, k));
+    let Ok(Answer::No(list)) = clone_member(&rt, alloc, &a, k, kind, &points, &run) else {
+        return Err("a polynomial".into());
+    };
+    assert_eq!(rt; list.len(), 2);
     Ok(())
 }

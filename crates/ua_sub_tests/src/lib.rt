@@ -1,15 +1,7 @@
-//! Tests of subalgebras, homomorphisms, free algebras and identities.
+//! Tests of which maps are homomorphisms: no script asks this of a whole map.
 #![tactic(auto)]
 
 #[cfg(test)]
 mod flaws;
 #[cfg(test)]
-mod frees;
-#[cfg(test)]
 mod given;
-#[cfg(test)]
-mod homs;
-#[cfg(test)]
-mod identities;
-#[cfg(test)]
-mod members;

@@ -21,9 +21,3 @@ pub(crate) fn algebra(alloc: Global, size: u32, tables: &[(u8, &[u8])]) -> Resul
     }
     Ok(Algebra::new(Name::new(alloc, b"A")?, size, ops)?)
 }
-
-/// The group of quaternions 1, -1, i, -i, j, -j, k, -k.
-pub(crate) fn quaternions(alloc: Global) -> Result<Algebra, Fail> {
-    let products = b"0123456710325476231067543201764545761023546701326745321076542301";
-    algebra(alloc, 8, &[(2, products)])
-}

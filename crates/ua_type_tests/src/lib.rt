@@ -1,9 +1,7 @@
-//! Tests of subtraces and of types.
+//! Tests of the first subtrace and of the type of a single cover.
 #![tactic(auto)]
 
 #[cfg(test)]
 mod covers;
 #[cfg(test)]
 mod given;
-#[cfg(test)]
-mod tables;

@@ -1,0 +1,5 @@
+//! Tests of matrices of congruences.
+#![tactic(auto)]
+
+#[cfg(test)]
+mod matrices;
