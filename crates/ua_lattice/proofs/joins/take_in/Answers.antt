@@ -32,24 +32,24 @@ returns-then-is_some-clause-there c = λ _.
     let is = c.as_slice.ensures.value ∙ c.copy.ensures in
     subst (Contains rows) is (contains_found rows c.as_slice.result.now c.find.result (sym c.is_some.ensures ∙ c.if-is_some.true) c.find.ensures.found)
 
-pub enter_joins-whole-requires-clause-within : goal.enter_joins-whole-requires-clause-within
-enter_joins-whole-requires-clause-within c = c.requires.found.within
+pub enter_joins-requires-clause-within : goal.enter_joins-requires-clause-within
+enter_joins-requires-clause-within c = c.requires.found.within
 
-pub enter_joins-whole-requires-clause-room : goal.enter_joins-whole-requires-clause-room
-enter_joins-whole-requires-clause-room c = omega (arith, c.requires.found.room)
+pub enter_joins-requires-clause-room : goal.enter_joins-requires-clause-room
+enter_joins-requires-clause-room c = omega (arith, c.requires.found.room)
 
-pub enter_joins-whole-requires-clause-partitions : goal.enter_joins-whole-requires-clause-partitions
-enter_joins-whole-requires-clause-partitions c =
+pub enter_joins-requires-clause-partitions : goal.enter_joins-requires-clause-partitions
+enter_joins-requires-clause-partitions c =
     all_weaker (IsCongruence c.args.search.now.algebra.now) IsPartition (λ p h. h.partition) c.args.found.now.rows.items c.requires.found.spanned.congruences
 
-pub enter_joins-whole-requires-clause-width : goal.enter_joins-whole-requires-clause-width
-enter_joins-whole-requires-clause-width c = c.requires.found.width ∙ sym c.requires.congruence.size
+pub enter_joins-requires-clause-width : goal.enter_joins-requires-clause-width
+enter_joins-requires-clause-width c = c.requires.found.width ∙ sym c.requires.congruence.size
 
-pub enter_joins-whole-requires-clause-joiner : goal.enter_joins-whole-requires-clause-joiner
-enter_joins-whole-requires-clause-joiner c = ap length c.copy.ensures
+pub enter_joins-requires-clause-joiner : goal.enter_joins-requires-clause-joiner
+enter_joins-requires-clause-joiner c = ap length c.copy.ensures
 
-pub enter_joins-whole-requires-clause-few : goal.enter_joins-whole-requires-clause-few
-enter_joins-whole-requires-clause-few c = omega (arith, c.requires.congruence.size, c.requires.found.algebra.small)
+pub enter_joins-requires-clause-few : goal.enter_joins-requires-clause-few
+enter_joins-requires-clause-few c = omega (arith, c.requires.congruence.size, c.requires.found.algebra.small)
 
 pub returns-clause-found : goal.returns-clause-found
 returns-clause-found c = λ whole.
