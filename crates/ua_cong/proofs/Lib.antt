@@ -1,5 +1,6 @@
 pub mod Normal
 pub mod ClosingLaws
+pub mod StateLaws
 pub mod ExtensionLaws
 pub mod PairLaws
 pub mod CombinationLaws

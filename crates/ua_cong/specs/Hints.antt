@@ -4,7 +4,7 @@ use Rattle.ua_table.specs.Algebras.{FiniteAlgebra}
 use Rattle.ua_part.specs.Partitions.{SameBlock, LiesBelow, Partition}
 use Rattle.ua_prod.specs.Congruences.{IsCongruence}
 use Rattle.ua_cong.specs.declared.known.Known.{Known}
-use Rattle.ua_cong.specs.Closings.{IsForced}
+use Rattle.ua_cong.specs.Closings.{AreForced}
 
 -- the row at this place is a congruence below each that relates x and y
 pub record IsHint (a : FiniteAlgebra) (known : Known) (x y place : ℕ) : Type 0 where
@@ -13,7 +13,5 @@ pub record IsHint (a : FiniteAlgebra) (known : Known) (x y place : ℕ) : Type 0
   pub below : (q : Partition) → IsCongruence a q → SameBlock q x y → LiesBelow (slice_index_or known.rows.items place []) q
 
 -- two elements that each congruence relates which relates x and y
-pub record IsNext (a : FiniteAlgebra) (x y : ℕ) (next : ℕ × ℕ) : Type 0 where
-  pub first : next.0 < a.size
-  pub second : next.1 < a.size
-  pub forced : IsForced a ((x, y) ∷ []) next.0 next.1
+abbrev pub IsNext : FiniteAlgebra → ℕ → ℕ → ℕ × ℕ → Type 0
+IsNext a x y next = AreForced a ((x, y) ∷ []) next.0 next.1

@@ -4,13 +4,13 @@
 ghost use Rattle.std.specs.Prelude.{◌≡◌, ℕ, ◌<◌, ◌≤◌, [], ◌∷◌, ◌++◌, length, slice_index, IfOk, OnOk, IfSome};
 ghost use Rattle.std.specs.List.{AllByRecursion};
 ghost use Rattle.ua_table.specs.declared.limits.TheConstants.{SIZE};
-ghost use Rattle.ua_table.specs.Algebras.{IsAlgebra, arities_of};
+ghost use Rattle.ua_table.specs.Algebras.{arities_of};
 ghost use Rattle.ua_part.specs.Partitions.{SameBlock};
 ghost use Rattle.ua_prod.specs.Congruences.{IsCg, IsCongruence, RelatesAll};
-ghost use Rattle.ua_cong.specs.Closings.{AreElements, IsForced, IsCarried, IsCarriedAlong};
+ghost use Rattle.ua_cong.specs.Closings.{AreElements, AreForced, AreForcedAlong, AreRelatedAlong, IsCarried, IsCarriedAlong};
 ghost use Rattle.ua_cong.specs.Extensions.{led_pairs, IsCgAbove};
 ghost use Rattle.ua_cong.specs.Known.{IsKnown, IsPlaceOf};
-ghost use Rattle.ua_cong.specs.States.{IsState, HasGrown};
+ghost use Rattle.ua_cong.specs.States.{IsProblem, IsState, GoesOn};
 
 use crate::known::{Known, rank};
 use std::alloc::{AllocError, Global};
@@ -68,14 +68,10 @@ pub fn place_of(algebra: &Algebra, known: &Known, x: Elem, y: Elem) -> Option<u3
 /// Relates two elements. Unless they were, their pair is noted as work, or their principal congruence
 /// is brought in, if it is known: it has no work left.
 fn unite(problem: &Problem, closing: &mut Closing, x: Elem, y: Elem) -> Result<(), AllocError>
-    requires algebra { IsAlgebra problem.now.algebra.now }
-    requires known { IsKnown problem.now.algebra.now problem.now.known.now }
-    requires first { x < problem.now.algebra.now.size }
-    requires second { y < problem.now.algebra.now.size }
-    requires forced { IsForced problem.now.algebra.now problem.now.pairs.now x y }
+    requires problem { IsProblem problem.now }
+    requires pair { AreForced problem.now.algebra.now problem.now.pairs.now x y }
     requires closing { IsState problem.now closing.old }
-    ensures closing { OnOk result (IsState problem.now closing.new) }
-    ensures grown { OnOk result (HasGrown closing.old closing.new) }
+    ensures gone { OnOk result (GoesOn problem.now closing.old closing.new) }
     ensures related { OnOk result (SameBlock closing.new.sets x y) }
 {
     if !closing.sets.unite(u32::from(x), u32::from(y)) {
@@ -90,14 +86,10 @@ fn unite(problem: &Problem, closing: &mut Closing, x: Elem, y: Elem) -> Result<(
 
 /// Relates two elements, where this costs nothing if they are equal.
 fn relate(problem: &Problem, closing: &mut Closing, x: Elem, y: Elem) -> Result<(), AllocError>
-    requires algebra { IsAlgebra problem.now.algebra.now }
-    requires known { IsKnown problem.now.algebra.now problem.now.known.now }
-    requires first { x < problem.now.algebra.now.size }
-    requires second { y < problem.now.algebra.now.size }
-    requires forced { IsForced problem.now.algebra.now problem.now.pairs.now x y }
+    requires problem { IsProblem problem.now }
+    requires pair { AreForced problem.now.algebra.now problem.now.pairs.now x y }
     requires closing { IsState problem.now closing.old }
-    ensures closing { OnOk result (IsState problem.now closing.new) }
-    ensures grown { OnOk result (HasGrown closing.old closing.new) }
+    ensures gone { OnOk result (GoesOn problem.now closing.old closing.new) }
     ensures related { OnOk result (SameBlock closing.new.sets x y) }
 {
     if x == y {
@@ -113,16 +105,12 @@ fn relate_rows(
     first: &[Elem],
     second: &[Elem],
 ) -> Result<(), AllocError>
-    requires algebra { IsAlgebra problem.now.algebra.now }
-    requires known { IsKnown problem.now.algebra.now problem.now.known.now }
-    requires first { AllByRecursion (λ v. v < problem.now.algebra.now.size) first.now }
-    requires second { AllByRecursion (λ v. v < problem.now.algebra.now.size) second.now }
+    requires problem { IsProblem problem.now }
     requires lengths { length first.now ≡ length second.now }
-    requires forced { (k : ℕ) → k < length first.now → IsForced problem.now.algebra.now problem.now.pairs.now (slice_index first.now k) (slice_index second.now k) }
+    requires pairs { AreForcedAlong problem.now.algebra.now problem.now.pairs.now first.now second.now }
     requires closing { IsState problem.now closing.old }
-    ensures closing { OnOk result (IsState problem.now closing.new) }
-    ensures grown { OnOk result (HasGrown closing.old closing.new) }
-    ensures related { OnOk result ((k : ℕ) → k < length first.now → slice_index closing.new.sets (slice_index first.now k) ≡ slice_index closing.new.sets (slice_index second.now k)) }
+    ensures gone { OnOk result (GoesOn problem.now closing.old closing.new) }
+    ensures related { OnOk result (AreRelatedAlong closing.new.sets first.now second.now) }
 {
     for k in 0..first.len() {
         relate(problem, closing, first[k], second[k])?;
@@ -139,15 +127,12 @@ fn relate_along(
     x: Elem,
     y: Elem,
 ) -> Result<(), AllocError>
-    requires known { IsKnown problem.now.algebra.now problem.now.known.now }
+    requires problem { IsProblem problem.now }
     requires operation { op < length (arities_of problem.now.algebra.now) }
     requires place { place < slice_index (arities_of problem.now.algebra.now) op }
-    requires first { x < problem.now.algebra.now.size }
-    requires second { y < problem.now.algebra.now.size }
-    requires forced { IsForced problem.now.algebra.now problem.now.pairs.now x y }
+    requires pair { AreForced problem.now.algebra.now problem.now.pairs.now x y }
     requires closing { IsState problem.now closing.old }
-    ensures closing { OnOk result (IsState problem.now closing.new) }
-    ensures grown { OnOk result (HasGrown closing.old closing.new) }
+    ensures gone { OnOk result (GoesOn problem.now closing.old closing.new) }
     ensures carried { OnOk result (IsCarriedAlong problem.now.algebra.now closing.new.sets op place x y) }
 {
     let translations = Translations::new(problem.algebra.op(op), place);
@@ -167,14 +152,11 @@ fn relate_results(
     x: Elem,
     y: Elem,
 ) -> Result<(), AllocError>
-    requires known { IsKnown problem.now.algebra.now problem.now.known.now }
+    requires problem { IsProblem problem.now }
     requires operation { op < length (arities_of problem.now.algebra.now) }
-    requires first { x < problem.now.algebra.now.size }
-    requires second { y < problem.now.algebra.now.size }
-    requires forced { IsForced problem.now.algebra.now problem.now.pairs.now x y }
+    requires pair { AreForced problem.now.algebra.now problem.now.pairs.now x y }
     requires closing { IsState problem.now closing.old }
-    ensures closing { OnOk result (IsState problem.now closing.new) }
-    ensures grown { OnOk result (HasGrown closing.old closing.new) }
+    ensures gone { OnOk result (GoesOn problem.now closing.old closing.new) }
     ensures carried { OnOk result ((place : ℕ) → place < slice_index (arities_of problem.now.algebra.now) op → IsCarriedAlong problem.now.algebra.now closing.new.sets op place x y) }
 {
     for place in 0..problem.algebra.op(op).arity() {
@@ -185,13 +167,10 @@ fn relate_results(
 
 /// Relates the results of all operations at two elements.
 fn carry(problem: &Problem, closing: &mut Closing, x: Elem, y: Elem) -> Result<(), AllocError>
-    requires known { IsKnown problem.now.algebra.now problem.now.known.now }
-    requires first { x < problem.now.algebra.now.size }
-    requires second { y < problem.now.algebra.now.size }
-    requires forced { IsForced problem.now.algebra.now problem.now.pairs.now x y }
+    requires problem { IsProblem problem.now }
+    requires pair { AreForced problem.now.algebra.now problem.now.pairs.now x y }
     requires closing { IsState problem.now closing.old }
-    ensures closing { OnOk result (IsState problem.now closing.new) }
-    ensures grown { OnOk result (HasGrown closing.old closing.new) }
+    ensures gone { OnOk result (GoesOn problem.now closing.old closing.new) }
     ensures carried { OnOk result (IsCarried problem.now.algebra.now closing.new.sets (x, y)) }
 {
     for op in 0..problem.algebra.ops().len() as u32 {
@@ -202,11 +181,9 @@ fn carry(problem: &Problem, closing: &mut Closing, x: Elem, y: Elem) -> Result<(
 
 /// Carries each pair of the work, and the pairs that this adds.
 fn carry_all(problem: &Problem, closing: &mut Closing) -> Result<(), AllocError>
-    requires algebra { IsAlgebra problem.now.algebra.now }
-    requires known { IsKnown problem.now.algebra.now problem.now.known.now }
+    requires problem { IsProblem problem.now }
     requires closing { IsState problem.now closing.old }
-    ensures closing { OnOk result (IsState problem.now closing.new) }
-    ensures grown { OnOk result (HasGrown closing.old closing.new) }
+    ensures gone { OnOk result (GoesOn problem.now closing.old closing.new) }
     ensures carried { OnOk result (AllByRecursion (IsCarried problem.now.algebra.now closing.new.sets) closing.new.work.items) }
 {
     let mut next = 0;
@@ -220,8 +197,7 @@ fn carry_all(problem: &Problem, closing: &mut Closing) -> Result<(), AllocError>
 
 /// Relates the pairs.
 fn relate_pairs(problem: &Problem, closing: &mut Closing) -> Result<(), AllocError>
-    requires algebra { IsAlgebra problem.now.algebra.now }
-    requires known { IsKnown problem.now.algebra.now problem.now.known.now }
+    requires problem { IsProblem problem.now }
     requires pairs { AllByRecursion (AreElements problem.now.algebra.now) problem.now.pairs.now }
     requires closing { IsState problem.now closing.old }
     ensures closing { OnOk result (IsState problem.now closing.new) }

@@ -7,6 +7,7 @@
 
 ghost use Rattle.std.specs.Prelude.{◌+◌, ◌<◌, ◌≤◌, length, OnOk};
 ghost use Rattle.ua_cong.specs.Known.{IsKnown};
+ghost use Rattle.ua_cong.specs.States.{IsSearched};
 
 use crate::closing::place_of;
 use crate::known::{Known, rank};
@@ -234,11 +235,8 @@ fn settle_pair(
     pair: u32,
     by: Option<u32>,
 ) -> Result<(), AllocError>
-    requires known { IsKnown ground.now.algebra.now known.old }
-    requires limit { ground.now.limit < u32.MAX }
-    requires within { length known.old.rows.items ≤ ground.now.limit + 1 }
-    ensures known { OnOk result (IsKnown ground.now.algebra.now known.new) }
-    ensures within { length known.new.rows.items ≤ ground.now.limit + 1 }
+    requires { IsSearched ground.now known.old }
+    ensures { OnOk result (IsSearched ground.now known.new) }
 {
     let Some((x, y)) = ground.pairs.get(pair as usize).copied() else {
         return Ok(());
@@ -282,11 +280,8 @@ fn settle_traced(
     known: &mut Known,
     pair: u32,
 ) -> Result<(), AllocError>
-    requires known { IsKnown ground.now.algebra.now known.old }
-    requires limit { ground.now.limit < u32.MAX }
-    requires within { length known.old.rows.items ≤ ground.now.limit + 1 }
-    ensures known { OnOk result (IsKnown ground.now.algebra.now known.new) }
-    ensures within { length known.new.rows.items ≤ ground.now.limit + 1 }
+    requires { IsSearched ground.now known.old }
+    ensures { OnOk result (IsSearched ground.now known.new) }
 {
     trace(trail, pair)?;
     for _ in 0..trail.chain.len() {
@@ -309,11 +304,8 @@ fn settle_component(
     known: &mut Known,
     pair: u32,
 ) -> Result<(), AllocError>
-    requires known { IsKnown ground.now.algebra.now known.old }
-    requires limit { ground.now.limit < u32.MAX }
-    requires within { length known.old.rows.items ≤ ground.now.limit + 1 }
-    ensures known { OnOk result (IsKnown ground.now.algebra.now known.new) }
-    ensures within { length known.new.rows.items ≤ ground.now.limit + 1 }
+    requires { IsSearched ground.now known.old }
+    ensures { OnOk result (IsSearched ground.now known.new) }
 {
     for _ in 0..trail.open.len() {
         let Some(next) = trail.open.pop() else {
@@ -352,11 +344,8 @@ fn leave(
     frame: Frame,
     same: bool,
 ) -> Result<(), AllocError>
-    requires known { IsKnown ground.now.algebra.now known.old }
-    requires limit { ground.now.limit < u32.MAX }
-    requires within { length known.old.rows.items ≤ ground.now.limit + 1 }
-    ensures known { OnOk result (IsKnown ground.now.algebra.now known.new) }
-    ensures within { length known.new.rows.items ≤ ground.now.limit + 1 }
+    requires { IsSearched ground.now known.old }
+    ensures { OnOk result (IsSearched ground.now known.new) }
 {
     let first = frame.low == frame.number;
     let by = if same { frame.by } else { frame.best };
@@ -378,11 +367,8 @@ fn step(
     trail: &mut Trail,
     known: &mut Known,
 ) -> Result<(), AllocError>
-    requires known { IsKnown ground.now.algebra.now known.old }
-    requires limit { ground.now.limit < u32.MAX }
-    requires within { length known.old.rows.items ≤ ground.now.limit + 1 }
-    ensures known { OnOk result (IsKnown ground.now.algebra.now known.new) }
-    ensures within { length known.new.rows.items ≤ ground.now.limit + 1 }
+    requires { IsSearched ground.now known.old }
+    ensures { OnOk result (IsSearched ground.now known.new) }
 {
     let Some(frame) = trail.path.pop() else {
         return Ok(());
@@ -406,11 +392,8 @@ fn search_from(
     known: &mut Known,
     pair: u32,
 ) -> Result<(), AllocError>
-    requires known { IsKnown ground.now.algebra.now known.old }
-    requires limit { ground.now.limit < u32.MAX }
-    requires within { length known.old.rows.items ≤ ground.now.limit + 1 }
-    ensures known { OnOk result (IsKnown ground.now.algebra.now known.new) }
-    ensures within { length known.new.rows.items ≤ ground.now.limit + 1 }
+    requires { IsSearched ground.now known.old }
+    ensures { OnOk result (IsSearched ground.now known.new) }
 {
     let Some(node) = trail.nodes.get(pair as usize).copied() else {
         return Ok(());
@@ -441,7 +424,7 @@ pub fn settle_components(
     requires limit { limit < u32.MAX }
     requires within { length known.old.rows.items ≤ limit }
     ensures known { OnOk result (IsKnown a.now known.new) }
-    ensures within { length known.new.rows.items ≤ limit + 1 }
+    ensures within { OnOk result (length known.new.rows.items ≤ limit + 1) }
 {
     let moves = Moves::new(alloc, a)?;
     let ground = Ground {

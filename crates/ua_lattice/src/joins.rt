@@ -2,10 +2,10 @@
 
 ghost use Rattle.std.specs.Prelude.{◌≡◌, ◌+◌, ◌<◌, ◌≤◌, [], ◌∷◌, length, slice_index_or, Contains, IfOk, OnOk, IsTrue, IsFalse};
 ghost use Rattle.std.specs.List.{AllByRecursion};
-ghost use Rattle.ua_table.specs.Tables.{IsAlgebraTable};
 ghost use Rattle.ua_part.specs.Partitions.{IsPartition, identity_on};
 ghost use Rattle.ua_prod.specs.Congruences.{IsCongruence};
 ghost use Rattle.ua_lattice.specs.Joins.{IsJoinEntered, GoesOnWithJoins, HasJoins, IsSpannedLattice, AreAmong};
+ghost use Rattle.ua_lattice.specs.Searches.{HasFound};
 ghost use Rattle.ua_table.specs.declared.limits.TheConstants.{SIZE};
 
 use crate::joiner::{Joiner, lies_below};
@@ -87,20 +87,12 @@ fn take_in(
     joiner: &mut Joiner,
     part: &Part,
 ) -> Result<bool, AllocError>
-    requires algebra { IsAlgebraTable search.now.algebra.now }
     requires congruence { IsCongruence search.now.algebra.now part.now }
-    requires found { IsSpannedLattice search.now.algebra.now found.old.generators.items found.old.rows.items }
-    requires within { length found.old.rows.items ≤ search.now.budget }
-    requires room { search.now.budget < u32.MAX }
-    requires width { found.old.rows.width ≡ search.now.algebra.now.size }
-    requires joiner { length joiner.old.row.items ≡ search.now.algebra.now.size }
-    ensures width { found.new.rows.width ≡ found.old.rows.width }
-    ensures joiner { length joiner.new.row.items ≡ length joiner.old.row.items }
+    requires found { HasFound search.now found.old joiner.old }
     ensures congruences { OnOk result (AllByRecursion (IsCongruence search.now.algebra.now) found.new.rows.items) }
-    ensures kept { OnOk result (AreAmong found.old.rows.items found.new.rows.items) }
-    ensures found { IfOk result (λ whole. IsTrue whole → IsSpannedLattice search.now.algebra.now found.new.generators.items found.new.rows.items) }
+    ensures found { IfOk result (λ whole. IsTrue whole → HasFound search.now found.new joiner.new) }
+    ensures kept { IfOk result (λ whole. IsTrue whole → AreAmong found.old.rows.items found.new.rows.items) }
     ensures there { IfOk result (λ whole. IsTrue whole → Contains found.new.rows.items part.now) }
-    ensures within { IfOk result (λ whole. IsTrue whole → length found.new.rows.items ≤ search.now.budget) }
     ensures exceeds { IfOk result (λ whole. IsFalse whole → length found.new.rows.items ≡ search.now.budget + 1) }
 {
     joiner.copy(part);
@@ -108,7 +100,8 @@ fn take_in(
         return Ok(true);
     }
     found.generators.push(part.copy(alloc)?)?;
-    enter_joins(&mut found.rows, joiner, part, search.budget)
+    let whole = enter_joins(&mut found.rows, joiner, part, search.budget)?;
+    Ok(whole)
 }
 
 /// Enters the joins of congruences. False where there are more than the budget.
@@ -119,18 +112,11 @@ pub fn take_in_all(
     joiner: &mut Joiner,
     parts: &[Part],
 ) -> Result<bool, AllocError>
-    requires algebra { IsAlgebraTable search.now.algebra.now }
     requires parts { AllByRecursion (IsCongruence search.now.algebra.now) parts.now }
-    requires found { IsSpannedLattice search.now.algebra.now found.old.generators.items found.old.rows.items }
-    requires within { length found.old.rows.items ≤ search.now.budget }
-    requires room { search.now.budget < u32.MAX }
-    requires width { found.old.rows.width ≡ search.now.algebra.now.size }
-    requires joiner { length joiner.old.row.items ≡ search.now.algebra.now.size }
-    ensures joiner { length joiner.new.row.items ≡ length joiner.old.row.items }
+    requires found { HasFound search.now found.old joiner.old }
     ensures congruences { OnOk result (AllByRecursion (IsCongruence search.now.algebra.now) found.new.rows.items) }
-    ensures found { IfOk result (λ whole. IsTrue whole → IsSpannedLattice search.now.algebra.now found.new.generators.items found.new.rows.items) }
+    ensures found { IfOk result (λ whole. IsTrue whole → HasFound search.now found.new joiner.new) }
     ensures there { IfOk result (λ whole. IsTrue whole → AreAmong parts.now found.new.rows.items) }
-    ensures within { IfOk result (λ whole. IsTrue whole → length found.new.rows.items ≤ search.now.budget) }
     ensures exceeds { IfOk result (λ whole. IsFalse whole → length found.new.rows.items ≡ search.now.budget + 1) }
 {
     for i in 0..parts.len() {

@@ -28,7 +28,7 @@ returns c =
     let pairs = c.as_slice.result.now in
     let before = c.relate_pairs.new.closing in
     let after = c.carry_all.new.closing in
-    let least : IsCg a pairs after.sets = closed_all a pairs after.sets after.work.items c.size-size.ensures.algebra.algebra c.in_ok-carry_all.ensures.closing c.in_ok-carry_all.ensures.carried
-    (related_more before.sets after.sets pairs c.in_ok-carry_all.ensures.grown.above c.in_ok-relate_pairs.ensures.related) in
+    let least : IsCg a pairs after.sets = closed_all a pairs after.sets after.work.items c.size-size.ensures.algebra.algebra c.in_ok-carry_all.ensures.gone.closing c.in_ok-carry_all.ensures.carried
+    (related_more before.sets after.sets pairs c.in_ok-carry_all.ensures.gone.grown.above c.in_ok-relate_pairs.ensures.related) in
     above_from_cg a p c.requires.congruence c.args.x c.args.y after.sets
     (subst (λ (ps : List (ℕ × ℕ)). IsCg a ps after.sets) (c.as_slice.ensures.value ∙ c.in_ok-pairs.ensures) least)

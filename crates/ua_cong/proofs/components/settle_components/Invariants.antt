@@ -1,9 +1,5 @@
-use Rattle.std.proofs.Common.{◌+◌, ◌≤◌, length}
-use Rattle.ua_cong.specs.Known.{IsKnown}
+use Rattle.ua_cong.specs.States.{IsSearched}
 use Rattle.ua_cong.proofs.components.settle_components.Given as goal
 
 abbrev pub invariant-loop-pair : goal.invariant-loop-pair
-invariant-loop-pair l = record {
-  known : IsKnown l.a l.known;
-  within : length l.known.rows.items ≤ l.limit + 1;
-}
+invariant-loop-pair l = IsSearched l.ground l.known

@@ -1,9 +1,5 @@
-use Rattle.std.proofs.Common.{◌+◌, ◌≤◌, length}
-use Rattle.ua_cong.specs.Known.{IsKnown}
+use Rattle.ua_cong.specs.States.{IsSearched}
 use Rattle.ua_cong.proofs.components.settle_traced.Given as goal
 
 abbrev pub invariant-loop : goal.invariant-loop
-invariant-loop l = record {
-  known : IsKnown l.ground.algebra.now l.known;
-  within : length l.known.rows.items ≤ l.ground.limit + 1;
-}
+invariant-loop l = IsSearched l.ground l.known

@@ -12,11 +12,8 @@ loop-i-preserved c =
     record {
       found = c.in_ok-take_in.ensures.found whole;
       there = below_more _ _
-          (λ k low. c.in_ok-take_in.ensures.kept (slice_index_or parts k []) (c.loop-i.invariant.there k low))
+          (λ k low. c.in_ok-take_in.ensures.kept whole (slice_index_or parts k []) (c.loop-i.invariant.there k low))
           (subst (Contains new) here (c.in_ok-take_in.ensures.there whole));
-      within = c.in_ok-take_in.ensures.within whole;
-      width = c.in_ok-take_in.ensures.width ∙ c.loop-i.invariant.width;
-      joiner = c.in_ok-take_in.ensures.joiner ∙ c.loop-i.invariant.joiner;
     }
 
 pub returns-clause-there : goal.returns-clause-there
@@ -25,3 +22,6 @@ returns-clause-there c = λ _ p k.
     let low = k.1 in
     let there = c.loop-i.invariant.there k.0 (omega (arith, low, c.loop-i-test.false)) in
     subst (Contains c.loop-i.found.rows.items) (get_or_default parts k.0 [] p k.1 ∙ k.2) there
+
+pub returns-clause-congruences : goal.returns-clause-congruences
+returns-clause-congruences c = c.loop-i.invariant.found.spanned.congruences
