@@ -5,3 +5,4 @@ pub mod PairLaws
 pub mod CombinationLaws
 pub mod EntryLaws
 pub mod HintLaws
+pub mod LeastLaws
