@@ -29,7 +29,7 @@ use Rattle.ua_close.proofs.RowSteps.{steps_exist}
 
 -- ---- too wide or not
 
-wide_or : (p : Product) (gens : List Vector) (b : ℕ) → IsWide p gens b ⊎ ¬ IsWide p gens b
+pub wide_or : (p : Product) (gens : List Vector) (b : ℕ) → IsWide p gens b ⊎ ¬ IsWide p gens b
 wide_or p gens b = ⊎_elim
     (λ fits. ⊎_elim
     (λ wide. inl (inr wide))
@@ -48,7 +48,10 @@ told_wide n c r is e = cc
 answered : {A : Type 0} (p : Product) (gens : List Vector) (b : ℕ) (May : Result A CloseError → Type 0)
     → (IsWide p gens b → May (Err (Wide (records (arities p) (length gens) b) (cells p b)))) → (¬ IsWide p gens b → (x : A) × May (Ok x)) → IsAnswerable May OutOfMemory
 answered p gens b May refused found = ⊎_elim
-    (λ wide. record { answer = Err (Wide (records (arities p) (length gens) b) (cells p b)); permitted = refused wide; told = told_wide (records (arities p) (length gens) b) (cells p b) (Err (Wide (records (arities p) (length gens) b) (cells p b))) refl })
+    (λ wide.
+    let n = records (arities p) (length gens) b in
+    let c = cells p b in
+    record { answer = Err (Wide n c); permitted = refused wide; told = told_wide n c (Err (Wide n c)) refl })
     (λ narrow. let f = found narrow in record { answer = Ok f.0; permitted = f.1; told = told_ok f.0 (Ok f.0) refl })
     (wide_or p gens b)
 

@@ -94,7 +94,9 @@ module _ (p : Product) (gens : List Vector) (product : IsProduct p) (admitted : 
     one_more : (n : ℕ) (rs : List Record) → AreRecords p gens rs → IsSerial p gens rs → Goes rs n → Grown (suc n)
     one_more n rs made serial goes = ⊎_elim
         with_new
-        (λ all. record { records = rs; made = made; serial = serial; ends = inr (inl (record { count = (let c = goes.count in omega (arith, c)); unmet = goes.unmet; full = λ o h. old_from p gens rows o (all o (all_of_them ks (length gens) (length rows) o h)) })) })
+        (λ none.
+        let full : IsFull rows = λ o h. old_from p gens rows o (none o (inside o h)) in
+        record { records = rs; made = made; serial = serial; ends = inr (inl (record { count = (let c = goes.count in omega (arith, c)); unmet = goes.unmet; full = full })) })
         (first_of (turn ks) (IsNewAt p gens rows) (new_or p gens rows) os)
       where
         ks : List ℕ
@@ -106,11 +108,19 @@ module _ (p : Product) (gens : List Vector) (product : IsProduct p) (admitted : 
         os : List Origin
         os = all_origins ks (length gens) (length rows)
 
+        inside : (o : Origin) → IsOrigin ks (length gens) (length rows) o → Contains os o
+        inside o h = all_of_them ks (length gens) (length rows) o h
+
         with_new : IsFirstOf (turn ks) (IsNewAt p gens rows) os → Grown (suc n)
         with_new new = record {
           records = more;
           made = AreRecords-push p gens rs r made record { vector = origin_vector p gens rows new.item product admitted (record_vectors rs made) valid; origin = valid; value = refl; new = new.passes };
-          serial = IsSerial-push p gens rs r serial record { origin = valid; value = refl; new = new.passes; first = λ other h l. old_from p gens rows other (λ unseen. not_before p gens rows new.item other (new.first other (all_of_them ks (length gens) (length rows) other h) unseen) l) };
+          serial = IsSerial-push p gens rs r serial record {
+            origin = valid;
+            value = refl;
+            new = new.passes;
+            first = λ other h l. old_from p gens rows other (λ unseen. not_before p gens rows new.item other (new.first other (inside other h) unseen) l);
+          };
           ends = ⊎_elim
               (λ met. inr (inr (record { count = omega (arith, count); met = met; just = subst (λ (vs : List Vector). ¬ Meets vs) (sym front) goes.unmet })))
               (λ unmet. inl (record { count = count; unmet = unmet }))

@@ -71,7 +71,8 @@ module _ (ks : List ℕ) (gens n : ℕ) where
       let front = take k args in
       let choice : IsChoice (replicate k (below n)) front = subst (λ m. IsChoice (replicate m (below n)) front) h.count (low_choice n front h.earlier) in
       let same_args : front ++ replicate (4 - k) 0 ≡ args = ap (λ rest. front ++ rest) (sym h.unused) ∙ take-append-drop k args in
-      let here : Contains (applications ks n f) (Op f args) = subst (λ xs. Contains (applications ks n f) (Op f xs)) same_args (Contains-map (application ks f) front (choices (replicate k (below n))) (chosen (replicate k (below n)) front choice)) in
+      let among = Contains-map (application ks f) front (choices (replicate k (below n))) (chosen (replicate k (below n)) front choice) in
+      let here : Contains (applications ks n f) (Op f args) = subst (λ xs. Contains (applications ks n f) (Op f xs)) same_args among in
       Contains-append_right (map (λ j. Gen j) (below gens)) (flat_map (applications ks n) (below (length ks))) (Op f args) (Contains-flat_map (applications ks n) f (Op f args) (below (length ks)) (in_below (length ks) f h.operation) here)
 
   -- and each of them is an origin

@@ -98,13 +98,17 @@ module _ (ks : List ℕ) (rows : List Row) (once : EachOnceBelow (length rows) (
   one_marked : (n : ℕ) (marks : List Bool) → n < length rows → HasMarked ks rows i n marks → (new : List Bool) × HasMarked ks rows i (suc n) new
   one_marked n marks more has = ⊎_elim
       (λ marked.
-      let also = marked_also marks (arguments_at ks rows at.place) (all_weaker (λ a. (a < length rows) × (rank_at rows a < rank_at rows at.place)) (λ a. a < length marks) (λ a l. let x = l.0 in let c = has.count in omega (arith, x, c)) (arguments_at ks rows at.place) (earlier at.place at.within)) in
+      let also = marked_also marks (arguments_at ks rows at.place) below in
       (also.new, subst (λ m. HasMarked ks rows i m also.new) next (marks_more ks rows i once n at.place marks has at.within at.rank more also.new marked earlier also.count also.marked)))
       (λ unmarked. (marks, subst (λ m. HasMarked ks rows i m marks) next (marks_skip ks rows i once n at.place marks has at.within at.rank more unmarked)))
       (marked_or marks at.place)
     where
       at : IsRowOf (length rows - 1 - n)
       at = row_of (length rows - 1 - n) (omega (arith, more))
+
+      below : AllByRecursion (λ a. a < length marks) (arguments_at ks rows at.place)
+      below = all_weaker (λ a. (a < length rows) × (rank_at rows a < rank_at rows at.place)) (λ a. a < length marks)
+          (λ a l. let x = l.0 in let c = has.count in omega (arith, x, c)) (arguments_at ks rows at.place) (earlier at.place at.within)
 
       next : n + 1 ≡ suc n
       next = omega arith
@@ -121,7 +125,9 @@ module _ (ks : List ℕ) (rows : List Row) (once : EachOnceBelow (length rows) (
         let at = row_of n (omega (arith, h)) in
         let next : n + 1 ≡ suc n = omega arith in
         ⊎_elim
-        (λ marked. (before.0 ++ at.place ∷ [], subst (λ m. HasTaken rows marks m (before.0 ++ at.place ∷ [])) next (taken_more rows marks once are.count n at.place before.0 before.1 at.within at.rank (before.0 ++ at.place ∷ []) marked refl)))
+        (λ marked.
+        let places = before.0 ++ at.place ∷ [] in
+        (places, subst (λ m. HasTaken rows marks m places) next (taken_more rows marks once are.count n at.place before.0 before.1 at.within at.rank places marked refl)))
         (λ unmarked. (before.0, subst (λ m. HasTaken rows marks m before.0) next (taken_skip rows marks once are.count n at.place before.0 before.1 at.within at.rank unmarked)))
         (marked_or marks at.place)
 

@@ -2,6 +2,7 @@
 use Rattle.std.specs.Prelude.{◌≡◌, ℕ, ◌*◌, ◌≤◌, ◌⊎◌, List, [], ◌∷◌}
 use Rattle.ua_table.specs.Algebras.{Product, Vector}
 use Rattle.ua_table.specs.Listings.{Row, IsClosedListing}
+use Rattle.ua_table.specs.Orders.{IsLeast}
 use Rattle.ua_close.specs.declared.close.Closure.{Closure}
 use Rattle.ua_close.specs.Answers.{Answers, IsSerialAnswer}
 
@@ -25,3 +26,8 @@ pub record HasAnswer (p : Product) (gens : List Vector) (b : ℕ) : Type 0 where
 pub record HasClosedListing (p : Product) (gens : List Vector) (b : ℕ) : Type 0 where
   pub rows : List Row
   pub closed : IsClosedListing p gens b rows
+
+-- the least listing
+pub record HasLeast (p : Product) (gens : List Vector) (b : ℕ) : Type 0 where
+  pub rows : List Row
+  pub least : IsLeast p gens b rows

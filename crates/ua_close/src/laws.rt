@@ -16,7 +16,7 @@ ghost use Rattle.ua_work.specs.Goals.{Meets};
 ghost use Rattle.ua_work.specs.Harvests.{IsPlanOf};
 ghost use Rattle.ua_close.specs.Memberships.{Tells};
 ghost use Rattle.ua_close.specs.Permitted.{MayClose, MayCount, MayReach, MayMember, IsAnswerable};
-ghost use Rattle.ua_close.specs.Kinds.{cardinality, HasAnswer, HasClosedListing};
+ghost use Rattle.ua_close.specs.Kinds.{cardinality, HasAnswer, HasClosedListing, HasLeast};
 ghost use Rattle.ua_close.specs.Steps.{LoadFound, LoadEmpty, LoadBelow, PutWon, PutLost, LoadIdle, LoadKnow, ClaimWon, ClaimLost, HaltSet, SeatSplit, SeatJoin, SeatsAreViews, StartIsRead, GatheredIsRead};
 
 /// Each step on the words and views of a board is an event of its worker in the machine that is read of
@@ -48,13 +48,14 @@ pub fn readings()
 
 /// The members of a subuniverse are vectors of the product, and no more than it has: in width 1, than the
 /// algebra has elements. For each budget there is a closed listing or an exceeding one, in the order of one worker;
-/// never both, as the laws of listings say. So a budget of as many as there are vectors has a closed listing. What
-/// some listing meets, each closed one meets.
+/// never both, as the laws of listings say. So a budget of as many as there are vectors has a closed listing.
+/// Where there is a closed listing there is a least one. What some listing meets, each closed one meets.
 pub fn kinds()
     ensures vectors { (p : Product) (gens : List Vector) (v : Vector) → IsProduct p → AllByRecursion (IsVector p) gens → Sg p gens v → IsVector p v }
     ensures one { (p : Product) (gens : List Vector) (b : ℕ) → IsProduct p → AllByRecursion (IsVector p) gens → HasAnswer p gens b }
     ensures few { (p : Product) (gens : List Vector) (b : ℕ) → IsProduct p → AllByRecursion (IsVector p) gens → HasMoreThan p gens b → b < cardinality p }
     ensures closed { (p : Product) (gens : List Vector) (b : ℕ) → IsProduct p → AllByRecursion (IsVector p) gens → cardinality p ≤ b → HasClosedListing p gens b }
+    ensures least { (p : Product) (gens : List Vector) (b : ℕ) (rows : List Row) → IsClosedListing p gens b rows → HasLeast p gens b }
     ensures goals { (p : Product) (gens : List Vector) (goal : Goal) (b : ℕ) (rows others : List Row) → IsListing p gens rows → Meets goal (vectors_of rows) → IsClosedListing p gens b others → Meets goal (vectors_of others) }
 {}
 
