@@ -2,8 +2,9 @@
 use Rattle.std.specs.Prelude.{◌≡◌, ℕ, ◌*◌, ◌≤◌, ◌⊎◌, List, [], ◌∷◌}
 use Rattle.ua_table.specs.Algebras.{Product, Vector}
 use Rattle.ua_table.specs.Listings.{Row, IsClosedListing}
+use Rattle.ua_table.specs.Orders.{IsLeast}
 use Rattle.ua_close.specs.declared.close.Closure.{Closure}
-use Rattle.ua_close.specs.Answers.{Answers}
+use Rattle.ua_close.specs.Answers.{Answers, IsSerialAnswer}
 
 -- how many vectors a product has
 abbrev pub cardinality : Product → ℕ
@@ -15,12 +16,18 @@ pub record IsEnough (p : Product) (b n : ℕ) : Type 0 where
   pub within : n ≤ b
   pub all : (n ≡ b) ⊎ (cardinality p ≤ n)
 
--- a closed or an exceeding listing
+-- a closed or an exceeding listing, whose rows have the ranks that the serial order gives them
 pub record HasAnswer (p : Product) (gens : List Vector) (b : ℕ) : Type 0 where
   pub closure : Closure
   pub answers : Answers p gens b closure
+  pub serial : IsSerialAnswer p gens closure
 
 -- a closed listing
 pub record HasClosedListing (p : Product) (gens : List Vector) (b : ℕ) : Type 0 where
   pub rows : List Row
   pub closed : IsClosedListing p gens b rows
+
+-- the least listing
+pub record HasLeast (p : Product) (gens : List Vector) (b : ℕ) : Type 0 where
+  pub rows : List Row
+  pub least : IsLeast p gens b rows

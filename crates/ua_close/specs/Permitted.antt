@@ -1,5 +1,5 @@
 -- What the calls of a closure may answer: with the refusals, for a product, generators, a budget and a number of workers.
-use Rattle.std.specs.Prelude.{◌≡◌, ℕ, List, Result, Ok, Err}
+use Rattle.std.specs.Prelude.{◌≡◌, ◌≢◌, ℕ, List, Result, Ok, Err}
 use Rattle.ua_table.specs.Algebras.{Vector, Product}
 use Rattle.ua_close.specs.declared.close.Closure.{Closure}
 use Rattle.ua_close.specs.declared.close.CloseError.{CloseError}
@@ -31,3 +31,9 @@ MayMember p gens v b w (Err error) = IsCause p gens b error
 abbrev pub MayCount : Product → List Vector → ℕ → ℕ → Result Size CloseError → Type 0
 MayCount p gens b w (Ok size) = (¬ IsWide p gens b) × IsSize p gens b w size
 MayCount p gens b w (Err error) = IsCause p gens b error
+
+-- the call may be answered otherwise than by this error
+pub record IsAnswerable {A E : Type 0} (May : Result A E → Type 0) (error : E) : Type 0 where
+  pub answer : Result A E
+  pub permitted : May answer
+  pub told : answer ≢ Err error

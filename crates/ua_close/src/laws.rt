@@ -8,13 +8,15 @@ ghost use Rattle.ua_table.specs.Listings.{Row, vectors_of, IsListing, IsClosedLi
 ghost use Rattle.ua_table.specs.Numbering.{Fits};
 ghost use Rattle.ua_term.specs.Steps.{StepList};
 ghost use Rattle.ua_close.specs.declared.memberships.Answer.{Answer};
+ghost use Rattle.ua_close.specs.declared.close.CloseError.{CloseError};
 ghost use Rattle.ua_close.specs.Answers.{IsWide};
 ghost use Rattle.ua_log.specs.declared.views.Plan.{Plan};
 ghost use Rattle.ua_work.specs.declared.goals.Goal.{Goal};
 ghost use Rattle.ua_work.specs.Goals.{Meets};
 ghost use Rattle.ua_work.specs.Harvests.{IsPlanOf};
 ghost use Rattle.ua_close.specs.Memberships.{Tells};
-ghost use Rattle.ua_close.specs.Kinds.{cardinality, HasAnswer, HasClosedListing};
+ghost use Rattle.ua_close.specs.Permitted.{MayClose, MayCount, MayReach, MayMember, IsAnswerable};
+ghost use Rattle.ua_close.specs.Kinds.{cardinality, HasAnswer, HasClosedListing, HasLeast};
 ghost use Rattle.ua_close.specs.Steps.{LoadFound, LoadEmpty, LoadBelow, PutWon, PutLost, LoadIdle, LoadKnow, ClaimWon, ClaimLost, HaltSet, SeatSplit, SeatJoin, SeatsAreViews, StartIsRead, GatheredIsRead};
 
 /// Each step on the words and views of a board is an event of its worker in the machine that is read of
@@ -45,15 +47,25 @@ pub fn readings()
 {}
 
 /// The members of a subuniverse are vectors of the product, and no more than it has: in width 1, than the
-/// algebra has elements. For each budget there is a closed listing or an exceeding one; never both, as the laws
-/// of listings say. So a budget of as many as there are vectors has a closed listing. What some listing meets,
-/// each closed one meets.
+/// algebra has elements. For each budget there is a closed listing or an exceeding one, in the order of one worker;
+/// never both, as the laws of listings say. So a budget of as many as there are vectors has a closed listing.
+/// Where there is a closed listing there is a least one. What some listing meets, each closed one meets.
 pub fn kinds()
     ensures vectors { (p : Product) (gens : List Vector) (v : Vector) → IsProduct p → AllByRecursion (IsVector p) gens → Sg p gens v → IsVector p v }
     ensures one { (p : Product) (gens : List Vector) (b : ℕ) → IsProduct p → AllByRecursion (IsVector p) gens → HasAnswer p gens b }
     ensures few { (p : Product) (gens : List Vector) (b : ℕ) → IsProduct p → AllByRecursion (IsVector p) gens → HasMoreThan p gens b → b < cardinality p }
     ensures closed { (p : Product) (gens : List Vector) (b : ℕ) → IsProduct p → AllByRecursion (IsVector p) gens → cardinality p ≤ b → HasClosedListing p gens b }
+    ensures least { (p : Product) (gens : List Vector) (b : ℕ) (rows : List Row) → IsClosedListing p gens b rows → HasLeast p gens b }
     ensures goals { (p : Product) (gens : List Vector) (goal : Goal) (b : ℕ) (rows others : List Row) → IsListing p gens rows → Meets goal (vectors_of rows) → IsClosedListing p gens b others → Meets goal (vectors_of others) }
+{}
+
+/// A call may always be answered otherwise than by want of memory: some answer of one worker is permitted, or the
+/// closure is too wide.
+pub fn answers()
+    ensures close { (p : Product) (gens : List Vector) (b w : ℕ) → IsProduct p → AllByRecursion (IsVector p) gens → IsAnswerable (MayClose p gens b w) CloseError.OutOfMemory }
+    ensures count { (p : Product) (gens : List Vector) (b w : ℕ) → IsProduct p → AllByRecursion (IsVector p) gens → IsAnswerable (MayCount p gens b w) CloseError.OutOfMemory }
+    ensures reach { (p : Product) (gens : List Vector) (goal : Goal) (b w : ℕ) → IsProduct p → AllByRecursion (IsVector p) gens → IsAnswerable (MayReach p gens goal b w) CloseError.OutOfMemory }
+    ensures member { (p : Product) (gens : List Vector) (v : Vector) (b w : ℕ) → IsProduct p → AllByRecursion (IsVector p) gens → IsAnswerable (MayMember p gens v b w) CloseError.OutOfMemory }
 {}
 
 /// What is told of a vector is so, by however many workers: it is generated where it is told to be, and it is not

@@ -6,3 +6,4 @@ pub mod PairLaws
 pub mod CombinationLaws
 pub mod EntryLaws
 pub mod HintLaws
+pub mod LeastLaws

@@ -4,3 +4,4 @@ pub mod Principals
 pub mod Known
 pub mod Extensions
 pub mod Hints
+pub mod Generated

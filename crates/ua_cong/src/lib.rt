@@ -5,6 +5,7 @@ mod closing;
 mod components;
 mod hints;
 mod known;
+pub mod laws;
 mod moves;
 mod pairs;
 mod settling;

@@ -25,12 +25,12 @@ use Rattle.ua_listing.proofs.RankingLaws.{Ranked, ranked_cmp, ranks, numbered, r
 
 module _ {X : Type 0} (lt : X → X → Bool) (one_way : (x y : X) → lt x y ≡ true → lt y x ≡ false) where
   -- the first of these, if any, is not below x
-  abbrev IsBefore : X → List X → Type 0
+  abbrev pub IsBefore : X → List X → Type 0
   IsBefore x [] = Unit {0}
   IsBefore x (y ∷ ys) = lt y x ≡ false
 
   -- none is below the one before it
-  abbrev AreInOrder : List X → Type 0
+  abbrev pub AreInOrder : List X → Type 0
   AreInOrder [] = Unit {0}
   AreInOrder (x ∷ xs) = IsBefore x xs × AreInOrder xs
 
@@ -63,7 +63,7 @@ module _ {X : Type 0} (lt : X → X → Bool) (one_way : (x y : X) → lt x y �
       here rest true e = (one_way x y e, h)
       here rest false e = (placed_before y x ys e h.0, rest)
 
-  sorted_from_order : (xs : List X) → AreInOrder xs → IsSortedBy lt xs
+  pub sorted_from_order : (xs : List X) → AreInOrder xs → IsSortedBy lt xs
   sorted_from_order xs h k d l low = at k xs h low
     where
       at : (k : ℕ) (xs : List X) → AreInOrder xs → k + 1 < length xs → lt (get_or xs (k + 1) d) (get_or xs k d) ≡ false
@@ -75,7 +75,7 @@ module _ {X : Type 0} (lt : X → X → Bool) (one_way : (x y : X) → lt x y �
           ap (λ n. lt (get_or (x ∷ y ∷ ys) n d) (get_or (y ∷ ys) k d)) (sym next) ∙ at k (y ∷ ys) h.1 (omega (arith, low))
 
   -- some permutation of the list is sorted
-  sorted_exists : (xs : List X) → (ys : List X) × IsPermutation xs ys × AreInOrder ys
+  pub sorted_exists : (xs : List X) → (ys : List X) × IsPermutation xs ys × AreInOrder ys
   sorted_exists [] = ([], IsPermutation-refl [], tt)
   sorted_exists (x ∷ xs) =
       let rest = sorted_exists xs in
@@ -83,7 +83,7 @@ module _ {X : Type 0} (lt : X → X → Bool) (one_way : (x y : X) → lt x y �
 
 -- ---- ranks and positions
 
-reverse_then : (a b : Ordering) → ordering_then (ordering_reverse a) (ordering_reverse b) ≡ ordering_reverse (ordering_then a b)
+pub reverse_then : (a b : Ordering) → ordering_then (ordering_reverse a) (ordering_reverse b) ≡ ordering_reverse (ordering_then a b)
 reverse_then Less b = refl
 reverse_then Equal b = refl
 reverse_then Greater b = refl
@@ -91,7 +91,7 @@ reverse_then Greater b = refl
 ranked_reverse : (p q : Ranked) → ranked_cmp q p ≡ ordering_reverse (ranked_cmp p q)
 ranked_reverse p q = (λ i. ordering_then (nat_list_cmp_total.antisymm q.0 p.0 i) (nat_cmp_total.antisymm q.1 p.1 i)) ∙ reverse_then (slice_cmp nat_cmp p.0 q.0) (nat_cmp p.1 q.1)
 
-less_one_way : (o : Ordering) → is_lt o ≡ true → is_lt (ordering_reverse o) ≡ false
+pub less_one_way : (o : Ordering) → is_lt o ≡ true → is_lt (ordering_reverse o) ≡ false
 less_one_way Less e = refl
 less_one_way Equal e = cc
 less_one_way Greater e = cc
@@ -109,7 +109,7 @@ ranking_exists rows different =
 abbrev place_in : List ℕ → ℕ → ℕ
 place_in rs k = position_or_len (λ r. r == k) rs
 
-positions_exist : (rs : List ℕ) → EachOnceBelow (length rs) rs → (places : List ℕ) × ArePositions rs places
+pub positions_exist : (rs : List ℕ) → EachOnceBelow (length rs) rs → (places : List ℕ) × ArePositions rs places
 positions_exist rs once = (map (place_in rs) (range_with_len 0 (length rs)), record { count = length-map-range_with_len (place_in rs) 0 (length rs); each = each })
   where
     other : (k r : ℕ) → ¬ (k ≡ r) → (k == r) ≡ false

@@ -16,7 +16,7 @@ use Rattle.ua_table.specs.Orders.{height_of, IsHeight, IsFirstOrigin}
 use Rattle.ua_table.specs.Origins.{IsApplication, IsOrigin, arguments_of, origin_value}
 use Rattle.ua_table.specs.Slices.{slice_row, slice_operation, slice_tuples}
 use Rattle.ua_table.proofs.Choices.{greatest_low, greatest_tops}
-use Rattle.ua_table.proofs.Lists.{all_at, all_weaker, all_map, all_from_contains}
+use Rattle.ua_table.proofs.Lists.{all_at, all_weaker, all_map}
 use Rattle.ua_table.proofs.SliceLaws.{bound_laws, slices_partition}
 use Rattle.ua_table.proofs.GeneratedLaws.{length-term_values}
 use Rattle.ua_table.proofs.Units.{positive_sum}
@@ -28,7 +28,7 @@ use Rattle.ua_listing.proofs.SearchLaws.{one_row}
 
 -- ---- the greatest of numbers
 
-greatest_most : (xs : List ℕ) (m : ℕ) → AllByRecursion (λ x. x ≤ m) xs → greatest xs ≤ m
+pub greatest_most : (xs : List ℕ) (m : ℕ) → AllByRecursion (λ x. x ≤ m) xs → greatest xs ≤ m
 greatest_most [] m h = omega arith
 greatest_most (x ∷ xs) m h = all_at (λ y. y ≤ m) (x ∷ xs) (greatest (x ∷ xs)) h (greatest_tops (x ∷ xs) (omega arith)).here
 
@@ -73,6 +73,19 @@ numbers_of order (x ∷ xs) h =
       within = (c.1, rest.within);
       count = ap suc rest.count;
     }
+
+-- ---- arguments are lower
+
+below_greatest : (heights xs : List ℕ) (b : ℕ) → suc (greatest (map (λ a. slice_index heights a) xs)) ≤ b → AllByRecursion (λ q. slice_index heights q < b) xs
+below_greatest heights xs b h = low xs (greatest (map (λ a. slice_index heights a) xs)) (greatest_low (map (λ a. slice_index heights a) xs)) h
+  where
+    low : (ys : List ℕ) (m : ℕ) → AllByRecursion (λ x. x ≤ m) (map (λ a. slice_index heights a) ys) → suc m ≤ b → AllByRecursion (λ q. slice_index heights q < b) ys
+    low [] m all le = tt
+    low (y ∷ ys) m all le = (let l = all.0 in omega (arith, l, le), low ys m all.1 le)
+
+pub lower_arguments : (ks heights : List ℕ) (h : ℕ) (o : Origin) → h ≡ height_of ks heights o → AllByRecursion (λ a. slice_index heights a < h) (arguments_of ks o)
+lower_arguments ks heights h (Gen i) e = tt
+lower_arguments ks heights h (Op f args) e = below_greatest heights (take (slice_index ks f) args) h (omega (arith, e))
 
 -- ---- a whole search
 
@@ -214,20 +227,10 @@ module _ (p : Product) (gens vs : List Vector) (s : Search) (whole : IsWholeSear
         reached = (λ i. max (one.reached i) (rest.reached i)) ∙ sym (greatest_cons (height_in s q) (map (λ a. slice_index s.heights.items a) qs));
       }
 
-  below_greatest : (xs : List ℕ) (b : ℕ) → suc (greatest (map (λ a. slice_index s.heights.items a) xs)) ≤ b → AllByRecursion (λ q. height_in s q < b) xs
-  below_greatest xs b h = all_from_contains (λ q. height_in s q < b) xs (λ q c. let l = low_in xs (greatest (map (λ a. slice_index s.heights.items a) xs)) (greatest_low (map (λ a. slice_index s.heights.items a) xs)) q c in omega (arith, l, h))
-    where
-      low_in : (ys : List ℕ) (m : ℕ) → AllByRecursion (λ x. x ≤ m) (map (λ a. slice_index s.heights.items a) ys) → (q : ℕ) → Contains ys q → height_in s q ≤ m
-      low_in ys m all q c = all_at (λ k. height_in s k ≤ m) ys q (unmap ys all) c
-        where
-          unmap : (zs : List ℕ) → AllByRecursion (λ x. x ≤ m) (map (λ a. slice_index s.heights.items a) zs) → AllByRecursion (λ k. height_in s k ≤ m) zs
-          unmap [] h = tt
-          unmap (z ∷ zs) h = (h.0, unmap zs h.1)
-
   by_found : (b : ℕ) → ((q : ℕ) → IsReached s q → height_in s q < b → HasTerm (slice_index_or vs q []) (height_in s q)) → (v : Vector) (h : ℕ) (o : Origin) → h ≤ b → IsOrigin (arities p) (length gens) (length vs) o → origin_value p gens vs o ≡ v → h ≡ height_of (arities p) s.heights.items o → AllByRecursion (IsReached s) (arguments_of (arities p) o) → HasTerm v h
   by_found b each v h (Gen i) le valid value e reached = record { term = Generator i; is_term = valid; value = value; reached = sym e }
   by_found b each v h (Op f args) le valid value e reached =
-      let ts = terms_for b each (take (slice_index (arities p) f) args) reached (below_greatest (take (slice_index (arities p) f) args) b (omega (arith, le, e))) in
+      let ts = terms_for b each (take (slice_index (arities p) f) args) reached (below_greatest s.heights.items (take (slice_index (arities p) f) args) b (omega (arith, le, e))) in
       record {
         term = Application f ts.terms;
         is_term = (valid.operation, ts.count ∙ valid.count, ts.are_terms);
@@ -261,11 +264,3 @@ module _ (p : Product) (gens vs : List Vector) (s : Search) (whole : IsWholeSear
             let near = (visited_at other valid (arguments_reached other valid)).value q (here q h ∙ ap Some (sym value)) in
             ⊎_elim (λ low. absurd (omega (arith, low, reaches))) (λ e. e.1) near.near;
       }
-
-  -- arguments are lower
-  pub arguments_lower : (q : ℕ) → q < length vs → AllByRecursion (λ a. height_in s a < height_in s q) (arguments_of (arities p) (origin_in s q))
-  arguments_lower q h = lower (origin_in s q) (is.found q (all_reached q h)).reaches
-    where
-      lower : (o : Origin) → height_in s q ≡ height_of (arities p) s.heights.items o → AllByRecursion (λ a. height_in s a < height_in s q) (arguments_of (arities p) o)
-      lower (Gen i) e = tt
-      lower (Op f args) e = below_greatest (take (slice_index (arities p) f) args) (height_in s q) (omega (arith, e))

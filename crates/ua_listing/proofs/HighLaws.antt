@@ -101,7 +101,7 @@ module _ (heights : List ℕ) (ps : List High) (permutation : IsPermutation (hig
       (ascending j n (omega (arith, h)))
       (subst (λ m. ComesBefore heights (slice_index (map (λ (a : High). a.1) ps) (j + suc n)) (slice_index (map (λ (a : High). a.1) ps) m)) (let e : j + suc n + 1 ≡ j + suc (suc n) = omega arith in e) (adjacent (j + suc n) (omega (arith, h))))
 
-  by_height : AreByHeight heights (map (λ (a : High). a.1) ps)
+  pub by_height : AreByHeight heights (map (λ (a : High). a.1) ps)
   by_height = record {
     count = count;
     once = once;

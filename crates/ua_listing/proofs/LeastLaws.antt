@@ -20,11 +20,11 @@ use Rattle.ua_table.proofs.Lists.{found, all_at, all_from_contains, All-slice_ge
 use Rattle.ua_listing.specs.Arrangements.{origins_of}
 use Rattle.ua_listing.specs.Leasts.{ComesBefore, AreByHeight}
 use Rattle.ua_listing.specs.Rankings.{ArePositions}
-use Rattle.ua_listing.specs.Searches.{height_in, origin_in, IsWholeSearch}
+use Rattle.ua_listing.specs.Searches.{IsWholeSearch}
 use Rattle.ua_listing.specs.declared.searches.Search.{Search}
 use Rattle.ua_table.proofs.Members.{zip_by_index}
 use Rattle.ua_table.proofs.GeneratedLaws.{length-term_values}
-use Rattle.ua_listing.proofs.HeightLaws.{is_height, is_first, arguments_lower}
+use Rattle.ua_listing.proofs.HeightLaws.{is_height, is_first, lower_arguments}
 use Rattle.ua_listing.proofs.RearrangeLaws.{IsRankOf, rank_of, inverse_once, increasing_different}
 
 -- ---- members are vectors of the product
@@ -87,7 +87,7 @@ module _ (n : ℕ) (heights places ranks : List ℕ) (by : AreByHeight heights p
   pub ranks_once : EachOnceBelow n ranks
   ranks_once = inverse_once n places ranks once count positions
 
--- ---- the least listing
+-- ---- the least listing, from heights, first origins and the order of its rows
 
 some_row : Row
 some_row = record { vector = []; rank = 0; origin = Gen 0 }
@@ -96,13 +96,12 @@ pub all_by_index : {X : Type 0} (P : X → Type 0) (xs : List X) (d : X) → ((i
 all_by_index P [] d h = tt
 all_by_index P (x ∷ xs) d h = (h 0 (omega arith), all_by_index P xs d (λ i l. h (suc i) (omega (arith, l))))
 
-module _ (p : Product) (gens : List Vector) (b : ℕ) (old new : List Row) (s : Search) (places : List ℕ) (closed : IsClosedListing p gens b old) (shape : IsShape (arities p)) (whole : IsWholeSearch p gens (vectors_of old) s)
-    (by : AreByHeight s.heights.items places) (vectors : vectors_of new ≡ vectors_of old) (positions : ArePositions places (ranks_of new)) (origins : origins_of new ≡ s.origins.items) where
+module _ (p : Product) (gens : List Vector) (b : ℕ) (old new : List Row) (heights places : List ℕ) (os : List Origin) (closed : IsClosedListing p gens b old) (heights_count : length heights ≡ length (vectors_of old))
+    (tall : (i : ℕ) → i < length (vectors_of old) → IsHeight p gens (slice_index_or (vectors_of old) i []) (slice_index heights i))
+    (first : (i : ℕ) → i < length (vectors_of old) → IsFirstOrigin p gens (vectors_of old) heights (slice_index_or (vectors_of old) i []) (slice_index heights i) (slice_index_or os i (Gen 0)))
+    (by : AreByHeight heights places) (vectors : vectors_of new ≡ vectors_of old) (positions : ArePositions places (ranks_of new)) (origins : origins_of new ≡ os) where
   new_count : length new ≡ length (vectors_of old)
   new_count = sym (length-map new (λ (r : Row). r.vector)) ∙ ap (length {A = Vector}) vectors
-
-  heights_count : length s.heights.items ≡ length (vectors_of old)
-  heights_count = whole.search.heights_count
 
   inc : IsIncreasing (vectors_of old)
   inc = closed.listing.increasing
@@ -110,35 +109,29 @@ module _ (p : Product) (gens : List Vector) (b : ℕ) (old new : List Row) (s : 
   vector_at : (i : ℕ) (d : Row) → i < length new → (get_or new i d).vector ≡ slice_index_or (vectors_of old) i []
   vector_at i d h = sym (get_or-map (λ (r : Row). r.vector) new i d [] h) ∙ ap (λ (l : List Vector). get_or l i []) vectors
 
-  origin_at : (i : ℕ) (d : Row) → i < length new → (get_or new i d).origin ≡ origin_in s i
+  origin_at : (i : ℕ) (d : Row) → i < length new → (get_or new i d).origin ≡ slice_index_or os i (Gen 0)
   origin_at i d h = sym (get_or-map (λ (r : Row). r.origin) new i d (Gen 0) h) ∙ ap (λ (l : List Origin). get_or l i (Gen 0)) origins
 
   rank_at : (i : ℕ) (d : Row) → i < length new → (get_or new i d).rank ≡ slice_index (ranks_of new) i
   rank_at i d h = sym (get_or-map (λ (r : Row). r.rank) new i d 0 h)
 
-  height_at : (i x : ℕ) → i < length (vectors_of old) → get_or s.heights.items i x ≡ height_in s i
-  height_at i x h = get_or_default s.heights.items i x 0 (let c = heights_count in omega (arith, c, h))
+  height_at : (i x : ℕ) → i < length (vectors_of old) → get_or heights i x ≡ slice_index heights i
+  height_at i x h = get_or_default heights i x 0 (let c = heights_count in omega (arith, c, h))
 
-  tall : (i : ℕ) → i < length (vectors_of old) → IsHeight p gens (slice_index_or (vectors_of old) i []) (height_in s i)
-  tall i h = is_height p gens (vectors_of old) s whole shape (increasing_different (vectors_of old) inc) closed.exact i h
-
-  first : (i : ℕ) → i < length (vectors_of old) → IsFirstOrigin p gens (vectors_of old) s.heights.items (slice_index_or (vectors_of old) i []) (height_in s i) (origin_in s i)
-  first i h = is_first p gens (vectors_of old) s whole shape (increasing_different (vectors_of old) inc) closed.exact i h
-
-  order : (i j : ℕ) → i < length (vectors_of old) → j < length (vectors_of old) → slice_index (ranks_of new) i < slice_index (ranks_of new) j ↔ ComesBefore s.heights.items i j
-  order i j hi hj = rank_order (length (vectors_of old)) s.heights.items places (ranks_of new) by heights_count positions i j hi hj
+  order : (i j : ℕ) → i < length (vectors_of old) → j < length (vectors_of old) → slice_index (ranks_of new) i < slice_index (ranks_of new) j ↔ ComesBefore heights i j
+  order i j hi hj = rank_order (length (vectors_of old)) heights places (ranks_of new) by heights_count positions i j hi hj
 
   arguments_low : (o : Origin) → IsOrigin (arities p) (length gens) (length (vectors_of old)) o → AllByRecursion (λ a. a < length (vectors_of old)) (arguments_of (arities p) o)
   arguments_low (Gen i) valid = tt
   arguments_low (Op f args) valid = valid.earlier
 
-  arguments_earlier : (i : ℕ) → i < length (vectors_of old) → AllByRecursion (λ a. slice_index (ranks_of new) a < slice_index (ranks_of new) i) (arguments_of (arities p) (origin_in s i))
+  arguments_earlier : (i : ℕ) → i < length (vectors_of old) → AllByRecursion (λ a. slice_index (ranks_of new) a < slice_index (ranks_of new) i) (arguments_of (arities p) (slice_index_or os i (Gen 0)))
   arguments_earlier i h =
-      let lower = arguments_lower p gens (vectors_of old) s whole shape (increasing_different (vectors_of old) inc) closed.exact i h in
-      let within = arguments_low (origin_in s i) (first i h).origin in
-      all_from_contains (λ a. slice_index (ranks_of new) a < slice_index (ranks_of new) i) (arguments_of (arities p) (origin_in s i)) (λ a c.
-      (order a i (all_at (λ a. a < length (vectors_of old)) (arguments_of (arities p) (origin_in s i)) a within c) h).1
-      (inl (all_at (λ a. height_in s a < height_in s i) (arguments_of (arities p) (origin_in s i)) a lower c)))
+      let lower = lower_arguments (arities p) heights (slice_index heights i) (slice_index_or os i (Gen 0)) (first i h).reaches in
+      let within = arguments_low (slice_index_or os i (Gen 0)) (first i h).origin in
+      all_from_contains (λ a. slice_index (ranks_of new) a < slice_index (ranks_of new) i) (arguments_of (arities p) (slice_index_or os i (Gen 0))) (λ a c.
+      (order a i (all_at (λ a. a < length (vectors_of old)) (arguments_of (arities p) (slice_index_or os i (Gen 0))) a within c) h).1
+      (inl (all_at (λ a. slice_index heights a < slice_index heights i) (arguments_of (arities p) (slice_index_or os i (Gen 0))) a lower c)))
 
   low_in : (i : ℕ) → i < length new → i < length (vectors_of old)
   low_in i h = let c = new_count in omega (arith, h, c)
@@ -152,22 +145,32 @@ module _ (p : Product) (gens : List Vector) (b : ℕ) (old new : List Row) (s : 
         value = (λ k. origin_value p gens (vectors k) (origin_at i some_row h k)) ∙ f.value ∙ sym (vector_at i some_row h);
       }
 
-  pub least_listing : IsLeast p gens b new
-  least_listing = record {
+  pub least_from : IsLeast p gens b new
+  least_from = record {
     closed = record {
       listing = record {
         increasing = subst IsIncreasing (sym vectors) inc;
-        ranks = subst (λ m. EachOnceBelow m (ranks_of new)) (sym new_count) (ranks_once (length (vectors_of old)) s.heights.items places (ranks_of new) by heights_count positions);
+        ranks = subst (λ m. EachOnceBelow m (ranks_of new)) (sym new_count) (ranks_once (length (vectors_of old)) heights places (ranks_of new) by heights_count positions);
         origins = all_by_index (IsMadeFrom p gens new) new some_row made;
       };
       within = let c = new_count in let o = length-map old (λ (r : Row). r.vector) in let w = closed.within in omega (arith, c, o, w);
       exact = λ v. subst (λ (l : List Vector). Contains l v ↔ Sg p gens v) (sym vectors) (closed.exact v);
     };
-    heights = s.heights.items;
-    are_heights = zip_by_index (λ (r : Row) h. IsHeight p gens r.vector h) new s.heights.items (heights_count ∙ sym new_count)
+    heights = heights;
+    are_heights = zip_by_index (λ (r : Row) h. IsHeight p gens r.vector h) new heights (heights_count ∙ sym new_count)
         (λ i r h low. subst (λ (x : Vector × ℕ). IsHeight p gens x.0 x.1) (λ k. (sym (vector_at i r low) k, sym (height_at i h (low_in i low)) k)) (tall i (low_in i low)));
-    origins = zip_by_index (λ (r : Row) h. IsFirstOrigin p gens (vectors_of new) s.heights.items r.vector h r.origin) new s.heights.items (heights_count ∙ sym new_count)
-        (λ i r h low. subst (λ (x : List Vector × Vector × ℕ × Origin). IsFirstOrigin p gens x.0 s.heights.items x.1 x.2 x.3)
+    origins = zip_by_index (λ (r : Row) h. IsFirstOrigin p gens (vectors_of new) heights r.vector h r.origin) new heights (heights_count ∙ sym new_count)
+        (λ i r h low. subst (λ (x : List Vector × Vector × ℕ × Origin). IsFirstOrigin p gens x.0 heights x.1 x.2 x.3)
         (λ k. (sym vectors k, sym (vector_at i r low) k, sym (height_at i h (low_in i low)) k, sym (origin_at i r low) k)) (first i (low_in i low)));
     ranks = λ i j hi hj. order i j (low_in i hi) (low_in j hj);
   }
+
+-- from a whole search and the order of its rows
+pub least_listing : (p : Product) (gens : List Vector) (b : ℕ) (old new : List Row) (s : Search) (places : List ℕ) → IsClosedListing p gens b old → IsShape (arities p) → IsWholeSearch p gens (vectors_of old) s
+    → AreByHeight s.heights.items places → vectors_of new ≡ vectors_of old → ArePositions places (ranks_of new) → origins_of new ≡ s.origins.items → IsLeast p gens b new
+least_listing p gens b old new s places closed shape whole by vectors positions origins =
+    let different = increasing_different (vectors_of old) closed.listing.increasing in
+    least_from p gens b old new s.heights.items places s.origins.items closed whole.search.heights_count
+    (is_height p gens (vectors_of old) s whole shape different closed.exact)
+    (is_first p gens (vectors_of old) s whole shape different closed.exact)
+    by vectors positions origins
