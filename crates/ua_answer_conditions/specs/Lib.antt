@@ -4,3 +4,4 @@ pub mod ArgumentSets
 pub mod CloneCommand
 pub mod ChainCommand
 pub mod HoldsCommand
+pub mod inner

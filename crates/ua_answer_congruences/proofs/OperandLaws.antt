@@ -7,7 +7,7 @@ use Rattle.ua_text.specs.declared.named.Block.{Block}
 use Rattle.ua_operands.specs.declared.written.PartText.{PartText}
 use Rattle.ua_reply.specs.Parts.{blocks_of}
 use Rattle.ua_answer_congruences.specs.Congruences.{OfCongruence}
-use Rattle.ua_answer_congruences.specs.Operands.{IsRefusedOperand}
+use Rattle.ua_answer_congruences.specs.inner.Operands.{IsRefusedOperand}
 
 pub of_congruence : (k : Block) (p : PartText) (Answer : Partition → List ℕ → Type 0) (partition : Partition) (bytes : List ℕ)
     → HasBlocks (blocks_of p) partition → IsCongruence k.algebra partition → Answer partition bytes → OfCongruence k p Answer bytes

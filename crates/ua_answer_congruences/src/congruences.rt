@@ -3,7 +3,7 @@
 ghost use Rattle.std.specs.Prelude.{IfOk};
 ghost use Rattle.ua_reply.specs.Checks.{Passes};
 ghost use Rattle.ua_reply.specs.Parts.{part_in};
-ghost use Rattle.ua_answer_congruences.specs.Operands.{IsOperand};
+ghost use Rattle.ua_answer_congruences.specs.inner.Operands.{IsOperand};
 
 use std::alloc::{AllocError, Global};
 use ua_part::Part;

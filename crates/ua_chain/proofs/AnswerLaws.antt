@@ -16,10 +16,10 @@ use Rattle.ua_close.specs.Memberships.{AreStepsTo}
 use Rattle.ua_identity.specs.Chains.{ChainKind}
 use Rattle.ua_identity.specs.Patterns.{all_fillings, vector_of, generators}
 use Rattle.ua_chain.specs.Answers.{term_of, AreTermSteps}
-use Rattle.ua_chain.specs.Charts.{IsRowOf}
+use Rattle.ua_chain.specs.inner.Charts.{IsRowOf}
 use Rattle.ua_identity.proofs.PatternLaws.{value_is_vector}
 use Rattle.ua_identity.proofs.ChainLaws.{generator_count, all_filled}
-use Rattle.ua_chain.specs.Closures.{IsClosureOf, AreMarkedNumbers}
+use Rattle.ua_chain.specs.inner.Closures.{IsClosureOf, AreMarkedNumbers}
 
 -- ---- steps of a row
 

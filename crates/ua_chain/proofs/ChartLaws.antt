@@ -14,7 +14,7 @@ use Rattle.ua_walk.specs.Ladders.{LinkLists, Joins, IsAllowed, IsClimb, IsLeastC
 use Rattle.ua_identity.specs.Chains.{ChainKind, AreLinked, IsPlace, IsOwn, IsBeginning, IsChain, IsLeastChain, IsReached}
 use Rattle.ua_identity.specs.Kinds.{IsKind}
 use Rattle.ua_identity.specs.Patterns.{all_fillings, vector_of}
-use Rattle.ua_chain.specs.Charts.{IsRowOf, IsChart}
+use Rattle.ua_chain.specs.inner.Charts.{IsRowOf, IsChart}
 use Rattle.ua_identity.proofs.ChainLaws.{member_of_term, term_of_member, place_has_vector, one_element, ends_at_first, same_vectors}
 
 module _ (a : FiniteAlgebra) (kind : ChainKind) (vectors : List Vector) (allowed : List Bool) (even odd : LinkLists) (k : IsKind kind) (wide : 0 < length (all_fillings a.size kind.patterns)) (c : IsChart a kind vectors allowed even odd) where

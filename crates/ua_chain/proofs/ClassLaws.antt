@@ -12,7 +12,7 @@ use Rattle.ua_table.proofs.Lists.{found}
 use Rattle.ua_rows.specs.RowLists.{IsRowList}
 use Rattle.ua_walk.specs.Ladders.{LinkLists, AreLinks}
 use Rattle.ua_identity.specs.declared.kinds.Part.{Part}
-use Rattle.ua_chain.specs.Classes.{entries_at, AreClasses, AreLinksBy}
+use Rattle.ua_chain.specs.inner.Classes.{entries_at, AreClasses, AreLinksBy}
 
 -- the class of one row more
 pub places_more : (vs : List Vector) (p : Part) (keys keys' : List Vector) (classes : List ℕ) (i c : ℕ) (row : Vector) → ((j : ℕ) (v : Vector) → j < i → slice_get vs j ≡ Some v → slice_get keys (slice_index classes j) ≡ Some (entries_at p v)) → ((j : ℕ) (v : Vector) → slice_get keys j ≡ Some v → slice_get keys' j ≡ Some v) → length classes ≡ i → slice_get vs i ≡ Some row → slice_get keys' c ≡ Some (entries_at p row) → (j : ℕ) (v : Vector) → j < i + 1 → slice_get vs j ≡ Some v → slice_get keys' (slice_index (classes ++ c ∷ []) j) ≡ Some (entries_at p v)

@@ -27,15 +27,15 @@ use Rattle.ua_table.proofs.FrameLemmas.{arities_of_power}
 use Rattle.ua_identity.specs.Chains.{Link, ChainKind, power_of, generators_of}
 use Rattle.ua_identity.specs.Kinds.{IsKind}
 use Rattle.ua_identity.specs.Patterns.{all_fillings, vector_of, place_vector}
-use Rattle.ua_chain.specs.Charts.{IsRowOf, IsChart}
+use Rattle.ua_chain.specs.inner.Charts.{IsRowOf, IsChart}
 use Rattle.ua_identity.proofs.ChainLaws.{generator_count, first_is_own}
 use Rattle.ua_chain.proofs.ChartLaws.{least_chain, no_chain, evens_reached, odds_reached, end_is_first}
 use Rattle.ua_identity.specs.declared.kinds.PatternPair.{PatternPair}
 use Rattle.ua_identity.specs.KindTables.{link_of, pattern_at}
-use Rattle.ua_chain.specs.RowsOf.{AreOwnRows, AreLinksAt, HaveWidth}
-use Rattle.ua_chain.specs.ClimbsIn.{IsClimbIn}
+use Rattle.ua_chain.specs.inner.RowsOf.{AreOwnRows, AreLinksAt, HaveWidth}
+use Rattle.ua_chain.specs.inner.ClimbsIn.{IsClimbIn}
 use Rattle.ua_chain.specs.Answers.{term_of, AreTermSteps, IsGeneratorStep, AreChainSteps, TellsNoChain, AreStepsOfRow, AreSerialTerms}
-use Rattle.ua_chain.specs.Closures.{IsClosureOf, AreStepsAt, AreEvenNumbers, AreOddNumbers, generator_step}
+use Rattle.ua_chain.specs.inner.Closures.{IsClosureOf, AreStepsAt, AreEvenNumbers, AreOddNumbers, generator_step}
 use Rattle.ua_close.specs.Needed.{AreStepsFor}
 use Rattle.ua_chain.proofs.RowLaws.{chart_from, have_width, own_both}
 use Rattle.ua_chain.proofs.AnswerLaws.{AreStepsOf, step_row}

@@ -20,16 +20,16 @@ use Rattle.ua_identity.specs.Identities.{VariablePattern, TermIdentity, Satisfie
 use Rattle.ua_identity.specs.Chains.{ChainKind, Link, AreLinked, power_of, generators_of}
 use Rattle.ua_identity.specs.Kinds.{IsKind}
 use Rattle.ua_identity.specs.Patterns.{fillings, all_fillings, vector_of}
-use Rattle.ua_chain.specs.Charts.{IsRowOf, IsChart}
+use Rattle.ua_chain.specs.inner.Charts.{IsRowOf, IsChart}
 use Rattle.ua_identity.proofs.PatternLaws.{part_is, linked_from_parts, parts_from_linked, satisfied_from_part, part_from_satisfied}
 use Rattle.ua_identity.proofs.KindLaws.{part_within, entries_are}
 use Rattle.ua_identity.proofs.ChainLaws.{term_of_member}
 use Rattle.ua_identity.specs.declared.kinds.Part.{Part}
 use Rattle.ua_identity.specs.declared.kinds.PatternPair.{PatternPair}
-use Rattle.ua_chain.specs.Classes.{entries_at, AreLinksBy}
+use Rattle.ua_chain.specs.inner.Classes.{entries_at, AreLinksBy}
 use Rattle.ua_identity.specs.KindTables.{pattern_at, own_of, link_of, blank}
 use Rattle.ua_identity.specs.KindTables.{IsPartOf}
-use Rattle.ua_chain.specs.RowsOf.{part_at, HasOwnAt, AreOwnRows, AreLinksAt, HaveWidth}
+use Rattle.ua_chain.specs.inner.RowsOf.{part_at, HasOwnAt, AreOwnRows, AreLinksAt, HaveWidth}
 
 -- the coordinates of a pattern are among the entries of each vector
 pub part_in_all : (n : ℕ) (ps : List VariablePattern) (m : ℕ) (p : Part) (vs : List Vector) → m < length ps → IsPartOf n ps m p → HaveWidth n ps vs → AllByRecursion (λ (v : Vector). p.to ≤ length v) vs

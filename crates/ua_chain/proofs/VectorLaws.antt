@@ -10,7 +10,7 @@ use Rattle.ua_term.specs.Assignments.{IsAssignment}
 use Rattle.ua_identity.specs.Chains.{ChainKind, power_of, generators_of}
 use Rattle.ua_identity.specs.Kinds.{IsKind}
 use Rattle.ua_identity.specs.Patterns.{all_fillings, place_vector}
-use Rattle.ua_chain.specs.Closures.{IsClosureOf}
+use Rattle.ua_chain.specs.inner.Closures.{IsClosureOf}
 use Rattle.ua_identity.proofs.KindLaws.{some_fillings}
 use Rattle.ua_identity.proofs.ChainLaws.{fillings_assign, generator_count}
 

@@ -1,7 +1,3 @@
-pub mod Charts
 pub mod Answers
 pub mod Permitted
-pub mod Closures
-pub mod Classes
-pub mod RowsOf
-pub mod ClimbsIn
+pub mod inner

@@ -7,7 +7,7 @@ ghost use Rattle.ua_table.specs.Listings.{IsListing, IsClosedListing};
 ghost use Rattle.ua_table.specs.Orders.{IsSerialListing};
 ghost use Rattle.ua_term.specs.Steps.{StepList};
 ghost use Rattle.ua_chain.specs.Answers.{TellsChain, IsSerialChain};
-ghost use Rattle.ua_chain.specs.Closures.{AreStepsAt, AreMarkedNumbers, AreEvenNumbers, AreOddNumbers, generator_step};
+ghost use Rattle.ua_chain.specs.inner.Closures.{AreStepsAt, AreMarkedNumbers, AreEvenNumbers, AreOddNumbers, generator_step};
 ghost use Rattle.ua_identity.specs.Chains.{power_of, generators_of};
 
 use crate::climbs::{climb_in, either};

@@ -5,8 +5,8 @@ ghost use Rattle.ua_table.specs.declared.limits.TheConstants.{SIZE, WIDTH, BUDGE
 ghost use Rattle.ua_table.specs.Listings.{vectors_of};
 ghost use Rattle.ua_walk.specs.Ladders.{IsAllowed};
 ghost use Rattle.ua_identity.specs.Patterns.{all_fillings};
-ghost use Rattle.ua_chain.specs.RowsOf.{AreOwnRows, HaveWidth};
-ghost use Rattle.ua_chain.specs.ClimbsIn.{IsClimbIn};
+ghost use Rattle.ua_chain.specs.inner.RowsOf.{AreOwnRows, HaveWidth};
+ghost use Rattle.ua_chain.specs.inner.ClimbsIn.{IsClimbIn};
 
 use crate::rows::{links_at, own_rows};
 use std::alloc::{AllocError, Global};

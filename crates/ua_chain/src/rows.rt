@@ -7,9 +7,9 @@ ghost use Rattle.ua_table.specs.Listings.{vectors_of};
 ghost use Rattle.ua_walk.specs.Ladders.{IsAllowed};
 ghost use Rattle.ua_table.specs.declared.limits.TheConstants.{SIZE, WIDTH};
 ghost use Rattle.ua_identity.specs.Patterns.{all_fillings};
-ghost use Rattle.ua_chain.specs.Classes.{entries_at};
+ghost use Rattle.ua_chain.specs.inner.Classes.{entries_at};
 ghost use Rattle.ua_identity.specs.KindTables.{pattern_at};
-ghost use Rattle.ua_chain.specs.RowsOf.{AreOwnRows, AreLinksAt, HaveWidth};
+ghost use Rattle.ua_chain.specs.inner.RowsOf.{AreOwnRows, AreLinksAt, HaveWidth};
 
 use crate::classes::links_by;
 use std::alloc::{AllocError, Global};

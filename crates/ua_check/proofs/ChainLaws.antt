@@ -25,7 +25,8 @@ use Rattle.ua_flaws.specs.Firsts.{first_bad}
 use Rattle.ua_flaws.specs.Steps.{origin_of, origins_of, written_term, last_term}
 use Rattle.ua_flaws.specs.Flaws.{steps_flaw}
 use Rattle.ua_flaws.specs.Laws.{StepsAreSteps, LastIsTerm}
-use Rattle.ua_check.specs.Chains.{kind_of, chain_width, WritesChain, place_identity, satisfies, satisfies_all, is_fit, link_at, are_linked, is_in_chain, links_flaw, term_flaw, terms_flaw, is_without_term, AreStepsWithin, chain_lines, chain_flaw}
+use Rattle.ua_check.specs.Chains.{kind_of, chain_width, WritesChain, place_identity, satisfies, satisfies_all, is_fit, link_at, are_linked, is_in_chain, links_flaw, term_flaw, terms_flaw, is_without_term, chain_lines, chain_flaw}
+use Rattle.ua_check.specs.inner.Chains.{AreStepsWithin}
 use Rattle.ua_flaws.proofs.FirstLaws.{both, some_length, refusal_none, option_none, first_none, none_of, alone, each_good}
 use Rattle.ua_check.proofs.SatisfyLaws.{satisfied_all, linked, place}
 

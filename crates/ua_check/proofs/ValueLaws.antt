@@ -15,7 +15,7 @@ use Rattle.ua_term.specs.Steps.{AreSteps, terms_at, term_after, unfolded}
 use Rattle.ua_term.proofs.StepLaws.{step_at, unfolded_more, length_from}
 use Rattle.ua_term.proofs.TreeLemmas.{operation_facts}
 use Rattle.ua_flaws.specs.Steps.{written_term}
-use Rattle.ua_check.specs.Equations.{element_of}
+use Rattle.ua_check.specs.inner.Equations.{element_of}
 
 -- ---- their values
 

@@ -1,13 +1,11 @@
 -- What certificates of chains say, and their flaws.
-use Rattle.std.specs.Prelude.{ℕ, ◌+◌, ◌%◌, ◌<◌, ◌≤◌, ◌==◌, ◌&&◌, ◌||◌, nat_lt, not, Bool, if◌then◌else◌, Option, Some, List, [], ◌∷◌, length, map, find, slice_index_or}
+use Rattle.std.specs.Prelude.{ℕ, ◌+◌, ◌%◌, ◌==◌, ◌&&◌, ◌||◌, nat_lt, not, Bool, if◌then◌else◌, Option, Some, List, [], ◌∷◌, length, map, find, slice_index_or}
 use Rattle.std.specs.List.{list_all, list_any, enumerate_from, range_with_len}
 use Rattle.std.specs.Option.{option_map, is_none}
 use Rattle.ua_table.specs.declared.limits.TheConstants.{WIDTH}
-use Rattle.ua_table.specs.Algebras.{FiniteAlgebra, arities_of}
-use Rattle.ua_table.specs.declared.origins.Origin.{Origin}
+use Rattle.ua_table.specs.Algebras.{FiniteAlgebra}
 use Rattle.ua_table.specs.Terms.{Tree}
 use Rattle.ua_table.specs.Refusals.{refusal_if, first_refusal}
-use Rattle.ua_term.specs.Steps.{AreSteps}
 use Rattle.ua_term.specs.Assignments.{assignments}
 use Rattle.ua_identity.specs.Identities.{TermIdentity, at_pattern}
 use Rattle.ua_identity.specs.Chains.{Link, ChainKind, IsChain, power_of}
@@ -81,12 +79,6 @@ is_in_chain a kind terms i t = is_fit a kind (length terms) i t && ((i + 1 == le
 -- the first term that is not
 abbrev pub links_flaw : FiniteAlgebra → ChainKind → List Tree → Option Flaw
 links_flaw a kind terms = option_map flaw.Link (first_bad (is_in_chain a kind terms) 0 terms)
-
--- the steps of a term of three places, of which there are some, and at most so many
-pub record AreStepsWithin (a : FiniteAlgebra) (most : ℕ) (list : List Origin) : Type 0 where
-  pub some : 0 < length list
-  pub few : length list ≤ most
-  pub steps : AreSteps (arities_of a) 3 list
 
 -- the first flaw among the steps of the term of this number
 abbrev pub term_flaw : FiniteAlgebra → ℕ → ℕ × List CertStep → Option Flaw

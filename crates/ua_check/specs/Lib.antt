@@ -4,3 +4,4 @@ pub mod Chains
 pub mod Reached
 pub mod ChartsOf
 pub mod Checking
+pub mod inner

@@ -8,7 +8,8 @@ ghost use Rattle.ua_term.specs.Steps.{AreSteps};
 ghost use Rattle.ua_flaws.specs.Firsts.{first_behind};
 ghost use Rattle.ua_flaws.specs.Steps.{written_term};
 ghost use Rattle.ua_check.specs.Conditions.{identity_failure};
-ghost use Rattle.ua_check.specs.Equations.{IsSide, differ};
+ghost use Rattle.ua_check.specs.Equations.{differ};
+ghost use Rattle.ua_check.specs.inner.Equations.{IsSide};
 
 use crate::values::value_of;
 use ua_table::{Algebra, Elem, Origin};

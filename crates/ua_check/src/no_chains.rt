@@ -9,7 +9,7 @@ ghost use Rattle.ua_identity.specs.Chains.{generators_of};
 ghost use Rattle.ua_flaws.specs.Flaws.{Tells};
 ghost use Rattle.ua_check.specs.Chains.{HasNoChain};
 ghost use Rattle.ua_check.specs.Reached as reached;
-ghost use Rattle.ua_check.specs.ChartsOf.{IsChartOf};
+ghost use Rattle.ua_check.specs.inner.ChartsOf.{IsChartOf};
 
 use crate::chains::named;
 use crate::charts::{Chart, entries_of};

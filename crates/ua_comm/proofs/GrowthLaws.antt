@@ -11,7 +11,7 @@ use Rattle.ua_prod.proofs.CongruenceLaws.{identity-IsCongruence}
 use Rattle.ua_cong.specs.Extensions.{IsCgAbove}
 use Rattle.ua_cong.proofs.ExtensionLaws.{above_lower, above_no_more}
 use Rattle.ua_matrix.specs.Matrices.{AreFour, Goes, Fails}
-use Rattle.ua_comm.specs.Growths.{IsGrowing, IsLower, IsTakenIn}
+use Rattle.ua_comm.specs.inner.Growths.{IsGrowing, IsLower, IsTakenIn}
 
 -- ---- the identity
 

@@ -2,3 +2,4 @@ pub mod Commutators
 pub mod Growths
 pub mod Series
 pub mod Permitted
+pub mod inner

@@ -11,8 +11,10 @@ use Rattle.ua_part.specs.Partitions.{Partition}
 use Rattle.ua_cong.specs.declared.known.Known.{Known}
 use Rattle.ua_cong.specs.Closings.{AreElements, IsPrincipal}
 use Rattle.ua_rows.specs.RowLists.{GoesOnWith}
-use Rattle.ua_cong.specs.Known.{IsKnownPair, IsNoneOrKnown, IsKnown, IsPlaceOf, AreKept}
-use Rattle.ua_cong.specs.Principals.{IsPrincipalCongruence, HasPrincipal}
+use Rattle.ua_cong.specs.Known.{IsKnownPair, IsNoneOrKnown, IsKnown}
+use Rattle.ua_cong.specs.inner.Known.{IsPlaceOf, AreKept}
+use Rattle.ua_cong.specs.Principals.{IsPrincipalCongruence}
+use Rattle.ua_cong.specs.inner.Principals.{HasPrincipal}
 
 -- ---- a row is entered
 

@@ -5,10 +5,10 @@ use Rattle.ua_table.specs.Algebras.{FiniteAlgebra}
 use Rattle.ua_part.specs.Partitions.{Partition, SameBlock, LiesBelow}
 use Rattle.ua_prod.specs.Congruences.{IsCongruence, IsCg}
 use Rattle.ua_cong.specs.declared.known.Known.{Known}
-use Rattle.ua_cong.specs.Closings.{IsForced}
+use Rattle.ua_cong.specs.inner.Closings.{IsForced}
 use Rattle.ua_cong.specs.Extensions.{IsCgAbove}
-use Rattle.ua_cong.specs.Hints.{IsHint}
-use Rattle.ua_cong.specs.Known.{IsPlaceOf}
+use Rattle.ua_cong.specs.inner.Hints.{IsHint}
+use Rattle.ua_cong.specs.inner.Known.{IsPlaceOf}
 
 pub hint_of : (a : FiniteAlgebra) (known : Known) (x y u v place : ℕ) → IsForced a ((x, y) ∷ []) u v → IsPlaceOf a known u v place → IsHint a known x y place
 hint_of a known x y u v place forced h = record {

@@ -1,7 +1,7 @@
 -- Closings that go on.
 use Rattle.ua_cong.specs.declared.closing.Problem.{Problem}
 use Rattle.ua_cong.specs.declared.closing.Closing.{Closing}
-use Rattle.ua_cong.specs.States.{IsState, GoesOn}
+use Rattle.ua_cong.specs.inner.States.{IsState, GoesOn}
 use Rattle.ua_cong.proofs.ClosingLaws.{grown_none, grown_through}
 
 pub goes_on_alike : (problem : Problem) (c : Closing) → IsState problem c → GoesOn problem c c

@@ -1,5 +1,5 @@
 -- Principal congruences that are known.
-use Rattle.std.specs.Prelude.{◌≡◌, ◌⊎◌, ℕ, ◌<◌, List, [], length, slice_index_or, Contains}
+use Rattle.std.specs.Prelude.{◌≡◌, ◌⊎◌, ℕ, ◌<◌, List, [], length, slice_index_or}
 use Rattle.std.specs.List.{AllByRecursion}
 use Rattle.ua_table.specs.Algebras.{FiniteAlgebra}
 use Rattle.ua_part.specs.Partitions.{Partition}
@@ -12,11 +12,6 @@ pub record IsKnownPair (a : FiniteAlgebra) (rows : List Partition) (e : ℕ × �
   pub place : e.2 < length rows
   pub principal : IsPrincipal a (e.0, e.1, slice_index_or rows e.2 [])
 
--- the row at this place is the principal congruence of two elements
-pub record IsPlaceOf (a : FiniteAlgebra) (known : Known) (x y place : ℕ) : Type 0 where
-  pub within : place < length known.rows.items
-  pub principal : IsPrincipal a (x, y, slice_index_or known.rows.items place [])
-
 -- nothing is said of a pair, or the row at its place is its principal congruence
 abbrev pub IsNoneOrKnown : FiniteAlgebra → List Partition → ℕ × ℕ × ℕ → Type 0
 IsNoneOrKnown a rows e = (e.0 ≡ e.1) ⊎ IsKnownPair a rows e
@@ -26,7 +21,3 @@ pub record IsKnown (a : FiniteAlgebra) (known : Known) : Type 0 where
   pub width : known.rows.width ≡ a.size
   pub pairs : AllByRecursion (IsNoneOrKnown a known.rows.items) known.pairs.items
   pub rows : AllByRecursion (IsPrincipalCongruence a) known.rows.items
-
--- what is in the one list is in the other
-abbrev pub AreKept : List Partition → List Partition → Type 0
-AreKept old new = (p : Partition) → Contains old p → Contains new p

@@ -1,7 +1,6 @@
 pub mod Closings
-pub mod States
 pub mod Principals
 pub mod Known
 pub mod Extensions
-pub mod Hints
 pub mod Generated
+pub mod inner

@@ -7,10 +7,13 @@ ghost use Rattle.ua_table.specs.declared.limits.TheConstants.{SIZE};
 ghost use Rattle.ua_table.specs.Algebras.{arities_of};
 ghost use Rattle.ua_part.specs.Partitions.{SameBlock};
 ghost use Rattle.ua_prod.specs.Congruences.{IsCg, IsCongruence, RelatesAll};
-ghost use Rattle.ua_cong.specs.Closings.{AreElements, AreForced, AreForcedAlong, AreRelatedAlong, IsCarried, IsCarriedAlong};
-ghost use Rattle.ua_cong.specs.Extensions.{led_pairs, IsCgAbove};
-ghost use Rattle.ua_cong.specs.Known.{IsKnown, IsPlaceOf};
-ghost use Rattle.ua_cong.specs.States.{IsProblem, IsState, GoesOn};
+ghost use Rattle.ua_cong.specs.Closings.{AreElements};
+ghost use Rattle.ua_cong.specs.inner.Closings.{AreForced, AreForcedAlong, AreRelatedAlong, IsCarried, IsCarriedAlong};
+ghost use Rattle.ua_cong.specs.Extensions.{IsCgAbove};
+ghost use Rattle.ua_cong.specs.inner.Extensions.{led_pairs};
+ghost use Rattle.ua_cong.specs.Known.{IsKnown};
+ghost use Rattle.ua_cong.specs.inner.Known.{IsPlaceOf};
+ghost use Rattle.ua_cong.specs.inner.States.{IsProblem, IsState, GoesOn};
 
 use crate::known::{Known, rank};
 use std::alloc::{AllocError, Global};

@@ -7,7 +7,7 @@
 
 ghost use Rattle.std.specs.Prelude.{◌+◌, ◌<◌, ◌≤◌, length, OnOk};
 ghost use Rattle.ua_cong.specs.Known.{IsKnown};
-ghost use Rattle.ua_cong.specs.States.{IsSearched};
+ghost use Rattle.ua_cong.specs.inner.States.{IsSearched};
 
 use crate::closing::place_of;
 use crate::known::{Known, rank};

@@ -3,7 +3,7 @@
 ghost use Rattle.std.specs.Prelude.{◌<◌, length, slice_index, IfSome};
 ghost use Rattle.ua_table.specs.Algebras.{arities_of};
 ghost use Rattle.ua_cong.specs.Closings.{AreElements};
-ghost use Rattle.ua_cong.specs.Hints.{IsHint, IsNext};
+ghost use Rattle.ua_cong.specs.inner.Hints.{IsHint, IsNext};
 ghost use Rattle.ua_cong.specs.Known.{IsKnown};
 
 use crate::closing::place_of;

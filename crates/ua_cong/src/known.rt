@@ -4,8 +4,9 @@ ghost use Rattle.std.specs.Prelude.{◌≡◌, ◌+◌, ◌<◌, ◌≤◌, ◌^
 ghost use Rattle.ua_table.specs.Algebras.{FiniteAlgebra};
 ghost use Rattle.ua_table.specs.declared.limits.TheConstants.{SIZE};
 ghost use Rattle.ua_cong.specs.Closings.{AreElements, IsPrincipal};
-ghost use Rattle.ua_cong.specs.Known.{IsKnown, IsPlaceOf, AreKept};
-ghost use Rattle.ua_cong.specs.Principals.{HasPrincipal};
+ghost use Rattle.ua_cong.specs.Known.{IsKnown};
+ghost use Rattle.ua_cong.specs.inner.Known.{IsPlaceOf, AreKept};
+ghost use Rattle.ua_cong.specs.inner.Principals.{HasPrincipal};
 
 use std::alloc::{AllocError, Global};
 use ua_rows::Rows;

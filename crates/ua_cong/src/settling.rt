@@ -4,8 +4,9 @@ ghost use Rattle.std.specs.Prelude.{◌≡◌, ◌+◌, ◌<◌, ◌≤◌, [], 
 ghost use Rattle.ua_table.specs.declared.limits.TheConstants.{SIZE};
 ghost use Rattle.ua_cong.specs.Closings.{AreElements, IsPrincipal};
 ghost use Rattle.ua_cong.specs.Extensions.{IsCgAbove};
-ghost use Rattle.ua_cong.specs.Known.{IsKnown, IsPlaceOf, AreKept};
-ghost use Rattle.ua_cong.specs.Principals.{HasPrincipal};
+ghost use Rattle.ua_cong.specs.Known.{IsKnown};
+ghost use Rattle.ua_cong.specs.inner.Known.{IsPlaceOf, AreKept};
+ghost use Rattle.ua_cong.specs.inner.Principals.{HasPrincipal};
 
 use crate::closing::{cg_sets, place_of, sets_above};
 use crate::hints::hint;

@@ -1,15 +1,10 @@
 -- What a call does to the count of faults of a source or a sink, and to the bytes that it tells.
-use Rattle.std.specs.Prelude.{◌≡◌, ◌⊎◌, ℕ, ◌-◌, ◌^◌, ◌<◌, ◌≤◌, List, length, take, Option, Result, Ok, Err, ⊤}
+use Rattle.std.specs.Prelude.{◌≡◌, ◌⊎◌, ℕ, ◌-◌, ◌^◌, ◌<◌, ◌≤◌, List, length, take, Option}
 use Rattle.std.specs.Io.KnownBytes.{Appends, Consumes}
 
 -- a count of faults rose in a call: it is greater after it, or it stood at the last value of a `u64` before it
 abbrev pub Rose : ℕ → ℕ → Type 0
 Rose before after = (before < after) ⊎ (before ≡ 2 ^ 64 - 1)
-
--- an error comes only where the count rose
-abbrev pub HasCause : {T E : Type 0} → ℕ → ℕ → Result T E → Type 0
-HasCause before after (Ok x) = ⊤
-HasCause before after (Err e) = Rose before after
 
 -- the first of the bytes were appended, some of them or all
 abbrev pub AppendsFront : Option (List ℕ) → Option (List ℕ) → List ℕ → Type 0

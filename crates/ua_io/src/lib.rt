@@ -7,7 +7,8 @@ mod whole;
 
 ghost use Rattle.std.specs.Prelude.{◌≤◌, ◌<◌, ◌≡◌, ℕ, List, Option, length, IfOk};
 ghost use Rattle.std.specs.Io.KnownBytes.{ReadConsumes, WriteAppends};
-ghost use Rattle.ua_io.specs.Faults.{Rose, HasCause};
+ghost use Rattle.ua_io.specs.Faults.{Rose};
+ghost use Rattle.ua_io.specs.inner.Faults.{HasCause};
 
 pub use memory::{MemSink, MemSource};
 pub use standard::{StdSink, StdSource};

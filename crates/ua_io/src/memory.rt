@@ -2,8 +2,9 @@
 
 ghost use Rattle.std.specs.Prelude.{◌≡◌, ◌<◌, ◌≤◌, ◌↔◌, Some, [], min, length, vec_len, IfOk, IsErr, IsTrue, Contains};
 ghost use Rattle.std.specs.Io.KnownBytes.{ReadConsumes, WriteAppends};
-ghost use Rattle.ua_io.specs.Faults.{Rose, HasCause};
-ghost use Rattle.ua_io.specs.Memory.{SupplyFails, StoreFails, IsNextSupply, IsNextStore, IsCounted, IsRoomLeft};
+ghost use Rattle.ua_io.specs.Faults.{Rose};
+ghost use Rattle.ua_io.specs.inner.Faults.{HasCause};
+ghost use Rattle.ua_io.specs.inner.Memory.{SupplyFails, StoreFails, IsNextSupply, IsNextStore, IsCounted, IsRoomLeft};
 
 use crate::{Failed, Sink, Source};
 use std::marker::Model;

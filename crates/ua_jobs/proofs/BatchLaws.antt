@@ -17,7 +17,7 @@ use Rattle.ua_jobs.specs.Rule.{taken_times}
 use Rattle.ua_jobs.specs.Moves.{HasAll, pushed, joined}
 use Rattle.ua_jobs.specs.Seats.{PassView, with_view}
 use Rattle.ua_jobs.specs.Harvests.{AreAnswers, IsHarvest, EndTells, numbers_of}
-use Rattle.ua_jobs.specs.Batches.{IsUnused, IsReady, IsOtherHarvest, joined_times}
+use Rattle.ua_jobs.specs.inner.Batches.{IsUnused, IsReady, IsOtherHarvest, joined_times}
 use Rattle.ua_jobs.proofs.Places.{all_from_times}
 
 -- ---- the pushes

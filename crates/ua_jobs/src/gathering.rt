@@ -10,7 +10,7 @@ ghost use Rattle.ua_jobs.specs.Moves.{IsFirst};
 ghost use Rattle.ua_jobs.specs.Rule.{taken_times};
 ghost use Rattle.ua_jobs.specs.Seats.{with_view};
 ghost use Rattle.ua_jobs.specs.Harvests.{AreAnswers, IsHarvest, MayGive, numbered, numbers_of};
-ghost use Rattle.ua_jobs.specs.Batches.{IsOtherHarvest, IsReady, joined_times};
+ghost use Rattle.ua_jobs.specs.inner.Batches.{IsOtherHarvest, IsReady, joined_times};
 
 use crate::queues::{JobPass, JobQueue};
 use crate::serving::{ServeEnd, Served, answer, serve_with};

@@ -11,8 +11,8 @@ use Rattle.ua_part.specs.Partitions.{Partition, IsPartition, LiesBelow, IsJoin}
 use Rattle.ua_part.proofs.PartitionLaws.{below_through, below_both, below_from_leaders, leaders_from_below}
 use Rattle.ua_prod.specs.Congruences.{IsCongruence}
 use Rattle.ua_lattice.specs.Lattices.{IsCongruenceList, IsCover, at}
-use Rattle.ua_lattice.specs.Joins.{HasJoins, IsSpannedLattice}
-use Rattle.ua_lattice.specs.Places.{AreOrdered, IsJoinPlace, HasJoinPlace, AreJoinPlaces, AreJoinPushed, AreLeast, AreUpperCovers}
+use Rattle.ua_lattice.specs.inner.Joins.{HasJoins, IsSpannedLattice}
+use Rattle.ua_lattice.specs.inner.Places.{AreOrdered, IsJoinPlace, HasJoinPlace, AreJoinPlaces, AreJoinPushed, AreLeast, AreUpperCovers}
 use Rattle.ua_lattice.proofs.OrderLaws.{partition_at, same_place}
 
 -- ---- joins at places

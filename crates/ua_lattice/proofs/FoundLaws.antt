@@ -15,7 +15,7 @@ use Rattle.ua_prod.proofs.CongruenceLaws.{identity-IsCongruence}
 use Rattle.ua_rows.specs.RowLists.{GoesOnWith}
 use Rattle.ua_cong.proofs.Normal.{join-size}
 use Rattle.ua_lattice.specs.Lattices.{IsJoinClosed, IsJoinedWith}
-use Rattle.ua_lattice.specs.Joins.{IsJoinEntered, GoesOnWithJoins, HasJoins, IsSpanned, IsSpannedLattice, AreAmong}
+use Rattle.ua_lattice.specs.inner.Joins.{IsJoinEntered, GoesOnWithJoins, HasJoins, IsSpanned, IsSpannedLattice, AreAmong}
 use Rattle.ua_lattice.proofs.JoinedLaws.{join-IsCongruence, joined_closed}
 
 -- what a look-up finds is there

@@ -11,7 +11,7 @@ use Rattle.ua_table.proofs.Lists.{all_from_contains}
 use Rattle.ua_part.specs.Partitions.{Partition, LiesBelow}
 use Rattle.ua_part.proofs.PartitionLaws.{below_itself, below_through}
 use Rattle.ua_lattice.specs.Lattices.{at}
-use Rattle.ua_lattice.specs.Places.{AreOrdered, LiesAboveOne, IsLeastAmong, AreLeast}
+use Rattle.ua_lattice.specs.inner.Places.{AreOrdered, LiesAboveOne, IsLeastAmong, AreLeast}
 use Rattle.ua_lattice.proofs.OrderLaws.{place_up}
 
 -- ---- ascending numbers

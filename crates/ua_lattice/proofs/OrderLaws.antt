@@ -21,8 +21,8 @@ use Rattle.ua_part.specs.Blocks.{block_count}
 use Rattle.ua_part.proofs.PartitionLaws.{leaders_from_below, below_from_leaders, below_both}
 use Rattle.ua_lattice.specs.declared.ordering.Counted.{Counted}
 use Rattle.ua_lattice.specs.Lattices.{by_blocks, at}
-use Rattle.ua_lattice.specs.Ordering.{IsCounted, partitions_of}
-use Rattle.ua_lattice.specs.Places.{AreOrdered}
+use Rattle.ua_lattice.specs.inner.Ordering.{IsCounted, partitions_of}
+use Rattle.ua_lattice.specs.inner.Places.{AreOrdered}
 
 -- ---- the order is total
 

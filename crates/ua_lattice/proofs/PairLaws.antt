@@ -13,7 +13,7 @@ use Rattle.ua_table.specs.Algebras.{FiniteAlgebra}
 use Rattle.ua_table.proofs.Lists.{all_append, all_from_contains, all_weaker, all_map, Contains-head, Contains-tail, Contains-map, Contains-map_from, Contains-none}
 use Rattle.ua_part.specs.Partitions.{Partition}
 use Rattle.ua_lattice.specs.Lattices.{by_places, IsCover, AreCovers, at}
-use Rattle.ua_lattice.specs.Places.{AreUpperCovers, AreCoversOfFirst, pairs_from}
+use Rattle.ua_lattice.specs.inner.Places.{AreUpperCovers, AreCoversOfFirst, pairs_from}
 
 -- one sorted list and another behind it
 sorted_append : {K : Type 0} (c : K → K → Ordering) (xs ys : List K) → IsStrictlySortedBy c xs → IsStrictlySortedBy c ys → ((x y : K) → Contains xs x → Contains ys y → c x y ≡ Less) → IsStrictlySortedBy c (xs ++ ys)

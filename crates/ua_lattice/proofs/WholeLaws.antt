@@ -8,8 +8,8 @@ use Rattle.ua_part.specs.Partitions.{Partition, identity_on}
 use Rattle.ua_prod.specs.Congruences.{IsCongruence}
 use Rattle.ua_cong.specs.Principals.{HasPrincipals}
 use Rattle.ua_lattice.specs.Lattices.{IsCongruenceList, AreCovers, IsExceedingList}
-use Rattle.ua_lattice.specs.Joins.{IsSpanned, IsSpannedLattice, AreAmong}
-use Rattle.ua_lattice.specs.Ordering.{IsArranged}
+use Rattle.ua_lattice.specs.inner.Joins.{IsSpanned, IsSpannedLattice, AreAmong}
+use Rattle.ua_lattice.specs.inner.Ordering.{IsArranged}
 use Rattle.ua_lattice.proofs.JoinedLaws.{all_joins}
 
 module _ (rows list : List Partition) (h : IsArranged rows list) where

@@ -5,8 +5,8 @@ ghost use Rattle.std.specs.List.{AllByRecursion};
 ghost use Rattle.std.specs.List.Sorted.{IsStrictlyIncreasing};
 ghost use Rattle.ua_part.specs.Partitions.{Partition, IsPartition};
 ghost use Rattle.ua_lattice.specs.Lattices.{IsCongruenceList, AreCovers, at};
-ghost use Rattle.ua_lattice.specs.Joins.{HasJoins, IsSpannedLattice};
-ghost use Rattle.ua_lattice.specs.Places.{AreOrdered, AreJoinPushed, AreJoinPlaces, pairs_from};
+ghost use Rattle.ua_lattice.specs.inner.Joins.{HasJoins, IsSpannedLattice};
+ghost use Rattle.ua_lattice.specs.inner.Places.{AreOrdered, AreJoinPushed, AreJoinPlaces, pairs_from};
 ghost use Rattle.ua_table.specs.declared.limits.TheConstants.{SIZE};
 
 use crate::joiner::{Joiner, lies_below};

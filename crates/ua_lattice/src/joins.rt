@@ -4,8 +4,8 @@ ghost use Rattle.std.specs.Prelude.{◌≡◌, ◌+◌, ◌<◌, ◌≤◌, [], 
 ghost use Rattle.std.specs.List.{AllByRecursion};
 ghost use Rattle.ua_part.specs.Partitions.{IsPartition, identity_on};
 ghost use Rattle.ua_prod.specs.Congruences.{IsCongruence};
-ghost use Rattle.ua_lattice.specs.Joins.{IsJoinEntered, GoesOnWithJoins, HasJoins, IsSpannedLattice, AreAmong};
-ghost use Rattle.ua_lattice.specs.Searches.{HasFound};
+ghost use Rattle.ua_lattice.specs.inner.Joins.{IsJoinEntered, GoesOnWithJoins, HasJoins, IsSpannedLattice, AreAmong};
+ghost use Rattle.ua_lattice.specs.inner.Searches.{HasFound};
 ghost use Rattle.ua_table.specs.declared.limits.TheConstants.{SIZE};
 
 use crate::joiner::{Joiner, lies_below};

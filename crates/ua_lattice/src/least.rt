@@ -3,7 +3,7 @@
 ghost use Rattle.std.specs.Prelude.{◌<◌, ◌↔◌, length, OnOk, IsTrue};
 ghost use Rattle.std.specs.List.{AllByRecursion};
 ghost use Rattle.std.specs.List.Sorted.{IsStrictlyIncreasing};
-ghost use Rattle.ua_lattice.specs.Places.{AreOrdered, LiesAboveOne, AreLeast};
+ghost use Rattle.ua_lattice.specs.inner.Places.{AreOrdered, LiesAboveOne, AreLeast};
 
 use std::alloc::AllocError;
 use ua_part::Part;

@@ -5,7 +5,7 @@ ghost use Rattle.std.specs.List.{AllByRecursion};
 ghost use Rattle.ua_rows.specs.RowLists.{IsRowList};
 ghost use Rattle.ua_part.specs.Partitions.{IsPart};
 ghost use Rattle.ua_part.specs.Blocks.{block_count};
-ghost use Rattle.ua_lattice.specs.Ordering.{IsCounted, partitions_of, IsArranged};
+ghost use Rattle.ua_lattice.specs.inner.Ordering.{IsCounted, partitions_of, IsArranged};
 
 use std::alloc::{AllocError, Global};
 use std::cmp::Reverse;

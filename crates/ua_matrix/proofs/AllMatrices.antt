@@ -12,8 +12,9 @@ use Rattle.ua_part.specs.Pairs.{related_pairs}
 use Rattle.ua_prod.specs.Congruences.{IsCongruence}
 use Rattle.ua_matrix.specs.declared.deltas.Delta.{Delta}
 use Rattle.ua_matrix.specs.Matrices.{matrix_generators, IsMatrix, Goes, AreFour}
-use Rattle.ua_matrix.specs.Deltas.{leading_matrices}
-use Rattle.ua_matrix.specs.Squares.{left_of, right_of, number_of, IsDeltaOf, AreDeciding}
+use Rattle.ua_matrix.specs.inner.Deltas.{leading_matrices}
+use Rattle.ua_matrix.specs.Squares.{number_of, AreDeciding}
+use Rattle.ua_matrix.specs.inner.Squares.{left_of, right_of, IsDeltaOf}
 use Rattle.ua_matrix.proofs.MatrixLaws.{generators_vectors}
 use Rattle.ua_matrix.proofs.DeltaDecides.{condition_from_blocks, blocks_from_condition, leading_from_blocks, blocks_from_leading, leading_four, few_matrices}
 

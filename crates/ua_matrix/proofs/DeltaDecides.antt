@@ -20,7 +20,8 @@ use Rattle.ua_part.proofs.RelatedLaws.{related_in}
 use Rattle.ua_prod.specs.Congruences.{IsCongruence}
 use Rattle.ua_matrix.specs.Centrality.{Variable, IsRelated, elements, Centralizes}
 use Rattle.ua_matrix.specs.Matrices.{variables_of, matrix_of, matrix_generators, IsMatrix, Goes, AreFour}
-use Rattle.ua_matrix.specs.Deltas.{IsDelta, matrix_of_rows, HasRelatedRows, AreUniform, leading_matrices}
+use Rattle.ua_matrix.specs.Deltas.{IsDelta, matrix_of_rows, HasRelatedRows, AreUniform}
+use Rattle.ua_matrix.specs.inner.Deltas.{leading_matrices}
 use Rattle.ua_matrix.proofs.Deciding.{variables_related, at_0, at_1, at_2, at_3, matrices_from_condition, condition_from_matrices}
 use Rattle.ua_matrix.proofs.DeltaLaws.{AreRows, rows_related, delta_constant}
 

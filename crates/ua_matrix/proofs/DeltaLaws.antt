@@ -16,7 +16,7 @@ use Rattle.ua_part.proofs.MergeLaws.{length-merged, merged-IsPartition, merged-a
 use Rattle.ua_prod.specs.Congruences.{IsCongruence, RelatesAll, IsCg}
 use Rattle.ua_prod.proofs.Compatible.{congruence_from_translations}
 use Rattle.ua_prod.proofs.CongruenceLaws.{zip_left, zip_right}
-use Rattle.ua_cong.specs.Closings.{IsOne}
+use Rattle.ua_cong.specs.inner.Closings.{IsOne}
 use Rattle.ua_cong.proofs.ClosingLaws.{at_range, all_of_range, related_more}
 use Rattle.ua_matrix.specs.Centrality.{Variable, IsRelated}
 use Rattle.ua_matrix.specs.Matrices.{marked, variables_of, matrix_of, matrix_generators, IsMatrix}

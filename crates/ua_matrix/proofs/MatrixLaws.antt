@@ -18,7 +18,7 @@ use Rattle.ua_matrix.specs.declared.centrality.Central.{Central}
 use Rattle.ua_matrix.specs.declared.centrality.Central.TheVariants as answers
 use Rattle.ua_matrix.specs.Centrality.{Variable, IsRelated}
 use Rattle.ua_matrix.specs.Matrices.{variables_of, matrix_of, matrix_generators, IsMatrix, AreFour}
-use Rattle.ua_matrix.specs.Answers.{IsJudged}
+use Rattle.ua_matrix.specs.inner.Answers.{IsJudged}
 use Rattle.ua_matrix.specs.Permitted.{MayBeCentral}
 use Rattle.ua_matrix.proofs.Deciding.{variables_related}
 use Rattle.ua_matrix.proofs.CentralLaws.{first_in, second_in}

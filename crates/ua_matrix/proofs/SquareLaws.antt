@@ -25,7 +25,8 @@ use Rattle.ua_prod.proofs.ValueLaws.{same_arities, value_among, value_paired}
 use Rattle.ua_cong.specs.Closings.{AreElements}
 use Rattle.ua_cong.proofs.ClosingLaws.{all_of_range}
 use Rattle.ua_matrix.specs.Deltas.{IsAlgebraOfPairs, diagonal_pairs}
-use Rattle.ua_matrix.specs.Squares.{pairs_in, left_of, right_of, number_of, IsSubsquare}
+use Rattle.ua_matrix.specs.Squares.{number_of}
+use Rattle.ua_matrix.specs.inner.Squares.{pairs_in, left_of, right_of, IsSubsquare}
 
 -- the operations of the square have the arities of the algebra
 square_arities : (os : List Operation) → map (λ (o : Operation). o.arity) (side_by_side os os) ≡ map (λ (o : Operation). o.arity) os

@@ -48,9 +48,3 @@ abbrev pub IsSerialCentral : FiniteAlgebra → Partition → Partition → Parti
 IsSerialCentral a alpha beta delta b Yes = Unit {0}
 IsSerialCentral a alpha beta delta b (No matrix steps) = IsSerialRefutation a alpha beta delta b matrix steps
 IsSerialCentral a alpha beta delta b Exceeds = Unit {0}
-
--- what a list of all matrices tells
-abbrev pub IsJudged : FiniteAlgebra → Partition → Partition → Partition → List Row → Central → Type 0
-IsJudged a alpha beta delta rows Yes = Centralizes a alpha beta delta
-IsJudged a alpha beta delta rows (No matrix steps) = (¬ Centralizes a alpha beta delta) × IsRefutation a alpha beta delta matrix steps × IsListedRefutation (arities (replicate 4 a)) delta rows matrix steps
-IsJudged a alpha beta delta rows Exceeds = ⊥

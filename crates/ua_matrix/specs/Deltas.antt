@@ -1,6 +1,6 @@
 -- The algebra of the pairs that a congruence relates, and the congruence Delta on it.
 use Rattle.std.specs.Prelude.{◌≡◌, ℕ, ◌<◌, List, [], ◌∷◌, length, map, slice_index}
-use Rattle.std.specs.List.{AllByRecursion, flat_map, range_with_len}
+use Rattle.std.specs.List.{AllByRecursion, range_with_len}
 use Rattle.ua_table.specs.Algebras.{Vector, FiniteAlgebra, IsAlgebra, arities_of, value_at}
 use Rattle.ua_part.specs.Partitions.{Partition, SameBlock}
 use Rattle.ua_matrix.specs.Matrices.{IsMatrix}
@@ -51,7 +51,3 @@ pub record RelatesRows (a : FiniteAlgebra) (alpha beta : Partition) (left right 
 -- no block of Delta has a pair that theta relates and one that it does not
 abbrev pub AreUniform : (ℕ → ℕ) → (ℕ → ℕ) → Partition → Partition → Type 0
 AreUniform left right delta theta = (d e : ℕ) → SameBlock delta d e → SameBlock theta (left d) (right d) → SameBlock theta (left e) (right e)
-
--- each pair with the least of its block, one above the other both ways
-abbrev pub leading_matrices : (ℕ → ℕ) → (ℕ → ℕ) → Partition → List Vector
-leading_matrices left right delta = flat_map (λ e. matrix_of_rows left right (slice_index delta e) e ∷ matrix_of_rows left right e (slice_index delta e) ∷ []) (range_with_len 0 (length delta))

@@ -5,3 +5,4 @@ pub mod Worked
 pub mod Answers
 pub mod Permitted
 pub mod Squares
+pub mod inner

@@ -8,7 +8,7 @@ ghost use Rattle.ua_prod.specs.Congruences.{IsCongruence};
 ghost use Rattle.ua_close.specs.Answers.{rows_in};
 ghost use Rattle.ua_close.specs.Permitted.{MayClose};
 ghost use Rattle.ua_matrix.specs.Matrices.{matrix_generators, AreFour};
-ghost use Rattle.ua_matrix.specs.Answers.{IsJudged};
+ghost use Rattle.ua_matrix.specs.inner.Answers.{IsJudged};
 
 use crate::failures::first_failure;
 use crate::generators::generating_matrices;

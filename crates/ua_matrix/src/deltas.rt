@@ -7,7 +7,8 @@ ghost use Rattle.ua_table.specs.declared.limits.TheConstants.{SIZE};
 ghost use Rattle.ua_prod.specs.Congruences.{IsCongruence};
 ghost use Rattle.ua_prod.specs.Constructions.{first_of, second_of, product_of};
 ghost use Rattle.ua_matrix.specs.Deltas.{diagonal_pairs};
-ghost use Rattle.ua_matrix.specs.Squares.{pairs_in, number_of, IsSubsquare, IsDeltaOf};
+ghost use Rattle.ua_matrix.specs.Squares.{number_of};
+ghost use Rattle.ua_matrix.specs.inner.Squares.{pairs_in, IsSubsquare, IsDeltaOf};
 
 use std::alloc::{AllocError, Global};
 use ua_cong::cg;

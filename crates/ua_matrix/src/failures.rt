@@ -3,7 +3,8 @@
 ghost use Rattle.std.specs.Prelude.{◌+◌, ◌<◌, ◌↔◌, [], length, slice_index_or, IsTrue, IfSome, IfNone};
 ghost use Rattle.std.specs.List.{AllByRecursion};
 ghost use Rattle.ua_table.specs.Listings.{vectors_of, ranks_of};
-ghost use Rattle.ua_matrix.specs.Matrices.{AreFour, Goes, Fails, IsFirstFailure, IsFirstOfFront};
+ghost use Rattle.ua_matrix.specs.Matrices.{AreFour, Goes, Fails, IsFirstFailure};
+ghost use Rattle.ua_matrix.specs.inner.Matrices.{IsFirstOfFront};
 
 use ua_close::Listing;
 use ua_part::Part;

@@ -8,8 +8,10 @@ ghost use Rattle.ua_table.specs.Numbering.{greatest};
 ghost use Rattle.ua_part.specs.Pairs.{pairs_at, related_pairs};
 ghost use Rattle.ua_prod.specs.Congruences.{IsCongruence};
 ghost use Rattle.ua_close.specs.Answers.{IsWide};
-ghost use Rattle.ua_matrix.specs.Deltas.{leading_matrices, matrix_of_rows};
-ghost use Rattle.ua_matrix.specs.Squares.{left_of, right_of, AreDeciding};
+ghost use Rattle.ua_matrix.specs.Deltas.{matrix_of_rows};
+ghost use Rattle.ua_matrix.specs.inner.Deltas.{leading_matrices};
+ghost use Rattle.ua_matrix.specs.Squares.{AreDeciding};
+ghost use Rattle.ua_matrix.specs.inner.Squares.{left_of, right_of};
 
 use crate::deltas::{Delta, delta_of};
 use crate::generators::generating_matrices;

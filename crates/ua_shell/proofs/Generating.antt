@@ -21,7 +21,7 @@ use Rattle.ua_text.specs.declared.named.Block.{Block}
 use Rattle.ua_script.specs.declared.script.Command.{Command}
 use Rattle.ua_script.specs.declared.script.Item.{Item}
 use Rattle.ua_script.specs.declared.script.Item.TheVariants as items
-use Rattle.ua_shell.specs.Outputs.{IsServed}
+use Rattle.ua_shell.specs.inner.Outputs.{IsServed}
 use Rattle.ua_shell.specs.Generated.{entry, arities, values_drawn, drawn_block, drawn_vector, drawn_vectors, closing, congruences, generated}
 
 -- one entry more, one vector more

@@ -6,7 +6,7 @@ use Rattle.std.proofs.lemmas.List.{take-append-le, take_min}
 use Rattle.std.specs.Io.KnownBytes.{Appends}
 use Rattle.std.proofs.KnownBytes.{Appends-trans}
 use Rattle.ua_io.specs.Faults.{AppendsFront}
-use Rattle.ua_shell.specs.Hearing.{bytes_of}
+use Rattle.ua_shell.specs.inner.Hearing.{bytes_of}
 
 pub on_err : {A E : Type 0} {P : Type 0} (r : Result A E) → P → OnErr r P
 on_err (Ok x) p = tt

@@ -10,9 +10,10 @@ ghost use Rattle.ua_jobs.specs.declared.batches.TheConstants.{JOBS};
 ghost use Rattle.ua_jobs.specs.Harvests.{AnswerEach, IsAnswer};
 ghost use Rattle.ua_reply.specs.Sessions.{bounds_of};
 ghost use Rattle.ua_shell.specs.declared.hearing.Heard.{Heard};
-ghost use Rattle.ua_shell.specs.Hearing.{IsReady, Tells, TellsAll, bytes_of};
-ghost use Rattle.ua_shell.specs.Outputs.{IsServed};
-ghost use Rattle.ua_shell.specs.Served.{Serves};
+ghost use Rattle.ua_shell.specs.Hearing.{Tells};
+ghost use Rattle.ua_shell.specs.inner.Hearing.{IsReady, TellsAll, bytes_of};
+ghost use Rattle.ua_shell.specs.inner.Outputs.{IsServed};
+ghost use Rattle.ua_shell.specs.inner.Served.{Serves};
 
 use crate::hearing::{Heard, hear};
 use crate::serve::{Served, serve};

@@ -3,8 +3,8 @@
 ghost use Rattle.std.specs.Prelude.{◌≡◌, IfOk, OnOk};
 ghost use Rattle.ua_reply.specs.Sessions.{bounds_of};
 ghost use Rattle.ua_answer.specs.Replies.{IsBuilt, IsNamedRight, Reply, left_by};
-ghost use Rattle.ua_shell.specs.Hearing.{IsHeard, Hears};
-ghost use Rattle.ua_shell.specs.Outputs.{IsServed};
+ghost use Rattle.ua_shell.specs.inner.Hearing.{IsHeard, Hears};
+ghost use Rattle.ua_shell.specs.inner.Outputs.{IsServed};
 
 use std::alloc::{AllocError, Global};
 use std::thread::Threads;

@@ -2,8 +2,8 @@
 
 ghost use Rattle.std.specs.List.{AllByRecursion};
 ghost use Rattle.ua_reply.specs.Sessions.{bounds_of};
-ghost use Rattle.ua_shell.specs.Outputs.{IsServed};
-ghost use Rattle.ua_shell.specs.Served.{Serves};
+ghost use Rattle.ua_shell.specs.inner.Outputs.{IsServed};
+ghost use Rattle.ua_shell.specs.inner.Served.{Serves};
 
 use crate::hearing::{answer_now, introduce};
 use std::alloc::Global;

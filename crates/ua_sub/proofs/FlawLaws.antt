@@ -19,7 +19,7 @@ use Rattle.ua_prod.proofs.ClashLaws.{arity_is, size_is, value_is}
 use Rattle.ua_prod.proofs.Numerals.{digits_less, cmp-append, cmp_same}
 use Rattle.ua_sub.specs.declared.flaws.HomFlaw.{HomFlaw}
 use Rattle.ua_sub.specs.Flaws.{images_of, GoesWith, IsHom, arguments_in, IsFlaw}
-use Rattle.ua_sub.specs.Searches.{NoFlawOf, IsFirstOf}
+use Rattle.ua_sub.specs.inner.Searches.{NoFlawOf, IsFirstOf}
 
 abbrev zeros : ℕ → List ℕ
 zeros k = replicate k 0

@@ -22,7 +22,7 @@ use Rattle.ua_prod.proofs.ClashLaws.{arity_is, size_is, value_is}
 use Rattle.ua_sub.specs.Members.{singles, contents, AreMembers}
 use Rattle.ua_sub.specs.declared.twins.Question.{Question}
 use Rattle.ua_sub.specs.declared.twins.Found.{Found}
-use Rattle.ua_sub.specs.Twins.{Generates, IsFound, IsTwin, AreFound, AreOnesBelow}
+use Rattle.ua_sub.specs.inner.Twins.{Generates, IsFound, IsTwin, AreFound, AreOnesBelow}
 use Rattle.ua_sub.proofs.MemberLaws.{column_singles}
 
 -- ---- elements that generate each other

@@ -90,9 +90,3 @@ abbrev pub IsSerialHom : Product → List Vector → ℕ → Hom → Type 0
 IsSerialHom p gens b (Map pairs) = Unit {0}
 IsSerialHom p gens b (Clash x y z first second) = IsSerialClash p gens b x y z first second
 IsSerialHom p gens b Exceeds = (rows : List Row) × IsExceedingGraph p gens b rows × IsSerialListing p gens rows
-
--- a clash that is the first of these rows
-abbrev pub IsClashOf : Product → List Vector → List Row → Hom → Type 0
-IsClashOf p gens rows (Map pairs) = ⊥
-IsClashOf p gens rows (Clash x y z first second) = IsPairClash p gens x y z first second × IsListedClash (arities p) rows x y z first second
-IsClashOf p gens rows Exceeds = ⊥

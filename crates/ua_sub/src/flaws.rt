@@ -4,7 +4,7 @@ ghost use Rattle.std.specs.Prelude.{◌≡◌, ◌<◌, ◌↔◌, length, slice
 ghost use Rattle.std.specs.List.{AllByRecursion};
 ghost use Rattle.ua_table.specs.Algebras.{signature, arities_of, numeral};
 ghost use Rattle.ua_sub.specs.Flaws.{images_of, IsHom, IsFirstFlaw};
-ghost use Rattle.ua_sub.specs.Searches.{IsFirstOf, NoFlawOf};
+ghost use Rattle.ua_sub.specs.inner.Searches.{IsFirstOf, NoFlawOf};
 
 use ua_table::{Algebra, Elem, OpTable, next_tuple};
 

@@ -6,7 +6,8 @@ ghost use Rattle.ua_table.specs.Algebras.{Vector, IsVector};
 ghost use Rattle.ua_table.specs.Counting.{EachOnceBelow};
 ghost use Rattle.ua_table.specs.Listings.{vectors_of, ranks_of, IsListing};
 ghost use Rattle.ua_work.specs.Goals.{Meets};
-ghost use Rattle.ua_sub.specs.Homs.{two, with_images, ClashInOrder, IsFirstPairClash, IsClashOf};
+ghost use Rattle.ua_sub.specs.Homs.{two, with_images, ClashInOrder, IsFirstPairClash};
+ghost use Rattle.ua_sub.specs.inner.Homs.{IsClashOf};
 ghost use Rattle.ua_sub.specs.Permitted.{MayMapPairs};
 
 use std::alloc::{AllocError, Global};

@@ -5,7 +5,7 @@ ghost use Rattle.std.specs.List.{AllByRecursion};
 ghost use Rattle.ua_table.specs.Algebras.{Vector};
 ghost use Rattle.ua_table.specs.Listings.{vectors_of};
 ghost use Rattle.ua_sub.specs.Members.{singles, contents, AreMembers, AreOnes};
-ghost use Rattle.ua_sub.specs.Twins.{AreOnesBelow};
+ghost use Rattle.ua_sub.specs.inner.Twins.{AreOnesBelow};
 
 use crate::twins::{Question, twin};
 use std::alloc::{AllocError, Global};

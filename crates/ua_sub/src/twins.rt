@@ -4,7 +4,7 @@ ghost use Rattle.std.specs.Prelude.{◌<◌, ◌≤◌, [], length, Contains, sl
 ghost use Rattle.std.specs.List.{AllByRecursion};
 ghost use Rattle.ua_table.specs.Algebras.{arities_of};
 ghost use Rattle.ua_sub.specs.Members.{contents};
-ghost use Rattle.ua_sub.specs.Twins.{IsFound, IsTwin, AreFound, HasGrown};
+ghost use Rattle.ua_sub.specs.inner.Twins.{IsFound, IsTwin, AreFound, HasGrown};
 
 use std::alloc::{AllocError, Global};
 use ua_table::{Algebra, Elem};

@@ -12,7 +12,7 @@ use Rattle.ua_part.specs.Partitions.{Partition}
 use Rattle.ua_lattice.specs.Lattices.{IsCover, at, AreCovers, IsWholeLattice}
 use Rattle.ua_type.specs.declared.typings.Typed.{Typed}
 use Rattle.ua_type.specs.Permitted.{MayType, MayTypes, places_of, IsRow}
-use Rattle.ua_type.specs.Tables.{MayTable}
+use Rattle.ua_type.specs.inner.Tables.{MayTable}
 
 module _ (a : FiniteAlgebra) (budget : ℕ) (list : List Partition) (covers : List (ℕ × ℕ)) (k : ℕ) (rows : List (ℕ × ℕ × Typed)) where
   -- the rows are those of the first k covers

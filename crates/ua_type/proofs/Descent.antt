@@ -11,7 +11,7 @@ use Rattle.ua_part.specs.Pairs.{related_pairs}
 use Rattle.ua_part.proofs.RelatedLaws.{passed_in, related_in}
 use Rattle.ua_prod.specs.Congruences.{IsCongruence}
 use Rattle.ua_type.specs.Subtraces.{Generates, IsRefuted, HasSubtrace}
-use Rattle.ua_type.specs.Images.{RelatesTwo}
+use Rattle.ua_type.specs.inner.Images.{RelatesTwo}
 use Rattle.ua_type.proofs.GeneratedPairs.{generates_itself, generates_through, generates_related}
 
 -- ---- a list without one pair

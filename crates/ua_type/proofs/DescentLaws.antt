@@ -14,10 +14,11 @@ use Rattle.ua_type.specs.declared.known.SubtracePair.{SubtracePair}
 use Rattle.ua_type.specs.declared.descents.Descent.{Descent}
 use Rattle.ua_type.specs.Subtraces.{pair_generators, Generates}
 use Rattle.ua_type.specs.Trials.{HasMorePairs}
-use Rattle.ua_type.specs.Outcomes.{GoesBack, IsVain, IsMinimal}
+use Rattle.ua_type.specs.Outcomes.{IsMinimal}
+use Rattle.ua_type.specs.inner.Outcomes.{GoesBack, IsVain}
 use Rattle.ua_type.specs.Known.{IsSettled}
-use Rattle.ua_type.specs.Marks.{ArePairRows}
-use Rattle.ua_type.specs.Descents.{AreGenerated, IsLacking, LeadsTo, IsDescent}
+use Rattle.ua_type.specs.inner.Marks.{ArePairRows}
+use Rattle.ua_type.specs.inner.Descents.{AreGenerated, IsLacking, LeadsTo, IsDescent}
 use Rattle.ua_type.proofs.GeneratedPairs.{generates_itself, generates_through}
 use Rattle.ua_type.proofs.TrialLaws.{row_pair, within_budget}
 

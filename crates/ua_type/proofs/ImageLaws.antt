@@ -14,7 +14,7 @@ use Rattle.ua_prod.specs.Congruences.{IsCongruence}
 use Rattle.ua_prod.specs.Constructions.{blocks_below}
 use Rattle.ua_prod.proofs.CongruenceLaws.{zip_left, zip_right}
 use Rattle.ua_type.specs.Quotients.{quotient_by, leader_of, image_of}
-use Rattle.ua_type.specs.Images.{RelatesTwo}
+use Rattle.ua_type.specs.inner.Images.{RelatesTwo}
 use Rattle.ua_type.proofs.LeaderLaws.{leader_is, number_leads}
 use Rattle.ua_type.proofs.QuotientLaws.{all_leaders_below, same_arities, quotient-IsAlgebra, value_in_block, image-IsByLabels, labels_long, label_at}
 

@@ -17,9 +17,10 @@ use Rattle.ua_type.specs.declared.known.SubtracePair.{SubtracePair}
 use Rattle.ua_type.specs.declared.known.Known.{Known}
 use Rattle.ua_type.specs.Subtraces.{pair_generators, Generates, IsBefore}
 use Rattle.ua_type.specs.Trials.{HasMorePairs, ArePairsNarrow}
-use Rattle.ua_type.specs.Outcomes.{IsVain}
-use Rattle.ua_type.specs.Known.{IsSettled, AreSettled, IsMet, IsRelated, IsEarlier, IsPairOf, IsLeastMet, AreMetBelow, IsRight, IsKept}
-use Rattle.ua_type.specs.Descents.{AreGenerated, LeadsTo}
+use Rattle.ua_type.specs.inner.Outcomes.{IsVain}
+use Rattle.ua_type.specs.Known.{IsSettled, AreSettled, IsMet, IsPairOf, IsLeastMet, IsRight}
+use Rattle.ua_type.specs.inner.Known.{IsRelated, IsEarlier, AreMetBelow, IsKept}
+use Rattle.ua_type.specs.inner.Descents.{AreGenerated, LeadsTo}
 use Rattle.ua_type.proofs.GeneratedPairs.{generates_itself, generates_through, generates_related, no_more_pairs}
 use Rattle.ua_type.proofs.Descent.{same_from}
 use Rattle.ua_type.proofs.PairLaws.{pair_cases}

@@ -20,7 +20,7 @@ use Rattle.ua_prod.proofs.ProductLaws.{pair_below}
 use Rattle.ua_prod.proofs.RowValues.{around}
 use Rattle.ua_type.specs.declared.marks.Marks.{Marks}
 use Rattle.ua_type.specs.Subtraces.{constants, pair_generators, Generates}
-use Rattle.ua_type.specs.Marks.{is_marked, AreMarks, ReachesMark}
+use Rattle.ua_type.specs.inner.Marks.{is_marked, AreMarks, ReachesMark}
 use Rattle.ua_type.proofs.GeneratedPairs.{member_in, generates_itself, generates_through}
 
 -- ---- marks

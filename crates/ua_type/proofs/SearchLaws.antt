@@ -5,15 +5,17 @@ use Rattle.std.proofs.lemmas.Bool.{cases_lt}
 use Rattle.ua_table.specs.Algebras.{FiniteAlgebra}
 use Rattle.ua_part.specs.Partitions.{Partition, SameBlock}
 use Rattle.ua_prod.specs.Congruences.{IsCongruence}
-use Rattle.ua_type.specs.Images.{RelatesTwo}
+use Rattle.ua_type.specs.inner.Images.{RelatesTwo}
 use Rattle.ua_type.specs.declared.known.SubtracePair.{SubtracePair}
-use Rattle.ua_type.specs.Known.{IsMet, IsRelated}
+use Rattle.ua_type.specs.Known.{IsMet}
+use Rattle.ua_type.specs.inner.Known.{IsRelated}
 use Rattle.ua_type.specs.Subtraces.{IsRefuted, IsBefore, IsSubtrace, IsFirstSubtrace}
 use Rattle.ua_type.specs.Trials.{IsTried, HasMorePairs, AllWithin, SomeExceeds}
 use Rattle.ua_type.specs.declared.trials.Trial.TheVariants as trials
 use Rattle.ua_type.specs.declared.searches.Search.TheVariants.{Found, Beyond}
-use Rattle.ua_type.specs.Outcomes.{IsVain, IsMinimal, MayTryRelated, AreVainBelow, AreVainAt}
-use Rattle.ua_type.specs.Searches.{MaySearch}
+use Rattle.ua_type.specs.Outcomes.{IsMinimal}
+use Rattle.ua_type.specs.inner.Outcomes.{IsVain, MayTryRelated, AreVainBelow, AreVainAt}
+use Rattle.ua_type.specs.inner.Searches.{MaySearch}
 use Rattle.ua_type.proofs.GeneratedPairs.{no_more_pairs}
 use Rattle.ua_type.proofs.PairLaws.{pair_cases}
 use Rattle.ua_type.proofs.Descent.{not_all_refuted}

@@ -11,7 +11,7 @@ use Rattle.ua_type.specs.Subtraces.{constants}
 use Rattle.ua_close.specs.declared.close.Closure.TheVariants.{Closed, Exceeds}
 use Rattle.ua_close.specs.Permitted.{MayClose}
 use Rattle.ua_type.specs.Types.{square_generators, HasType}
-use Rattle.ua_type.specs.Squares.{MayHaveType}
+use Rattle.ua_type.specs.inner.Squares.{MayHaveType}
 
 pub fourth-IsProduct : (b : FiniteAlgebra) → IsAlgebra b → IsProduct (replicate 4 b)
 fourth-IsProduct b alg = record { wide = omega arith; algebras = (alg, (alg, (alg, (alg, tt)))); similar = (refl, (refl, (refl, (refl, tt)))) }

@@ -22,8 +22,8 @@ use Rattle.ua_table.specs.declared.limits.TheConstants.{CELLS}
 use Rattle.ua_type.specs.Subtraces.{pair_generators, Generates}
 use Rattle.ua_type.specs.Trials.{HasMorePairs, ArePairsNarrow, ArePairsWide}
 use Rattle.ua_type.specs.declared.trials.Trial.TheVariants.{Beyond}
-use Rattle.ua_type.specs.Outcomes.{GoesBack, MayTry}
-use Rattle.ua_type.specs.Descents.{IsLacking}
+use Rattle.ua_type.specs.inner.Outcomes.{GoesBack, MayTry}
+use Rattle.ua_type.specs.inner.Descents.{IsLacking}
 use Rattle.ua_type.proofs.GeneratedPairs.{no_more_pairs, same_count}
 use Rattle.ua_type.proofs.PairLaws.{square-IsProduct, pair_vectors, ArePair, pair_from}
 

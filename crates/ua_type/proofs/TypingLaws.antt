@@ -13,10 +13,10 @@ use Rattle.ua_type.specs.declared.searches.Search.TheVariants as searches
 use Rattle.ua_type.specs.declared.subtraces.Trace.TheVariants as traces
 use Rattle.ua_type.specs.declared.typings.Typed.TheVariants as typings
 use Rattle.ua_type.specs.Quotients.{quotient_by, image_of, leader_of}
-use Rattle.ua_type.specs.Images.{IsQuotientOf}
+use Rattle.ua_type.specs.inner.Images.{IsQuotientOf}
 use Rattle.ua_type.specs.Trials.{ArePairsNarrow}
-use Rattle.ua_type.specs.Searches.{IsFound, MaySearch}
-use Rattle.ua_type.specs.Squares.{MayHaveType}
+use Rattle.ua_type.specs.inner.Searches.{IsFound, MaySearch}
+use Rattle.ua_type.specs.inner.Squares.{MayHaveType}
 use Rattle.ua_type.specs.Traces.{IsTrace}
 use Rattle.ua_type.specs.Permitted.{MaySubtrace, MayType}
 

@@ -4,12 +4,7 @@ pub mod Types
 pub mod Trials
 pub mod Outcomes
 pub mod Known
-pub mod Marks
-pub mod Descents
-pub mod Searches
-pub mod Squares
-pub mod Images
 pub mod Traces
 pub mod Typings
 pub mod Permitted
-pub mod Tables
+pub mod inner

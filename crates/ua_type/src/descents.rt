@@ -4,8 +4,8 @@
 ghost use Rattle.std.specs.Prelude.{◌≡◌, ◌<◌, ◌++◌, [], ◌∷◌, length, slice_index, OnOk, IfOk};
 ghost use Rattle.ua_type.specs.Trials.{HasMorePairs, ArePairsNarrow};
 ghost use Rattle.ua_type.specs.Known.{IsRight};
-ghost use Rattle.ua_type.specs.Marks.{AreMarks};
-ghost use Rattle.ua_type.specs.Descents.{MayAsk, IsDescent, MaySift, MaySettle};
+ghost use Rattle.ua_type.specs.inner.Marks.{AreMarks};
+ghost use Rattle.ua_type.specs.inner.Descents.{MayAsk, IsDescent, MaySift, MaySettle};
 
 use crate::known::Known;
 use crate::leads::{is_known, mark, marks_to};

@@ -5,7 +5,8 @@ ghost use Rattle.std.specs.HashSet as set;
 ghost use Rattle.ua_table.specs.Algebras.{Vector, FiniteAlgebra};
 ghost use Rattle.ua_table.specs.Listings.{vectors_of};
 ghost use Rattle.ua_part.specs.Labels.{same_labels};
-ghost use Rattle.ua_type.specs.Known.{IsRight, IsEarlier, IsLeastMet};
+ghost use Rattle.ua_type.specs.Known.{IsRight, IsLeastMet};
+ghost use Rattle.ua_type.specs.inner.Known.{IsEarlier};
 
 use crate::pairs::{has, is_before};
 use std::alloc::{AllocError, Global};

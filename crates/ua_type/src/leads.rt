@@ -4,7 +4,7 @@ ghost use Rattle.std.specs.Prelude.{◌≡◌, ℕ, ◌<◌, length, slice_index
 ghost use Rattle.std.specs.List.{AllByRecursion};
 ghost use Rattle.ua_table.specs.Algebras.{arities_of};
 ghost use Rattle.ua_type.specs.Subtraces.{Generates};
-ghost use Rattle.ua_type.specs.Marks.{AreMarks, HasMarkedPlace, ReachesMark, ArePairRows};
+ghost use Rattle.ua_type.specs.inner.Marks.{AreMarks, HasMarkedPlace, ReachesMark, ArePairRows};
 
 use crate::marks::Marks;
 use std::alloc::{AllocError, Global};

@@ -7,7 +7,7 @@ ghost use Rattle.ua_part.specs.Partitions.{IsByLabels};
 ghost use Rattle.ua_prod.specs.Congruences.{IsCongruence};
 ghost use Rattle.ua_lattice.specs.Lattices.{IsCover};
 ghost use Rattle.ua_type.specs.Quotients.{quotient_by};
-ghost use Rattle.ua_type.specs.Images.{IsQuotientOf};
+ghost use Rattle.ua_type.specs.inner.Images.{IsQuotientOf};
 
 use std::alloc::{AllocError, Global};
 use ua_part::Part;

@@ -2,11 +2,11 @@
 
 ghost use Rattle.std.specs.Prelude.{◌≡◌, ◌<◌, length, IfSome, IsOk};
 ghost use Rattle.ua_prod.specs.Congruences.{IsCongruence};
-ghost use Rattle.ua_type.specs.Images.{RelatesTwo};
-ghost use Rattle.ua_type.specs.Outcomes.{MayTryRelated, AreVainBelow};
+ghost use Rattle.ua_type.specs.inner.Images.{RelatesTwo};
+ghost use Rattle.ua_type.specs.inner.Outcomes.{MayTryRelated, AreVainBelow};
 ghost use Rattle.ua_type.specs.Subtraces.{IsBefore};
-ghost use Rattle.ua_type.specs.Known.{IsKnown};
-ghost use Rattle.ua_type.specs.Searches.{MaySearch, MaySearchFrom};
+ghost use Rattle.ua_type.specs.inner.Known.{IsKnown};
+ghost use Rattle.ua_type.specs.inner.Searches.{MaySearch, MaySearchFrom};
 
 use crate::known::{Known, SubtracePair};
 use crate::trials::{Trial, try_pair};

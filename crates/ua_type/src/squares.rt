@@ -5,7 +5,7 @@ ghost use Rattle.ua_table.specs.declared.limits.TheConstants.{SIZE};
 ghost use Rattle.ua_table.specs.Listings.{vectors_of, IsClosedListing};
 ghost use Rattle.ua_type.specs.Subtraces.{Generates};
 ghost use Rattle.ua_type.specs.Types.{square_generators, HasType};
-ghost use Rattle.ua_type.specs.Squares.{MayHaveType};
+ghost use Rattle.ua_type.specs.inner.Squares.{MayHaveType};
 
 use crate::generators::square_generators;
 use crate::known::SubtracePair;

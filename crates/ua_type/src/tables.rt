@@ -2,7 +2,7 @@
 
 ghost use Rattle.std.specs.Prelude.{◌≡◌, [], ◌∷◌, ◌++◌, OnOk};
 ghost use Rattle.ua_lattice.specs.Lattices.{AreCovers};
-ghost use Rattle.ua_type.specs.Tables.{MayTable};
+ghost use Rattle.ua_type.specs.inner.Tables.{MayTable};
 
 use crate::typings::{Typed, type_of};
 use std::alloc::{AllocError, Global};

@@ -4,9 +4,10 @@ ghost use Rattle.std.specs.Prelude.{◌≢◌, ℕ, ◌<◌, IfSome, IfNone, IsO
 ghost use Rattle.ua_table.specs.Algebras.{FiniteAlgebra};
 ghost use Rattle.ua_type.specs.Subtraces.{IsBefore};
 ghost use Rattle.ua_type.specs.Trials.{ArePairsNarrow};
-ghost use Rattle.ua_type.specs.Outcomes.{MayTry};
-ghost use Rattle.ua_type.specs.Known.{IsRight, IsKept};
-ghost use Rattle.ua_type.specs.Descents.{IsDescent};
+ghost use Rattle.ua_type.specs.inner.Outcomes.{MayTry};
+ghost use Rattle.ua_type.specs.Known.{IsRight};
+ghost use Rattle.ua_type.specs.inner.Known.{IsKept};
+ghost use Rattle.ua_type.specs.inner.Descents.{IsDescent};
 
 use crate::descents::{Descent, Sifted, descend, sift};
 use crate::known::Known;

@@ -9,7 +9,7 @@ use Rattle.std.proofs.lemmas.Fmt.{decimal-digits_value, digits_value-decimal, de
 use Rattle.std.proofs.lemmas.Str.Parse.{numerals_by_value, tells_digits}
 use Rattle.clap.specs.Lexer.{strip_byte}
 use Rattle.ua_words.specs.Words.{IsNumber, IsSeed, Writes}
-use Rattle.ua_words.specs.Options.{has_plain_front}
+use Rattle.ua_words.specs.inner.Options.{has_plain_front}
 use Rattle.ua_words.specs.declared.words.TheConstants.{SEED}
 
 pub whatever : {X : Type 0} (o : Option X) (P : Type 0) → P → IfNone o P

@@ -17,7 +17,7 @@ use Rattle.ua_words.specs.declared.words.TheConstants.{USUAL_WORKERS, USUAL_BUDG
 use Rattle.ua_words.specs.declared.words.Settings.{Settings}
 use Rattle.ua_words.specs.declared.words.Values.{Values}
 use Rattle.ua_words.specs.Words.{OptionName, Workers, Budget, Jobs, Generate, name_text, Choice, EachOnce, IsNumber, IsSeed, value_of, Asks, AreAccepted}
-use Rattle.ua_words.specs.Options.{AreValues, GiveValues, HasValues, IsPlain, KeepsValues, options_app}
+use Rattle.ua_words.specs.inner.Options.{AreValues, GiveValues, HasValues, IsPlain, KeepsValues, options_app}
 use Rattle.ua_words.proofs.Choices.{given_passes, is_simple_app, is_simple_options, passing_gives, plain_dashless_words}
 use Rattle.ua_words.proofs.Numbers.{number_plain, same_number, same_seed, seed_plain}
 use Rattle.ua_words.proofs.Walking.{HaveNoDashes}

@@ -14,7 +14,7 @@ use Rattle.clap.specs.declared.builder.action.ArgAction.TheVariants.{Set}
 use Rattle.clap.specs.declared.builder.value_parser.ValueParser.TheVariants as vp
 use Rattle.clap.specs.declared.parser.matches.ValueSource.TheVariants.{CommandLine}
 use Rattle.ua_words.specs.Words.{OptionName, Workers, Budget, Jobs, Generate, name_text}
-use Rattle.ua_words.specs.Options.{bare_app, option_rule, options_app}
+use Rattle.ua_words.specs.inner.Options.{bare_app, option_rule, options_app}
 
 -- the command, as it is built
 abbrev pub rule : OptionName → Rule

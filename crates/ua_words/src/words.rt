@@ -5,7 +5,7 @@ ghost use Rattle.std.specs.List.{list_any};
 ghost use Rattle.std.specs.Str.{bytes_eq};
 ghost use Rattle.clap.specs.Simple.{app_of, with_rule};
 ghost use Rattle.ua_words.specs.Words.{Asks, AreAccepted, IsNumber, IsSeed, Writes};
-ghost use Rattle.ua_words.specs.Options.{option_rule, options_app, has_plain_front, GiveValues, KeepsValues};
+ghost use Rattle.ua_words.specs.inner.Options.{option_rule, options_app, has_plain_front, GiveValues, KeepsValues};
 ghost use Rattle.ua_table.specs.declared.limits.TheConstants.{BUDGET, POOL, WORKERS};
 
 use clap::error::ErrorKind;

@@ -4,7 +4,7 @@ use Rattle.ua_table.specs.Algebras.{FiniteAlgebra}
 use Rattle.ua_matrix.specs.Permitted.{MayBeCentral}
 use Rattle.ua_reply.specs.Sessions.{bounds_of}
 use Rattle.ua_answer_congruences.specs.Congruences.{OfCongruence}
-use Rattle.ua_answer_congruences.specs.Operands.{IsOperand}
+use Rattle.ua_answer_congruences.specs.inner.Operands.{IsOperand}
 use Rattle.ua_answer_congruences.specs.CentralCommand.{CentralSays}
 use Rattle.ua_answer_congruences.proofs.OperandLaws.{of_congruence, of_refused}
 use Rattle.ua_answer_congruences.proofs.central.central_known.Goals as goal

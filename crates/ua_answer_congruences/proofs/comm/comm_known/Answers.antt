@@ -4,7 +4,7 @@ use Rattle.ua_table.specs.Algebras.{FiniteAlgebra}
 use Rattle.ua_comm.specs.Permitted.{MayCommute}
 use Rattle.ua_reply.specs.Sessions.{bounds_of}
 use Rattle.ua_answer_congruences.specs.Congruences.{OfCongruence}
-use Rattle.ua_answer_congruences.specs.Operands.{IsOperand}
+use Rattle.ua_answer_congruences.specs.inner.Operands.{IsOperand}
 use Rattle.ua_answer_congruences.specs.CommCommand.{CommSays}
 use Rattle.ua_answer_congruences.proofs.OperandLaws.{of_congruence, of_refused}
 use Rattle.ua_answer_congruences.proofs.comm.comm_known.Goals as goal

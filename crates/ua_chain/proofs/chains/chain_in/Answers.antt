@@ -5,8 +5,8 @@ use Rattle.ua_table.specs.Listings.{vectors_of}
 use Rattle.ua_table.proofs.ListingLaws.{closed_has_no_more}
 use Rattle.ua_term.specs.Steps.{StepList}
 use Rattle.ua_walk.specs.declared.ladders.Climb.TheVariants.{Rows, Reached}
-use Rattle.ua_chain.specs.Closures.{AreStepsAt, AreEvenNumbers, AreOddNumbers}
-use Rattle.ua_chain.specs.ClimbsIn.{IsClimbIn}
+use Rattle.ua_chain.specs.inner.Closures.{AreStepsAt, AreEvenNumbers, AreOddNumbers}
+use Rattle.ua_chain.specs.inner.ClimbsIn.{IsClimbIn}
 use Rattle.ua_chain.proofs.VectorLaws.{closure_from, end_made, some_generators, some_places}
 use Rattle.ua_chain.proofs.ClimbInLaws.{closed_for, is_closed_for, generator_there, generator_row, end_row, widths_of, start_allowed, row_within, rows_within, chart_of, yes_answer, serial_answer, no_answer, even_lent, odd_lent}
 use Rattle.ua_chain.proofs.chains.chain_in.Goals as goal

@@ -3,7 +3,7 @@ use Rattle.std.specs.Prelude.{slice_get}
 use Rattle.std.proofs.lemmas.List.{length_push}
 use Rattle.ua_table.proofs.Lists.{slice_get-push_cases}
 use Rattle.ua_term.specs.Steps.{StepList}
-use Rattle.ua_chain.specs.Closures.{AreStepsAt}
+use Rattle.ua_chain.specs.inner.Closures.{AreStepsAt}
 use Rattle.ua_chain.proofs.chains.chain_steps.Goals as goal
 
 pub loop-k-preserved : goal.loop-k-preserved

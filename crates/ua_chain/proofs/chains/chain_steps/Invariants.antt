@@ -1,7 +1,7 @@
 use Rattle.std.proofs.Common.{◌≡◌, ℕ, ◌-◌, length, Some}
 use Rattle.std.specs.Prelude.{slice_get}
 use Rattle.ua_term.specs.Steps.{StepList}
-use Rattle.ua_chain.specs.Closures.{AreStepsAt}
+use Rattle.ua_chain.specs.inner.Closures.{AreStepsAt}
 use Rattle.ua_chain.proofs.chains.chain_steps.Given as goal
 
 abbrev pub invariant-loop-k : goal.invariant-loop-k

@@ -1,5 +1,5 @@
 use Rattle.std.proofs.Common.{ap, ◌∙◌, subst, sym, take}
-use Rattle.ua_chain.specs.Closures.{AreMarkedNumbers}
+use Rattle.ua_chain.specs.inner.Closures.{AreMarkedNumbers}
 use Rattle.ua_chain.proofs.AnswerLaws.{numbers_skip, numbers_more}
 use Rattle.ua_chain.proofs.chains.marked_numbers.Goals as goal
 use Rattle.ua_chain.proofs.chains.marked_numbers.Goals.{then-marked+in_ok-push, else-marked}

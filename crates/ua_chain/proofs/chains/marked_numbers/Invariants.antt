@@ -1,5 +1,5 @@
 use Rattle.std.proofs.Common.{take}
-use Rattle.ua_chain.specs.Closures.{AreMarkedNumbers}
+use Rattle.ua_chain.specs.inner.Closures.{AreMarkedNumbers}
 use Rattle.ua_chain.proofs.chains.marked_numbers.Given as goal
 
 abbrev pub invariant-loop-i : goal.invariant-loop-i

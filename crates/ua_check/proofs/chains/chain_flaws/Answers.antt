@@ -2,7 +2,8 @@ use Rattle.std.proofs.Common.{◌≡◌, ◌||◌, length, sym, ap, ◌∙◌, s
 use Rattle.std.specs.List.{AllByRecursion}
 use Rattle.ua_flaws.specs.Flaws.{Tells}
 use Rattle.ua_identity.specs.Patterns.{all_fillings}
-use Rattle.ua_check.specs.Chains.{is_without_term, AreStepsWithin}
+use Rattle.ua_check.specs.Chains.{is_without_term}
+use Rattle.ua_check.specs.inner.Chains.{AreStepsWithin}
 use Rattle.ua_check.proofs.ChainLaws.{are_term_steps, chain_narrow, chain_told}
 use Rattle.ua_check.proofs.chains.chain_flaws.Goals as goal
 

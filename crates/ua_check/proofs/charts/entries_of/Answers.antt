@@ -1,7 +1,7 @@
 use Rattle.std.proofs.Common.{◌≡◌, length, subst, arith}
 use Rattle.ua_identity.specs.KindTables.{pattern_at}
 use Rattle.ua_identity.proofs.KindLaws.{part_within}
-use Rattle.ua_check.specs.ChartsOf.{AreEntriesBelow}
+use Rattle.ua_check.specs.inner.ChartsOf.{AreEntriesBelow}
 use Rattle.ua_check.proofs.charts.entries_of.Goals as goal
 
 pub overflow_sub-part : goal.overflow_sub-part

@@ -1,7 +1,7 @@
 use Rattle.std.proofs.Common.{◌≡◌, ◌≤◌, length}
 use Rattle.ua_identity.specs.Patterns.{fillings}
 use Rattle.ua_identity.specs.KindTables.{pattern_at}
-use Rattle.ua_check.specs.ChartsOf.{AreEntriesBelow}
+use Rattle.ua_check.specs.inner.ChartsOf.{AreEntriesBelow}
 use Rattle.ua_check.proofs.charts.entries_of.Given as goal
 
 -- the entries of the rows so far

@@ -2,7 +2,7 @@ use Rattle.std.proofs.Common.{sym, ap, ◌∙◌, arith}
 use Rattle.ua_identity.specs.Patterns.{part_of}
 use Rattle.ua_identity.specs.KindTables.{pattern_at}
 use Rattle.ua_identity.proofs.KindLaws.{part_within, entries_are}
-use Rattle.ua_check.specs.ChartsOf.{row_at}
+use Rattle.ua_check.specs.inner.ChartsOf.{row_at}
 use Rattle.ua_check.proofs.charts.part.Goals as goal
 
 pub part-requires-clause-order : goal.part-requires-clause-order

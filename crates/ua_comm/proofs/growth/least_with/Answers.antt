@@ -1,6 +1,6 @@
 use Rattle.std.proofs.Common.{sym, ap, ◌∙◌, subst}
 use Rattle.ua_part.specs.Partitions.{identity_on}
-use Rattle.ua_comm.specs.Growths.{IsGrowing}
+use Rattle.ua_comm.specs.inner.Growths.{IsGrowing}
 use Rattle.ua_comm.proofs.GrowthLaws.{growing_none}
 use Rattle.ua_comm.proofs.growth.least_with.Goals as goal
 

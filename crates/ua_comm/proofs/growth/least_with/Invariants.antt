@@ -1,5 +1,5 @@
 use Rattle.ua_table.specs.Counting.{total}
-use Rattle.ua_comm.specs.Growths.{IsGrowing}
+use Rattle.ua_comm.specs.inner.Growths.{IsGrowing}
 use Rattle.ua_comm.proofs.growth.least_with.Given as goal
 
 abbrev pub invariant-grow : goal.invariant-grow

@@ -4,7 +4,7 @@ use Rattle.std.proofs.lemmas.Bool.{cases_lt}
 use Rattle.std.proofs.lemmas.List.Elements.{All-from_recursion}
 use Rattle.std.proofs.lemmas.Option.{get_or_from_slice_get}
 use Rattle.ua_matrix.specs.Matrices.{AreFour, Fails}
-use Rattle.ua_comm.specs.Growths.{IsTakenIn, IsLower}
+use Rattle.ua_comm.specs.inner.Growths.{IsTakenIn, IsLower}
 use Rattle.ua_comm.proofs.GrowthLaws.{swept_growing, swept_above, swept_lower}
 use Rattle.ua_comm.proofs.growth.sweep.Goals as goal
 

@@ -3,7 +3,7 @@ use Rattle.std.specs.Prelude.{ℕ, IfSome}
 use Rattle.ua_table.specs.Algebras.{FiniteAlgebra}
 use Rattle.ua_part.proofs.PartitionLaws.{same_back}
 use Rattle.ua_cong.specs.declared.known.Known.{Known}
-use Rattle.ua_cong.specs.Known.{IsPlaceOf}
+use Rattle.ua_cong.specs.inner.Known.{IsPlaceOf}
 use Rattle.ua_cong.proofs.closing.place_of.Goals as goal
 
 -- the principal congruence of a pair is that of the pair turned round

@@ -2,8 +2,9 @@ use Rattle.std.proofs.Common.{ℕ, List, [], ◌∷◌, ◌++◌, sym, ◌∙◌
 use Rattle.std.specs.List.{AllByRecursion}
 use Rattle.ua_part.specs.Partitions.{Partition}
 use Rattle.ua_prod.specs.Congruences.{IsCg}
-use Rattle.ua_cong.specs.Closings.{AreElements, IsClosing}
-use Rattle.ua_cong.specs.Extensions.{led_pairs}
+use Rattle.ua_cong.specs.Closings.{AreElements}
+use Rattle.ua_cong.specs.inner.Closings.{IsClosing}
+use Rattle.ua_cong.specs.inner.Extensions.{led_pairs}
 use Rattle.ua_cong.proofs.ClosingLaws.{closed_all, related_more}
 use Rattle.ua_cong.proofs.ExtensionLaws.{closing_above, above_from_cg, elements_above}
 use Rattle.ua_cong.proofs.closing.sets_above.Goals as goal

@@ -1,4 +1,4 @@
-use Rattle.ua_cong.specs.States.{IsSearched}
+use Rattle.ua_cong.specs.inner.States.{IsSearched}
 use Rattle.ua_cong.proofs.components.search_from.Given as goal
 
 abbrev pub invariant-loop : goal.invariant-loop

@@ -1,4 +1,4 @@
-use Rattle.ua_cong.specs.States.{IsSearched}
+use Rattle.ua_cong.specs.inner.States.{IsSearched}
 use Rattle.ua_cong.proofs.components.settle_traced.Given as goal
 
 abbrev pub invariant-loop : goal.invariant-loop

@@ -4,7 +4,7 @@ use Rattle.std.proofs.lemmas.List.Elements.{All-from_recursion}
 use Rattle.ua_table.specs.Algebras.{Operation}
 use Rattle.ua_prod.specs.Translations.{row_at}
 use Rattle.ua_prod.proofs.ClashLaws.{arity_is, size_is, table_at}
-use Rattle.ua_cong.specs.Closings.{IsForced}
+use Rattle.ua_cong.specs.inner.Closings.{IsForced}
 use Rattle.ua_cong.proofs.ClosingLaws.{forced_rows}
 use Rattle.ua_cong.proofs.hints.translated_along.Goals as goal
 

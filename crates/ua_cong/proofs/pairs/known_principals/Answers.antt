@@ -1,7 +1,7 @@
 use Rattle.std.proofs.Common.{sym, subst, ap, length, arith}
 use Rattle.std.specs.List.{AllByRecursion}
 use Rattle.ua_cong.specs.Closings.{AreElements}
-use Rattle.ua_cong.specs.Principals.{HasPrincipal}
+use Rattle.ua_cong.specs.inner.Principals.{HasPrincipal}
 use Rattle.ua_cong.proofs.PairLaws.{all_elements, all_there, few_pairs}
 use Rattle.ua_cong.proofs.pairs.known_principals.Goals as goal
 

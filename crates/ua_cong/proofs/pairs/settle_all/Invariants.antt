@@ -1,7 +1,7 @@
 use Rattle.std.proofs.Common.{◌+◌, ◌≤◌, length, take}
 use Rattle.std.specs.List.{AllByRecursion}
 use Rattle.ua_cong.specs.Known.{IsKnown}
-use Rattle.ua_cong.specs.Principals.{HasPrincipal}
+use Rattle.ua_cong.specs.inner.Principals.{HasPrincipal}
 use Rattle.ua_cong.proofs.pairs.settle_all.Given as goal
 
 abbrev pub invariant-loop-i : goal.invariant-loop-i

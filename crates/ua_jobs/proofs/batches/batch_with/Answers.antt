@@ -6,7 +6,7 @@ use Rattle.atomic_table.specs.Seated.{TableId}
 use Rattle.ua_jobs.specs.declared.batches.Turn.{Turn}
 use Rattle.ua_jobs.specs.Seats.{PassView}
 use Rattle.ua_jobs.specs.Harvests.{MayGive, numbered}
-use Rattle.ua_jobs.specs.Batches.{IsUnused}
+use Rattle.ua_jobs.specs.inner.Batches.{IsUnused}
 use Rattle.ua_jobs.proofs.BatchLaws.{other_harvests, answers_together}
 use Rattle.ua_jobs.proofs.batches.batch_with.Goals as goal
 

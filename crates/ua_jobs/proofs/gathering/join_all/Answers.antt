@@ -6,7 +6,7 @@ use Rattle.ua_jobs.specs.declared.serving.Served.{Served}
 use Rattle.ua_jobs.specs.declared.views.Taking.{Taking}
 use Rattle.ua_jobs.specs.Seats.{PassView}
 use Rattle.ua_jobs.specs.Harvests.{numbers_of}
-use Rattle.ua_jobs.specs.Batches.{IsOtherHarvest, joined_times}
+use Rattle.ua_jobs.specs.inner.Batches.{IsOtherHarvest, joined_times}
 use Rattle.ua_jobs.proofs.BatchLaws.{taken_of_harvest, joined_more, joined_pass}
 use Rattle.ua_jobs.proofs.gathering.join_all.Goals as goal
 

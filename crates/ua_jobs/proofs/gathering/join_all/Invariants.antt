@@ -5,7 +5,7 @@ use Rattle.ua_table.specs.Counting.{times}
 use Rattle.ua_jobs.specs.declared.serving.Served.{Served}
 use Rattle.ua_jobs.specs.Seats.{with_view}
 use Rattle.ua_jobs.specs.Harvests.{numbers_of}
-use Rattle.ua_jobs.specs.Batches.{IsOtherHarvest, joined_times}
+use Rattle.ua_jobs.specs.inner.Batches.{IsOtherHarvest, joined_times}
 use Rattle.ua_jobs.proofs.gathering.join_all.Given as goal
 
 abbrev pub invariant-harvests : goal.invariant-harvests

@@ -2,8 +2,8 @@ use Rattle.std.proofs.Common.{◌≡◌, ◌+◌, ◌<◌, ◌++◌, ◌∙◌, 
 use Rattle.std.specs.List.{AllByRecursion}
 use Rattle.ua_table.proofs.Lists.{all_weaker}
 use Rattle.ua_part.specs.Partitions.{Partition}
-use Rattle.ua_lattice.specs.Joins.{HasJoins}
-use Rattle.ua_lattice.specs.Places.{AreJoinPlaces, IsJoinPlace, AreLeast, AreCoversOfFirst, pairs_from}
+use Rattle.ua_lattice.specs.inner.Joins.{HasJoins}
+use Rattle.ua_lattice.specs.inner.Places.{AreJoinPlaces, IsJoinPlace, AreLeast, AreCoversOfFirst, pairs_from}
 use Rattle.ua_lattice.proofs.CoverLaws.{list_ordered, generators_join, generators_size, upper_covers}
 use Rattle.ua_lattice.proofs.PairLaws.{covers_none, covers_more, covers_all}
 use Rattle.ua_lattice.proofs.covers.covers_of.Goals as goal

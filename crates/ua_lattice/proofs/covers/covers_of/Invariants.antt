@@ -1,5 +1,5 @@
 use Rattle.std.proofs.Common.{◌≡◌, length}
-use Rattle.ua_lattice.specs.Places.{AreCoversOfFirst}
+use Rattle.ua_lattice.specs.inner.Places.{AreCoversOfFirst}
 use Rattle.ua_lattice.proofs.covers.covers_of.Given as goal
 
 abbrev pub invariant-loop-i : goal.invariant-loop-i

@@ -8,8 +8,8 @@ use Rattle.std.proofs.lemmas.List.Sorted.{Contains-permutation, IsPermutation-sy
 use Rattle.std.proofs.lemmas.List.Kept.{Contains-dedup_nat, Contains-from_dedup}
 use Rattle.std.proofs.lemmas.Map.Keys.{IsStrictlyIncreasing-dedup}
 use Rattle.ua_part.specs.Partitions.{Partition}
-use Rattle.ua_lattice.specs.Joins.{HasJoins}
-use Rattle.ua_lattice.specs.Places.{AreJoinPushed}
+use Rattle.ua_lattice.specs.inner.Joins.{HasJoins}
+use Rattle.ua_lattice.specs.inner.Places.{AreJoinPushed}
 use Rattle.ua_lattice.proofs.CoverLaws.{places_more, places_all, places_moved}
 use Rattle.ua_lattice.proofs.covers.joins_above.Goals as goal
 

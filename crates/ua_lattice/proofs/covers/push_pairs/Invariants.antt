@@ -1,5 +1,5 @@
 use Rattle.std.proofs.Common.{◌≡◌, ◌++◌, take}
-use Rattle.ua_lattice.specs.Places.{pairs_from}
+use Rattle.ua_lattice.specs.inner.Places.{pairs_from}
 use Rattle.ua_lattice.proofs.covers.push_pairs.Given as goal
 
 abbrev pub invariant-loop-k : goal.invariant-loop-k

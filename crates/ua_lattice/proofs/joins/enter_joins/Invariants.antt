@@ -1,5 +1,5 @@
 use Rattle.std.proofs.Common.{◌≡◌, ◌≤◌, length}
-use Rattle.ua_lattice.specs.Joins.{GoesOnWithJoins}
+use Rattle.ua_lattice.specs.inner.Joins.{GoesOnWithJoins}
 use Rattle.ua_lattice.proofs.FoundLaws.{HasFirstJoins}
 use Rattle.ua_lattice.proofs.joins.enter_joins.Given as goal
 

@@ -1,7 +1,7 @@
 use Rattle.std.proofs.Common.{◌≡◌, ◌∷◌, [], ◌++◌, ℕ, List, length, ap, sym, ◌∙◌, subst, arith}
 use Rattle.std.proofs.lemmas.List.FromFn.{length-range_with_len}
 use Rattle.ua_part.specs.Partitions.{Partition, identity_on}
-use Rattle.ua_lattice.specs.Joins.{IsSpannedLattice}
+use Rattle.ua_lattice.specs.inner.Joins.{IsSpannedLattice}
 use Rattle.ua_lattice.proofs.FoundLaws.{identity_lattice}
 use Rattle.ua_lattice.proofs.joins.identity_found.Goals as goal
 

@@ -3,7 +3,7 @@ use Rattle.std.specs.Prelude.{Contains}
 use Rattle.ua_table.proofs.Lists.{all_weaker}
 use Rattle.ua_part.specs.Partitions.{Partition, IsPartition}
 use Rattle.ua_prod.specs.Congruences.{IsCongruence}
-use Rattle.ua_lattice.specs.Joins.{IsSpannedLattice}
+use Rattle.ua_lattice.specs.inner.Joins.{IsSpannedLattice}
 use Rattle.ua_lattice.proofs.FoundLaws.{contains_found, old_among, goes_congruences, generator_there, lattice_more}
 use Rattle.ua_lattice.proofs.joins.take_in.Goals as goal
 

@@ -1,6 +1,6 @@
 use Rattle.std.proofs.Common.{◌<◌, ℕ, []}
 use Rattle.std.specs.Prelude.{slice_index_or, Contains}
-use Rattle.ua_lattice.specs.Searches.{HasFound}
+use Rattle.ua_lattice.specs.inner.Searches.{HasFound}
 use Rattle.ua_lattice.proofs.joins.take_in_all.Given as goal
 
 abbrev pub invariant-loop-i : goal.invariant-loop-i

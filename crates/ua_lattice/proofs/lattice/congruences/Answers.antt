@@ -5,7 +5,7 @@ use Rattle.ua_table.proofs.Lists.{all_weaker}
 use Rattle.ua_part.specs.Partitions.{Partition, IsPart}
 use Rattle.ua_prod.specs.Congruences.{IsCongruence}
 use Rattle.ua_lattice.specs.Lattices.{by_blocks, IsCongruenceList, AreCovers, AreIrreducible}
-use Rattle.ua_lattice.specs.Joins.{IsSpannedLattice, AreAmong}
+use Rattle.ua_lattice.specs.inner.Joins.{IsSpannedLattice, AreAmong}
 use Rattle.ua_lattice.proofs.OrderLaws.{length_from_members}
 use Rattle.ua_lattice.proofs.PrincipalLaws.{congruence_part}
 use Rattle.ua_lattice.proofs.WholeLaws.{arranged_length, exceeding_list, spanned_list, congruence_list, covers_within}

@@ -2,7 +2,7 @@ use Rattle.std.proofs.Common.{◌≡◌, ◌+◌, ◌<◌, ◌≤◌, ◌∙◌,
 use Rattle.std.specs.Prelude.{slice_index}
 use Rattle.std.specs.List.{AllByRecursion}
 use Rattle.std.proofs.lemmas.Bool.{iff_false}
-use Rattle.ua_lattice.specs.Places.{LiesAboveOne}
+use Rattle.ua_lattice.specs.inner.Places.{LiesAboveOne}
 use Rattle.ua_lattice.proofs.LeastLaws.{AreLeastOfFirst, least_within, least_kept, least_pushed, least_all}
 use Rattle.ua_lattice.proofs.least.keep_least.Goals as goal
 use Rattle.ua_lattice.proofs.least.keep_least.Goals.{then-not-lies_above_one+in_ok-push, else-not-lies_above_one}

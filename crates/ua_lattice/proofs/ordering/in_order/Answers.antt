@@ -9,7 +9,7 @@ use Rattle.std.proofs.lemmas.Cmp.{nat_list_eq_equiv}
 use Rattle.ua_part.specs.Partitions.{Partition, IsPart}
 use Rattle.ua_lattice.specs.declared.ordering.Counted.{Counted}
 use Rattle.ua_lattice.specs.Lattices.{by_blocks}
-use Rattle.ua_lattice.specs.Ordering.{IsCounted, partitions_of}
+use Rattle.ua_lattice.specs.inner.Ordering.{IsCounted, partitions_of}
 use Rattle.ua_table.proofs.Lists.{all_permutation}
 use Rattle.ua_lattice.proofs.OrderLaws.{strictly_sorted, sorted_partitions}
 use Rattle.ua_lattice.proofs.ordering.in_order.Goals as goal

@@ -5,7 +5,7 @@ use Rattle.std.proofs.lemmas.Option.{get_or_from_slice_get}
 use Rattle.ua_table.proofs.Lists.{all_append}
 use Rattle.ua_part.specs.Blocks.{block_count}
 use Rattle.ua_lattice.specs.declared.ordering.Counted.{Counted}
-use Rattle.ua_lattice.specs.Ordering.{IsCounted, partitions_of}
+use Rattle.ua_lattice.specs.inner.Ordering.{IsCounted, partitions_of}
 use Rattle.ua_lattice.proofs.ordering.with_counts.Goals as goal
 
 pub loop-i-preserved : goal.loop-i-preserved

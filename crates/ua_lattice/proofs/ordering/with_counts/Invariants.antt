@@ -1,6 +1,6 @@
 use Rattle.std.proofs.Common.{◌≡◌, take}
 use Rattle.std.specs.List.{AllByRecursion}
-use Rattle.ua_lattice.specs.Ordering.{IsCounted, partitions_of}
+use Rattle.ua_lattice.specs.inner.Ordering.{IsCounted, partitions_of}
 use Rattle.ua_lattice.proofs.ordering.with_counts.Given as goal
 
 abbrev pub invariant-loop-i : goal.invariant-loop-i

@@ -7,7 +7,8 @@ use Rattle.ua_prod.specs.Congruences.{IsCg}
 use Rattle.ua_prod.proofs.EscapeLaws.{set_few}
 use Rattle.ua_cong.specs.Closings.{AreElements}
 use Rattle.ua_matrix.specs.Deltas.{diagonal_pairs}
-use Rattle.ua_matrix.specs.Squares.{number_of, IsSubsquare}
+use Rattle.ua_matrix.specs.Squares.{number_of}
+use Rattle.ua_matrix.specs.inner.Squares.{IsSubsquare}
 use Rattle.ua_matrix.proofs.SquareLaws.{pairs_increasing, pairs_low, diagonal_elements, subsquare_is}
 use Rattle.ua_matrix.proofs.deltas.delta_of.Goals as goal
 

@@ -5,7 +5,8 @@ use Rattle.std.proofs.lemmas.List.{length-map}
 use Rattle.ua_table.specs.Algebras.{Vector}
 use Rattle.ua_table.specs.Listings.{Row, vectors_of, ranks_of}
 use Rattle.ua_part.specs.Partitions.{Partition}
-use Rattle.ua_matrix.specs.Matrices.{AreFour, Goes, IsFirstOfFront}
+use Rattle.ua_matrix.specs.Matrices.{AreFour, Goes}
+use Rattle.ua_matrix.specs.inner.Matrices.{IsFirstOfFront}
 use Rattle.ua_matrix.proofs.FailureLaws.{all_go}
 use Rattle.ua_matrix.proofs.failures.first_failure.Goals as goal
 

@@ -1,7 +1,8 @@
 use Rattle.std.proofs.Common.{[], sym, subst}
 use Rattle.std.proofs.lemmas.Option.{get_or_from_slice_get}
 use Rattle.ua_table.specs.Listings.{vectors_of, ranks_of}
-use Rattle.ua_matrix.specs.Matrices.{Fails, IsFirstOfFront}
+use Rattle.ua_matrix.specs.Matrices.{Fails}
+use Rattle.ua_matrix.specs.inner.Matrices.{IsFirstOfFront}
 use Rattle.ua_matrix.proofs.FailureLaws.{first_stays, first_found}
 use Rattle.ua_matrix.proofs.failures.first_so_far.Goals as goal
 

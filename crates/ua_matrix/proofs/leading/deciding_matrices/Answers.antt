@@ -2,8 +2,8 @@ use Rattle.std.proofs.Common.{ℕ, length, sym, ap, ◌∙◌, subst, arith, Opt
 use Rattle.std.specs.Prelude.{IfSome}
 use Rattle.ua_matrix.specs.declared.deltas.Delta.{Delta}
 use Rattle.ua_matrix.specs.Matrices.{matrix_generators}
-use Rattle.ua_matrix.specs.Deltas.{leading_matrices}
-use Rattle.ua_matrix.specs.Squares.{left_of, right_of, IsDeltaOf}
+use Rattle.ua_matrix.specs.inner.Deltas.{leading_matrices}
+use Rattle.ua_matrix.specs.inner.Squares.{left_of, right_of, IsDeltaOf}
 use Rattle.ua_matrix.proofs.AllMatrices.{leading_decide}
 use Rattle.ua_matrix.proofs.leading.deciding_matrices.Goals as goal
 

@@ -1,7 +1,7 @@
 use Rattle.std.proofs.Common.{ℕ, List, [], ◌∷◌, length, ap, ◌∙◌, arith, length-append}
 use Rattle.ua_table.specs.VectorLists.{VectorList}
 use Rattle.ua_matrix.specs.Deltas.{matrix_of_rows}
-use Rattle.ua_matrix.specs.Squares.{left_of, right_of}
+use Rattle.ua_matrix.specs.inner.Squares.{left_of, right_of}
 use Rattle.ua_matrix.proofs.GeneratorLaws.{leading_more}
 use Rattle.ua_matrix.proofs.leading.leading_matrices.Goals as goal
 

@@ -2,7 +2,7 @@ use Rattle.std.proofs.Common.{◌≡◌, ◌*◌, [], ◌∷◌, length}
 use Rattle.std.specs.Prelude.{slice_index}
 use Rattle.std.specs.List.{flat_map, range_with_len}
 use Rattle.ua_matrix.specs.Deltas.{matrix_of_rows}
-use Rattle.ua_matrix.specs.Squares.{left_of, right_of}
+use Rattle.ua_matrix.specs.inner.Squares.{left_of, right_of}
 use Rattle.ua_matrix.proofs.leading.leading_matrices.Given as goal
 
 abbrev pub invariant-loop-place : goal.invariant-loop-place

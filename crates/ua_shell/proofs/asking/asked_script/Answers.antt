@@ -1,7 +1,7 @@
 use Rattle.std.proofs.Common.{sym, subst}
 use Rattle.std.specs.List.{AllByRecursion}
 use Rattle.ua_script.specs.declared.script.Script.{Script}
-use Rattle.ua_shell.specs.Outputs.{IsServed}
+use Rattle.ua_shell.specs.inner.Outputs.{IsServed}
 use Rattle.ua_shell.proofs.Generating.{generated_served}
 use Rattle.ua_shell.proofs.asking.asked_script.Goals as goal
 

@@ -1,6 +1,6 @@
 use Rattle.std.proofs.Common.{◌≤◌, map, take}
 use Rattle.std.specs.Io.KnownBytes.{Appends}
-use Rattle.ua_shell.specs.Hearing.{bytes_of}
+use Rattle.ua_shell.specs.inner.Hearing.{bytes_of}
 use Rattle.ua_shell.proofs.batches.write_replies.Given as goal
 
 -- the replies so far are written

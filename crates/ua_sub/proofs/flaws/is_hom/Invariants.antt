@@ -1,5 +1,5 @@
 use Rattle.std.proofs.Common.{ℕ, ◌<◌}
-use Rattle.ua_sub.specs.Searches.{NoFlawOf}
+use Rattle.ua_sub.specs.inner.Searches.{NoFlawOf}
 use Rattle.ua_sub.proofs.flaws.is_hom.Given as goal
 
 abbrev pub invariant-loop-op : goal.invariant-loop-op

@@ -3,7 +3,7 @@ use Rattle.std.specs.Prelude.{IfSome}
 use Rattle.std.proofs.lemmas.Result.{IfOk-weaker}
 use Rattle.ua_sub.specs.declared.twins.Question.{Question}
 use Rattle.ua_sub.specs.Members.{AreMembers}
-use Rattle.ua_sub.specs.Twins.{IsTwin}
+use Rattle.ua_sub.specs.inner.Twins.{IsTwin}
 use Rattle.ua_sub.proofs.TwinLaws.{twin_members}
 use Rattle.ua_sub.proofs.members.one.Goals as goal
 

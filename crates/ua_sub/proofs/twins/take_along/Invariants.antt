@@ -1,6 +1,6 @@
 use Rattle.std.proofs.Common.{◌+◌, ◌<◌}
 use Rattle.std.specs.List.{AllByRecursion}
-use Rattle.ua_sub.specs.Twins.{HasGrown}
+use Rattle.ua_sub.specs.inner.Twins.{HasGrown}
 use Rattle.ua_sub.proofs.twins.take_along.Given as goal
 
 abbrev pub invariant-loop : goal.invariant-loop

@@ -3,7 +3,7 @@ use Rattle.std.specs.Prelude.{Contains}
 use Rattle.std.specs.List.{AllByRecursion}
 use Rattle.ua_table.proofs.Lists.{all_weaker}
 use Rattle.ua_prod.proofs.ClashLaws.{size_is}
-use Rattle.ua_sub.specs.Twins.{Generates, IsFound}
+use Rattle.ua_sub.specs.inner.Twins.{Generates, IsFound}
 use Rattle.ua_sub.proofs.TwinLaws.{value_generated, all_found}
 use Rattle.ua_sub.proofs.twins.take_value.Goals as goal
 

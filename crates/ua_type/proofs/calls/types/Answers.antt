@@ -4,7 +4,7 @@ use Rattle.std.proofs.lemmas.Result.{err_from_is_err_and}
 use Rattle.ua_part.specs.Partitions.{Partition}
 use Rattle.ua_lattice.specs.declared.lattice.Lattice.{Lattice}
 use Rattle.ua_lattice.specs.Answers.{IsLatticeOf}
-use Rattle.ua_type.specs.Tables.{MayTable}
+use Rattle.ua_type.specs.inner.Tables.{MayTable}
 use Rattle.ua_type.proofs.CoverLaws.{types_refused}
 use Rattle.ua_type.proofs.calls.types.Goals as goal
 

@@ -5,8 +5,9 @@ use Rattle.ua_table.specs.Listings.{Row}
 use Rattle.ua_type.specs.declared.known.Known.{Known}
 use Rattle.ua_type.specs.declared.descents.Sifted.{Sifted}
 use Rattle.ua_type.specs.Subtraces.{Generates}
-use Rattle.ua_type.specs.Known.{IsRight, IsKept}
-use Rattle.ua_type.specs.Descents.{IsSiftedTo, IsLacking, LeadsTo}
+use Rattle.ua_type.specs.Known.{IsRight}
+use Rattle.ua_type.specs.inner.Known.{IsKept}
+use Rattle.ua_type.specs.inner.Descents.{IsSiftedTo, IsLacking, LeadsTo}
 use Rattle.ua_type.proofs.GeneratedPairs.{generates_itself, generates_through}
 use Rattle.ua_type.proofs.KnownLaws.{settle_kept, meet_kept, kept_twice, settled_class}
 use Rattle.ua_type.proofs.DescentLaws.{descent_down, rows_two, stays}

@@ -1,6 +1,6 @@
 use Rattle.std.proofs.Common.{◌≡◌}
 use Rattle.ua_type.specs.Subtraces.{Generates}
-use Rattle.ua_type.specs.Descents.{IsDescent}
+use Rattle.ua_type.specs.inner.Descents.{IsDescent}
 use Rattle.ua_type.proofs.descents.descend.Given as goal
 
 abbrev pub invariant-loop : goal.invariant-loop

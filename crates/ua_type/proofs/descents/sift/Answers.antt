@@ -7,8 +7,8 @@ use Rattle.ua_table.specs.Listings.{Row}
 use Rattle.ua_part.specs.Labels.{same_labels}
 use Rattle.ua_type.specs.declared.descents.Asked.{Asked}
 use Rattle.ua_type.specs.Subtraces.{Generates}
-use Rattle.ua_type.specs.Marks.{AreMarks}
-use Rattle.ua_type.specs.Descents.{MayAsk}
+use Rattle.ua_type.specs.inner.Marks.{AreMarks}
+use Rattle.ua_type.specs.inner.Descents.{MayAsk}
 use Rattle.ua_type.proofs.KnownLaws.{settled_is}
 use Rattle.ua_type.proofs.DescentLaws.{row_width, row_first, row_second, row_within, row_generated, row_leads, row_settles, pair_rows, one_back, back_below, descent_more, all_back}
 use Rattle.ua_type.proofs.descents.sift.Goals.{then-c-d+in_ok-put_above-in-Back, else-c-d}

@@ -1,6 +1,6 @@
 use Rattle.std.proofs.Common.{◌≡◌}
-use Rattle.ua_type.specs.Descents.{IsDescent}
-use Rattle.ua_type.specs.Marks.{AreMarks}
+use Rattle.ua_type.specs.inner.Descents.{IsDescent}
+use Rattle.ua_type.specs.inner.Marks.{AreMarks}
 use Rattle.ua_type.proofs.DescentLaws.{GoBackBelow}
 use Rattle.ua_type.proofs.descents.sift.Given as goal
 

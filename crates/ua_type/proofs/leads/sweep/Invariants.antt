@@ -1,5 +1,5 @@
 use Rattle.std.proofs.Common.{◌≡◌, ℕ}
-use Rattle.ua_type.specs.Marks.{AreMarks}
+use Rattle.ua_type.specs.inner.Marks.{AreMarks}
 use Rattle.ua_type.proofs.leads.sweep.Given as goal
 
 abbrev pub invariant-loop-i : goal.invariant-loop-i

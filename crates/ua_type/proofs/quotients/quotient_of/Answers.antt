@@ -6,7 +6,7 @@ use Rattle.ua_part.specs.Blocks.{leaders}
 use Rattle.ua_prod.specs.Congruences.{IsCongruence}
 use Rattle.ua_prod.proofs.BlockNumbers.{all_leaders_below}
 use Rattle.ua_type.specs.Quotients.{quotient_by, image_of}
-use Rattle.ua_type.specs.Images.{RelatesTwo}
+use Rattle.ua_type.specs.inner.Images.{RelatesTwo}
 use Rattle.ua_type.proofs.QuotientLaws.{image-IsByLabels, one_partition}
 use Rattle.ua_type.proofs.ImageLaws.{image-IsCongruence, image_differs}
 use Rattle.ua_type.proofs.quotients.quotient_of.Goals as goal

@@ -1,6 +1,6 @@
 use Rattle.std.proofs.Common.{sym, subst, arith}
 use Rattle.std.proofs.lemmas.Result.{err_from_is_err_and}
-use Rattle.ua_type.specs.Known.{IsRelated}
+use Rattle.ua_type.specs.inner.Known.{IsRelated}
 use Rattle.ua_type.proofs.SearchLaws.{not_all_vain}
 use Rattle.ua_type.proofs.searches.first_subtrace.Goals as goal
 

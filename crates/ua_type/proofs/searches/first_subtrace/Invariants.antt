@@ -1,5 +1,5 @@
-use Rattle.ua_type.specs.Outcomes.{AreVainBelow}
-use Rattle.ua_type.specs.Known.{IsKnown}
+use Rattle.ua_type.specs.inner.Outcomes.{AreVainBelow}
+use Rattle.ua_type.specs.inner.Known.{IsKnown}
 use Rattle.ua_type.proofs.searches.first_subtrace.Given as goal
 
 abbrev pub invariant-loop-x : goal.invariant-loop-x

@@ -2,7 +2,7 @@ use Rattle.std.proofs.Common.{subst, arith}
 use Rattle.std.specs.Prelude.{Ok}
 use Rattle.std.proofs.lemmas.Result.{err_from_is_err_and}
 use Rattle.ua_type.specs.declared.trials.Trial.{Trial}
-use Rattle.ua_type.specs.Outcomes.{MayTryRelated}
+use Rattle.ua_type.specs.inner.Outcomes.{MayTryRelated}
 use Rattle.ua_type.proofs.SearchLaws.{ends_beyond, ends_found, met_ahead, vain_next}
 use Rattle.ua_type.proofs.searches.search_from.Goals as goal
 

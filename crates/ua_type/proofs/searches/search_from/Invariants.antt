@@ -1,5 +1,5 @@
-use Rattle.ua_type.specs.Outcomes.{AreVainAt}
-use Rattle.ua_type.specs.Known.{IsKnown}
+use Rattle.ua_type.specs.inner.Outcomes.{AreVainAt}
+use Rattle.ua_type.specs.inner.Known.{IsKnown}
 use Rattle.ua_type.proofs.searches.search_from.Given as goal
 
 abbrev pub invariant-loop-y : goal.invariant-loop-y

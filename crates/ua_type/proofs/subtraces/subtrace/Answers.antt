@@ -2,7 +2,7 @@ use Rattle.std.proofs.Common.{subst}
 use Rattle.std.specs.Prelude.{Ok}
 use Rattle.std.proofs.lemmas.Result.{err_from_is_err_and}
 use Rattle.ua_type.specs.declared.searches.Search.{Search}
-use Rattle.ua_type.specs.Searches.{MaySearch}
+use Rattle.ua_type.specs.inner.Searches.{MaySearch}
 use Rattle.ua_type.proofs.TypingLaws.{subtrace_here, pairs_wide}
 use Rattle.ua_type.proofs.subtraces.subtrace.Goals as goal
 

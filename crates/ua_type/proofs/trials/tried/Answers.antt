@@ -4,9 +4,11 @@ use Rattle.std.specs.Option.{IsSomeAnd}
 use Rattle.std.proofs.lemmas.Result.{err_from_is_err_and}
 use Rattle.ua_table.specs.Listings.{Row}
 use Rattle.ua_type.specs.declared.descents.Sifted.{Sifted}
-use Rattle.ua_type.specs.Outcomes.{IsMinimal, IsVain}
-use Rattle.ua_type.specs.Known.{IsSettled, IsKept}
-use Rattle.ua_type.specs.Descents.{IsSiftedTo, IsLacking, LeadsTo}
+use Rattle.ua_type.specs.Outcomes.{IsMinimal}
+use Rattle.ua_type.specs.inner.Outcomes.{IsVain}
+use Rattle.ua_type.specs.Known.{IsSettled}
+use Rattle.ua_type.specs.inner.Known.{IsKept}
+use Rattle.ua_type.specs.inner.Descents.{IsSiftedTo, IsLacking, LeadsTo}
 use Rattle.ua_type.proofs.KnownLaws.{known_vain, settle_kept, kept_down}
 use Rattle.ua_type.proofs.DescentLaws.{descent_down, sifted_minimal, sifted_vain}
 use Rattle.ua_type.proofs.trials.tried.Goals as goal

@@ -3,7 +3,7 @@ use Rattle.std.specs.Prelude.{Ok}
 use Rattle.ua_close.specs.declared.close.Closure.{Closure}
 use Rattle.ua_close.specs.Permitted.{MayClose}
 use Rattle.ua_type.specs.Subtraces.{pair_generators}
-use Rattle.ua_type.specs.Descents.{AreGenerated}
+use Rattle.ua_type.specs.inner.Descents.{AreGenerated}
 use Rattle.ua_type.proofs.TrialLaws.{try_beyond, pairs_narrow, pairs_closed}
 use Rattle.ua_type.proofs.DescentLaws.{first_descent}
 use Rattle.ua_type.proofs.trials.try_pair.Goals as goal

@@ -2,8 +2,8 @@ use Rattle.std.proofs.Common.{ℕ, subst, Option}
 use Rattle.std.specs.Prelude.{Ok}
 use Rattle.std.proofs.lemmas.Result.{err_from_is_err_and}
 use Rattle.ua_type.specs.declared.searches.Search.{Search}
-use Rattle.ua_type.specs.Searches.{MaySearch}
-use Rattle.ua_type.specs.Squares.{MayHaveType}
+use Rattle.ua_type.specs.inner.Searches.{MaySearch}
+use Rattle.ua_type.specs.inner.Squares.{MayHaveType}
 use Rattle.ua_type.proofs.TypingLaws.{type_here, squares_exceed, squares_wide, pairs_wide_too}
 use Rattle.ua_type.proofs.typings.type_of.Goals as goal
 

@@ -1,5 +1,5 @@
 use Rattle.std.proofs.Common.{◌≡◌, true, false, sym, ◌∙◌, arith}
-use Rattle.ua_words.specs.Options.{has_plain_front}
+use Rattle.ua_words.specs.inner.Options.{has_plain_front}
 use Rattle.ua_words.proofs.Numbers.{not_parsed, odd_front, parsed_above, parsed_written, whatever}
 use Rattle.ua_words.proofs.words.written_number.Goals as goal
 

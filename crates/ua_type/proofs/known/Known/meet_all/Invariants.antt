@@ -1,6 +1,6 @@
 use Rattle.std.proofs.Common.{◌≡◌}
 use Rattle.ua_table.specs.Listings.{vectors_of}
-use Rattle.ua_type.specs.Known.{AreMetBelow}
+use Rattle.ua_type.specs.inner.Known.{AreMetBelow}
 use Rattle.ua_type.proofs.known.Known.meet_all.Given as goal
 
 abbrev pub invariant-loop-i : goal.invariant-loop-i

@@ -15,8 +15,9 @@ use Rattle.ua_type.specs.declared.descents.Sifted.TheVariants as sifted
 use Rattle.ua_type.specs.declared.descents.Descent.{Descent}
 use Rattle.ua_type.specs.Subtraces.{pair_generators, Generates}
 use Rattle.ua_type.specs.Trials.{HasMorePairs, ArePairsWide}
-use Rattle.ua_type.specs.Outcomes.{GoesBack}
-use Rattle.ua_type.specs.Known.{IsSettled, IsKept}
+use Rattle.ua_type.specs.inner.Outcomes.{GoesBack}
+use Rattle.ua_type.specs.Known.{IsSettled}
+use Rattle.ua_type.specs.inner.Known.{IsKept}
 
 -- the pairs that the pair generates are these
 abbrev pub AreGenerated : FiniteAlgebra → ℕ → ℕ × ℕ → List Row → Type 0

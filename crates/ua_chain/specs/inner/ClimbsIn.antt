@@ -7,7 +7,7 @@ use Rattle.ua_walk.specs.Climbs.{TellsClimb}
 use Rattle.ua_identity.specs.Chains.{ChainKind}
 use Rattle.ua_identity.specs.declared.kinds.PatternPair.{PatternPair}
 use Rattle.ua_identity.specs.KindTables.{link_of}
-use Rattle.ua_chain.specs.RowsOf.{AreOwnRows, AreLinksAt}
+use Rattle.ua_chain.specs.inner.RowsOf.{AreOwnRows, AreLinksAt}
 
 -- the answer of a search over the rows that have what each term of the kind has, with the links of the kind
 pub record IsClimbIn (n : ℕ) (kind : ChainKind) (vectors : List Vector) (start end : ℕ) (climb : Climb) : Type 0 where

@@ -4,7 +4,7 @@ use Rattle.ua_table.specs.Tables.{IsAlgebraTable}
 use Rattle.ua_lattice.specs.declared.joiner.Joiner.{Joiner}
 use Rattle.ua_lattice.specs.declared.joins.Found.{Found}
 use Rattle.ua_lattice.specs.declared.joins.Search.{Search}
-use Rattle.ua_lattice.specs.Joins.{IsSpannedLattice}
+use Rattle.ua_lattice.specs.inner.Joins.{IsSpannedLattice}
 
 -- congruences within the budget, closed under joins, with room for one more and to join rows
 pub record HasFound (search : Search) (found : Found) (joiner : Joiner) : Type 0 where

@@ -4,7 +4,7 @@ use Rattle.ua_table.specs.Algebras.{FiniteAlgebra}
 use Rattle.ua_part.specs.Partitions.{SameBlock, LiesBelow, Partition}
 use Rattle.ua_prod.specs.Congruences.{IsCongruence}
 use Rattle.ua_cong.specs.declared.known.Known.{Known}
-use Rattle.ua_cong.specs.Closings.{AreForced}
+use Rattle.ua_cong.specs.inner.Closings.{AreForced}
 
 -- the row at this place is a congruence below each that relates x and y
 pub record IsHint (a : FiniteAlgebra) (known : Known) (x y place : ℕ) : Type 0 where

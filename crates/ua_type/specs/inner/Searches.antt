@@ -8,7 +8,7 @@ use Rattle.ua_type.specs.declared.searches.Search.{Search}
 use Rattle.ua_type.specs.declared.searches.Search.TheVariants.{Found, Beyond}
 use Rattle.ua_type.specs.Subtraces.{Generates, IsFirstSubtrace}
 use Rattle.ua_type.specs.Trials.{AllWithin, SomeExceeds, ArePairsNarrow, ArePairsWide}
-use Rattle.ua_type.specs.Outcomes.{AreVainBelow}
+use Rattle.ua_type.specs.inner.Outcomes.{AreVainBelow}
 
 -- the first subtrace, and whether it generates its swap; each set of pairs that is closed is within the budget
 pub record IsFound (b : FiniteAlgebra) (theta : Partition) (budget : ℕ) (pair : SubtracePair) : Type 0 where

@@ -1,0 +1,5 @@
+pub mod Charts
+pub mod Classes
+pub mod ClimbsIn
+pub mod Closures
+pub mod RowsOf

@@ -1,0 +1,4 @@
+pub mod Joins
+pub mod Ordering
+pub mod Places
+pub mod Searches

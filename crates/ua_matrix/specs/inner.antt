@@ -1,0 +1,4 @@
+pub mod Answers
+pub mod Deltas
+pub mod Matrices
+pub mod Squares

@@ -1,0 +1,3 @@
+pub mod Homs
+pub mod Searches
+pub mod Twins
