@@ -11,8 +11,7 @@ use Rattle.ua_operands.specs.declared.written.Number.{Number}
 use Rattle.ua_operands.specs.declared.written.IdentityText.{IdentityText}
 use Rattle.ua_reply.specs.Checks.{Passes, all_in}
 use Rattle.ua_reply.proofs.CheckLaws.{parts_pass, each_passes, known_step}
-use Rattle.ua_answer_conditions.specs.ConditionCommand.{number_of, condition_of, arity_in, identity_in, condition_checks}
-use Rattle.ua_answer_conditions.specs.inner.ConditionCommand.{numbers_in, variables_in, identity_of}
+use Rattle.ua_answer_conditions.specs.ConditionCommand.{number_of, numbers_in, variables_in, identity_of, condition_of, arity_in, identity_in, condition_checks}
 
 -- each is below one more than the greatest
 below_greatest : (a : ℕ) (xs : List ℕ) → (a < suc (fold max a xs)) × AllByRecursion (λ x. x < suc (fold max a xs)) xs

@@ -5,8 +5,7 @@ ghost use Rattle.std.specs.List.{AllByRecursion};
 ghost use Rattle.ua_cond.specs.Permitted.{MayDecide};
 ghost use Rattle.ua_reply.specs.Sessions.{bounds_of};
 ghost use Rattle.ua_reply.specs.Checks.{AreFirst, Passes, all_in};
-ghost use Rattle.ua_answer_conditions.specs.ConditionCommand.{number_of, condition_of, arity_in, identity_in, condition_checks, ConditionReply};
-ghost use Rattle.ua_answer_conditions.specs.inner.ConditionCommand.{numbers_in, variables_in, identity_of};
+ghost use Rattle.ua_answer_conditions.specs.ConditionCommand.{number_of, numbers_in, variables_in, identity_of, condition_of, arity_in, identity_in, condition_checks, ConditionReply};
 
 use std::alloc::{AllocError, Global};
 use std::thread::Threads;

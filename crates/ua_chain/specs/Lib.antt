@@ -1,3 +1,6 @@
+-- What is told when a least chain is asked for.
 pub mod Answers
+-- What may be answered when a least chain is asked for, with the refusals.
 pub mod Permitted
+-- What private functions say.
 pub mod inner

@@ -10,6 +10,7 @@ ghost use Rattle.ua_cert.specs.declared.certs.CertStep.{CertStep};
 ghost use Rattle.ua_flaws.specs.Steps.{written_term, origins_of};
 ghost use Rattle.ua_flaws.specs.Flaws.{Tells};
 ghost use Rattle.ua_check.specs.Chains as chains;
+ghost use Rattle.ua_check.specs.inner.Chains.{AreStepsWithin};
 
 use crate::equations::{Side, first_failure, identity_failure};
 use std::alloc::{AllocError, Global};
@@ -137,7 +138,7 @@ fn is_in_chain(
 ) -> bool
     requires three { kind.now.places ≡ 3 }
     requires place { i < length terms.now }
-    requires terms { AllByRecursion (chains.AreStepsWithin a.now (length values.old)) terms.now }
+    requires terms { AllByRecursion (AreStepsWithin a.now (length values.old)) terms.now }
     ensures { result ≡ chains.is_in_chain a.now kind.now (map (written_term (arities_of a.now)) terms.now) i (written_term (arities_of a.now) (slice_index_or terms.now i [])) }
 {
     let steps = terms[i].as_slice();
@@ -156,7 +157,7 @@ fn links(
 ) -> Result<(), CheckError>
     requires three { kind.now.places ≡ 3 }
     requires few { length terms.now < 2 ^ 32 }
-    requires terms { AllByRecursion (chains.AreStepsWithin a.now (length values.old)) terms.now }
+    requires terms { AllByRecursion (AreStepsWithin a.now (length values.old)) terms.now }
     ensures { Tells (chains.links_flaw a.now kind.now (map (written_term (arities_of a.now)) terms.now)) result }
 {
     for i in 0..terms.len() {

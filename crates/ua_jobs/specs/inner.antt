@@ -1,1 +1,2 @@
+-- The passes of a batch.
 pub mod Batches

@@ -5,7 +5,8 @@ use Rattle.ua_words.specs.Words.{Asks}
 use Rattle.ua_words.proofs.OptionValues.{asked_once}
 use Rattle.ua_shell.specs.declared.status.Status.{Status}
 use Rattle.ua_shell.specs.declared.status.Status.TheVariants as status
-use Rattle.ua_shell.specs.inner.Reads.{IsGiven, IsThere}
+use Rattle.ua_shell.specs.Reads.{IsThere}
+use Rattle.ua_shell.specs.inner.Reads.{IsGiven}
 
 -- without a script memory ran out, where one was there
 pub given_ends : (s : Status) → IsGiven (Err s) → (s ≡ status.Done) ⊎ (s ≡ status.OutOfMemory)

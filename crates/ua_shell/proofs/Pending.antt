@@ -20,7 +20,7 @@ use Rattle.ua_shell.specs.declared.hearing.Heard.TheVariants.{Said, Asked}
 use Rattle.ua_shell.specs.Outputs.{OutputFrom, BegunFrom}
 use Rattle.ua_shell.specs.declared.serve.Served.{Served}
 use Rattle.ua_shell.specs.declared.serve.Served.TheVariants as served
-use Rattle.ua_shell.specs.inner.Served.{IsWritten, Serves}
+use Rattle.ua_shell.specs.Served.{IsWritten, Serves}
 use Rattle.ua_shell.specs.Hearing.{Tells}
 use Rattle.ua_shell.specs.inner.Hearing.{IsReady, IsHeard, Hears, AreTold, TellsAll, bytes_of}
 use Rattle.ua_shell.proofs.Serving.{Serving, serving_start, serving_block, serving_command, serving_stop, serving_cut, serving_end, Rose_since}

@@ -13,7 +13,7 @@ ghost use Rattle.ua_shell.specs.declared.hearing.Heard.{Heard};
 ghost use Rattle.ua_shell.specs.Hearing.{Tells};
 ghost use Rattle.ua_shell.specs.inner.Hearing.{IsReady, TellsAll, bytes_of};
 ghost use Rattle.ua_shell.specs.inner.Outputs.{IsServed};
-ghost use Rattle.ua_shell.specs.inner.Served.{Serves};
+ghost use Rattle.ua_shell.specs.Served.{Serves};
 
 use crate::hearing::{Heard, hear};
 use crate::serve::{Served, serve};

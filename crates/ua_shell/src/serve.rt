@@ -3,7 +3,7 @@
 ghost use Rattle.std.specs.List.{AllByRecursion};
 ghost use Rattle.ua_reply.specs.Sessions.{bounds_of};
 ghost use Rattle.ua_shell.specs.inner.Outputs.{IsServed};
-ghost use Rattle.ua_shell.specs.inner.Served.{Serves};
+ghost use Rattle.ua_shell.specs.Served.{Serves};
 
 use crate::hearing::{answer_now, introduce};
 use std::alloc::Global;

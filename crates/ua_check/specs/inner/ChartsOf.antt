@@ -1,4 +1,4 @@
--- Rows on the patterns of chains, as the checks read them: what private functions say.
+-- Rows on the patterns of chains, as the checks read them.
 use Rattle.std.specs.Prelude.{◌≡◌, ℕ, ◌<◌, ◌≤◌, Bool, true, false, List, [], length, slice_index_or, Contains}
 use Rattle.std.specs.List.{AllByRecursion}
 use Rattle.ua_table.specs.declared.limits.TheConstants.{SIZE, WIDTH}
@@ -6,6 +6,7 @@ use Rattle.ua_table.specs.Algebras.{Vector}
 use Rattle.ua_term.specs.Assignments.{projection}
 use Rattle.ua_rows.specs.RowLists.{RowList}
 use Rattle.ua_identity.specs.Identities.{VariablePattern, TermIdentity}
+use Rattle.ua_identity.specs.Chains.{Link}
 use Rattle.ua_identity.specs.Patterns.{fillings, all_fillings}
 use Rattle.ua_check.specs.declared.charts.Chart.{Chart}
 use Rattle.ua_check.specs.declared.positions.Positions.{Positions}
@@ -48,3 +49,8 @@ pub record AreEntriesBelow (c : Chart) (p : VariablePattern) (marks : List Bool)
 pub record AreEntriesAt (c : Chart) (p : VariablePattern) (marks : List Bool) (found : RowList) : Type 0 where
   pub width : found.width ≡ length (fillings c.size p)
   pub entries : AreEntriesBelow c p marks (length c.rows.now.items) found.items
+
+-- the positions are those of rows, and the entries are those by which these rows lead to others along the link
+pub record IsSide (c : Chart) (l : Link) (s : Positions) : Type 0 where
+  pub marks : AreMarks (length c.rows.now.items) s
+  pub entries : AreEntriesAt c l.pattern s.marks.now s.entries.now

@@ -3,7 +3,7 @@ use Rattle.std.specs.List.{AllByRecursion}
 use Rattle.std.proofs.lemmas.List.{take_all}
 use Rattle.ua_table.proofs.Lists.{all_get_or}
 use Rattle.ua_identity.specs.Conditions.{IsCondition}
-use Rattle.ua_answer_conditions.specs.inner.ConditionCommand.{numbers_in, variables_in, identity_of}
+use Rattle.ua_answer_conditions.specs.ConditionCommand.{numbers_in, variables_in, identity_of}
 use Rattle.ua_answer_conditions.proofs.WrittenConditions.{all_named, few_places, is_condition}
 use Rattle.ua_answer_conditions.proofs.condition.condition_of.Goals as goal
 

@@ -1,5 +1,5 @@
 use Rattle.std.proofs.Common.{◌≡◌, map, take}
-use Rattle.ua_answer_conditions.specs.inner.ConditionCommand.{identity_of}
+use Rattle.ua_answer_conditions.specs.ConditionCommand.{identity_of}
 use Rattle.ua_answer_conditions.proofs.condition.condition_of.Given as goal
 
 -- those so far are made

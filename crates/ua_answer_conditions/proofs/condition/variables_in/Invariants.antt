@@ -1,7 +1,7 @@
 use Rattle.std.proofs.Common.{◌≡◌, ◌<◌, max, take}
 use Rattle.std.specs.Prelude.{fold}
 use Rattle.std.specs.List.{flat_map}
-use Rattle.ua_answer_conditions.specs.inner.ConditionCommand.{numbers_in}
+use Rattle.ua_answer_conditions.specs.ConditionCommand.{numbers_in}
 use Rattle.ua_answer_conditions.proofs.condition.variables_in.Given as goal
 
 -- the greatest so far
