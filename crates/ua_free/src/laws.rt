@@ -1,14 +1,15 @@
 //! Laws of free algebras and identities: each function does nothing, and its contract states them.
 
 ghost use Rattle.std.specs.Prelude.{◌≡◌, ◌↔◌, ℕ, ◌<◌, ◌≤◌};
-ghost use Rattle.ua_table.specs.Algebras.{Vector, FiniteAlgebra};
+ghost use Rattle.ua_table.specs.Algebras.{Vector, FiniteAlgebra, IsAlgebra};
 ghost use Rattle.ua_table.specs.Terms.{Tree};
 ghost use Rattle.ua_table.specs.Generated.{Sg};
 ghost use Rattle.ua_term.specs.Assignments.{projections, power_of_assignments, term_operation};
 ghost use Rattle.ua_free.specs.Identities.{variables_in, Holds};
-ghost use Rattle.ua_free.specs.Permitted.{MayHold};
+ghost use Rattle.ua_free.specs.Permitted.{MayFree, MayHold};
 ghost use Rattle.ua_free.specs.declared.identities.HoldsError.{HoldsError};
 ghost use Rattle.ua_close.specs.Permitted.{IsAnswerable};
+ghost use Rattle.ua_close.specs.declared.close.CloseError.{CloseError};
 ghost use Rattle.ua_table.specs.declared.limits.TheConstants.{VARIABLES};
 ghost use Rattle.ua_free.specs.TermOperations.{IsTermOperation};
 
@@ -20,6 +21,11 @@ use std::alloc::Global;
 pub fn members()
     ensures terms { (a : FiniteAlgebra) (k : ℕ) (v : Vector) → 0 < a.size → Sg (power_of_assignments a k) (projections a.size k) v ↔ IsTermOperation a k v }
     ensures identities { (a : FiniteAlgebra) (k : ℕ) (s t : Tree) → (term_operation a k s ≡ term_operation a k t) ↔ Holds a k s t }
+{}
+
+/// A free algebra is told, or that it has more members than the budget, or it is too wide.
+pub fn free_algebras()
+    ensures { (a : FiniteAlgebra) (k b w : ℕ) → IsAlgebra a → IsAnswerable (MayFree a k b w) CloseError.OutOfMemory }
 {}
 
 /// An identity in no more variables than their limit is told to hold, or to fail at an assignment, or it has too many
