@@ -2,3 +2,4 @@ pub mod OrderLaws
 pub mod WalkLaws
 pub mod VariableLaws
 pub mod MemberLaws
+mod HoldsExist

@@ -3,3 +3,5 @@ pub mod HomLaws
 pub mod FlawLaws
 pub mod ExtensionLaws
 mod TwinLaws
+mod MembersExist
+mod HomExist

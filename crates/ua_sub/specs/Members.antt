@@ -23,3 +23,13 @@ contents lists = map (λ (v : Vec ℕ Global). v.items) lists
 -- what each element alone generates, in order
 abbrev pub AreOnes : FiniteAlgebra → List (List ℕ) → Type 0
 AreOnes a lists = AllZip (λ x members. AreMembers a (x ∷ []) members) (numbers_below a.size) lists
+
+-- there are elements that these generate
+pub record HasMembers (a : FiniteAlgebra) (gens : List ℕ) : Type 0 where
+  pub members : List ℕ
+  pub are : AreMembers a gens members
+
+-- there is what each element alone generates
+pub record HasOnes (a : FiniteAlgebra) : Type 0 where
+  pub lists : List (List ℕ)
+  pub are : AreOnes a lists

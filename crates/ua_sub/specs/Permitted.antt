@@ -1,5 +1,6 @@
 -- What may be answered when it is asked whether images of generators go on to a homomorphism, with the refusals.
-use Rattle.std.specs.Prelude.{◌≡◌, ◌≢◌, ℕ, List, Result, Ok, Err}
+use Rattle.std.specs.Prelude.{◌≡◌, ◌≢◌, ℕ, ◌<◌, List, Result, Ok, Err}
+use Rattle.std.specs.List.{AllByRecursion}
 use Rattle.ua_table.specs.Algebras.{FiniteAlgebra, Product, Vector, signature}
 use Rattle.ua_close.specs.Answers.{IsWide, IsCause}
 use Rattle.ua_close.specs.declared.close.CloseError.TheVariants as causes
@@ -20,3 +21,7 @@ abbrev pub MayMap : FiniteAlgebra → FiniteAlgebra → List ℕ → List ℕ �
 MayMap a b gens images budget workers (Err Signature) = signature b ≢ signature a
 MayMap a b gens images budget workers (Err OutOfMemory) = Unit {0}
 MayMap a b gens images budget workers result = (signature b ≡ signature a) × MayMapPairs (both a b) (with_images gens images) budget workers result
+
+-- these are elements of the algebra
+abbrev pub AreElements : FiniteAlgebra → List ℕ → Type 0
+AreElements a xs = AllByRecursion (λ x. x < a.size) xs
