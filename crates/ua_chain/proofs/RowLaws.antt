@@ -27,8 +27,7 @@ use Rattle.ua_identity.proofs.ChainLaws.{term_of_member}
 use Rattle.ua_identity.specs.declared.kinds.Part.{Part}
 use Rattle.ua_identity.specs.declared.kinds.PatternPair.{PatternPair}
 use Rattle.ua_chain.specs.inner.Classes.{entries_at, AreLinksBy}
-use Rattle.ua_identity.specs.KindTables.{pattern_at, own_of, link_of, blank}
-use Rattle.ua_identity.specs.KindTables.{IsPartOf}
+use Rattle.ua_identity.specs.KindTables.{pattern_at, own_of, link_of, blank, IsPartOf}
 use Rattle.ua_chain.specs.inner.RowsOf.{part_at, HasOwnAt, AreOwnRows, AreLinksAt, HaveWidth}
 
 -- the coordinates of a pattern are among the entries of each vector

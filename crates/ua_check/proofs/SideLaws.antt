@@ -15,8 +15,7 @@ use Rattle.ua_flaws.proofs.PassLaws.{is_same_vector}
 use Rattle.ua_check.specs.declared.charts.Chart.{Chart}
 use Rattle.ua_check.specs.declared.positions.Positions.{Positions}
 use Rattle.ua_check.specs.Reached.{part, leads, holds_position, is_led_to}
-use Rattle.ua_check.specs.inner.ChartsOf.{IsSide}
-use Rattle.ua_check.specs.inner.ChartsOf.{row_at, entries_at, IsEntriesOf, AreEntriesBelow}
+use Rattle.ua_check.specs.inner.ChartsOf.{IsSide, row_at, entries_at, IsEntriesOf, AreEntriesBelow}
 use Rattle.ua_check.proofs.NoChainLaws.{any_at}
 use Rattle.ua_check.proofs.ReachedRows.{is_held, led_from}
 

@@ -4,8 +4,7 @@ ghost use Rattle.std.specs.Prelude.{◌≡◌, ◌+◌, ◌<◌, ◌≤◌, leng
 ghost use Rattle.ua_identity.specs.Patterns.{fillings};
 ghost use Rattle.ua_identity.specs.KindTables.{pattern_at, link_of};
 ghost use Rattle.ua_check.specs.Reached as reached;
-ghost use Rattle.ua_check.specs.inner.ChartsOf.{IsSide};
-ghost use Rattle.ua_check.specs.inner.ChartsOf.{IsChartOf, AreEntriesBelow, AreEntriesAt, row_at};
+ghost use Rattle.ua_check.specs.inner.ChartsOf.{IsSide, IsChartOf, AreEntriesBelow, AreEntriesAt, row_at};
 
 use crate::positions::Positions;
 use std::alloc::{AllocError, Global};

@@ -4,8 +4,7 @@ ghost use Rattle.std.specs.Prelude.{◌≡◌, ◌<◌, ℕ, false, [], length, 
 ghost use Rattle.std.specs.List.{AllByRecursion};
 ghost use Rattle.std.specs.Result.{result_err};
 ghost use Rattle.ua_check.specs.Reached as reached;
-ghost use Rattle.ua_check.specs.inner.ChartsOf.{IsSide};
-ghost use Rattle.ua_check.specs.inner.ChartsOf.{IsChartOf, AreMarks, row_at};
+ghost use Rattle.ua_check.specs.inner.ChartsOf.{IsSide, IsChartOf, AreMarks, row_at};
 
 use crate::charts::{Chart, is_led_to, is_own};
 use crate::positions::Positions;
