@@ -11,7 +11,8 @@ use Rattle.ua_table.proofs.Lists.{Contains-cases, Contains-none, slice_get-repli
 use Rattle.ua_table.proofs.TermLaws.{value_is_eval}
 use Rattle.ua_table.proofs.ApplyLemmas.{length-apply}
 use Rattle.ua_term.specs.Assignments.{assignments}
-use Rattle.ua_term.proofs.AssignmentLaws.{assignment_in, assignment_from, read_all, maps_agree}
+use Rattle.ua_term.proofs.AssignmentLaws.{assignment_in, assignment_from, read_all}
+use Rattle.ua_term.proofs.AssignmentLaws.{maps_agree}
 use Rattle.ua_identity.specs.Identities.{VariablePattern, TermIdentity, filled, at_pattern, Satisfies}
 use Rattle.ua_identity.specs.Chains.{Link, AreLinked}
 use Rattle.ua_identity.specs.Patterns.{fillings, all_fillings, place_vector, start_of, part_of}
