@@ -26,7 +26,7 @@ and_first c d e f g p q u r s = record {
 }
 
 -- nothing is in the parts of an empty list
-none_left : {X : Type 0} (xs ys : List X) → xs ++ ys ≡ [] → (xs ≡ []) × (ys ≡ [])
+pub none_left : {X : Type 0} (xs ys : List X) → xs ++ ys ≡ [] → (xs ≡ []) × (ys ≡ [])
 none_left [] ys e = (refl, e)
 none_left (x ∷ xs) ys e = cc
 

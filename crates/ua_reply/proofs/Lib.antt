@@ -4,3 +4,4 @@ pub mod Answering
 mod PartLaws
 mod Rows
 mod SessionLaws
+pub mod ReplyExistence
