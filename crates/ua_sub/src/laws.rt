@@ -25,9 +25,9 @@ pub fn members()
     ensures closed { (a : FiniteAlgebra) (gens members : List ℕ) (f : ℕ) (args : List ℕ) → AreMembers a gens members → f < length (arities_of a) → length args ≡ slice_index (arities_of a) f → AllByRecursion (Contains members) args → Contains members (value_at a f args) }
 {}
 
-/// Something is told, or the algebras or the width are refused. A map is told only where there are no more pairs than the budget, a clash only where these are the graph of no
-/// function, and neither only where there are more. So within the budget there is a map exactly where they are one,
-/// and else a clash.
+/// Something is told, or the algebras or the width are refused. A map is told only where there are no more pairs than
+/// the budget, a clash only where these are the graph of no function, and neither only where there are more. So within
+/// the budget there is a map exactly where they are one, and else a clash.
 pub fn answers()
     ensures told { (a b : FiniteAlgebra) (gens images : List ℕ) (n w : ℕ) → IsAlgebra a → IsAlgebra b → AreElements a gens → AreElements b images → IsAnswerable (MayMap a b gens images n w) HomError.OutOfMemory }
     ensures map { (p : Product) (gens : List Vector) (b : ℕ) (pairs : List (ℕ × ℕ)) → IsMap p gens b pairs → ¬ HasMoreThan p gens b }
