@@ -1,5 +1,5 @@
 -- What an answer says of polynomials.
-use Rattle.std.proofs.Common.{◌≡◌, ℕ, ◌+◌, ◌-◌, ◌<◌, ◌≤◌, Bool, true, false, List, length, sym, ap, ◌∙◌, subst, arith, Some, None, Ok}
+use Rattle.std.proofs.Common.{◌≡◌, ℕ, ◌+◌, ◌-◌, ◌<◌, ◌≤◌, Bool, true, false, List, length, sym, ap, ◌∙◌, subst, arith, Some, None, Result, Ok, Err}
 use Rattle.std.specs.Prelude.{nat_le, slice_get, if◌then◌else◌}
 use Rattle.std.proofs.lemmas.Option.{slice_get_within, get_or_from_slice_get}
 use Rattle.std.specs.List.{AllByRecursion}
@@ -10,7 +10,9 @@ use Rattle.ua_table.proofs.Lists.{mapped_from}
 use Rattle.ua_term.specs.Trees.{node_count}
 use Rattle.ua_term.specs.Steps.{StepList, unfolded, step_term, step_values, within}
 use Rattle.ua_term.proofs.StepLaws.{step_is_term, length_values}
-use Rattle.ua_close.specs.declared.memberships.Answer.TheVariants.{No}
+use Rattle.ua_close.specs.declared.close.CloseError.{CloseError}
+use Rattle.ua_close.specs.declared.memberships.Answer.{Answer}
+use Rattle.ua_close.specs.declared.memberships.Answer.TheVariants.{Yes, No, Exceeds}
 use Rattle.ua_close.specs.Memberships.{AreStepsTo}
 use Rattle.ua_close.specs.Permitted.{MayMember}
 use Rattle.ua_clone.specs.declared.kinds.CloneKind.{CloneKind}
@@ -18,7 +20,7 @@ use Rattle.ua_clone.specs.declared.polynomials.Poly.{Poly}
 use Rattle.ua_clone.specs.Points.{Point, IsPoint}
 use Rattle.ua_clone.specs.Polynomials.{named_elements, IsPolynomial, AgreesWith, HasPolynomial, polynomial_of, variables_of, IsPoly}
 use Rattle.ua_clone.specs.Frames.{point_power, point_generators, wanted_values}
-use Rattle.ua_clone.specs.Permitted.{WriteAgreeing}
+use Rattle.ua_clone.specs.Permitted.{WriteAgreeing, TellsPolynomial}
 use Rattle.ua_clone.proofs.PolynomialLaws.{term_wider, few_elements, generator_count, same_arities, written_from, member_from_polynomial}
 
 -- what a tree with few nodes is cut to is the tree
@@ -61,6 +63,13 @@ module _ (a : FiniteAlgebra) (k : ℕ) (kind : CloneKind) (ps : List Point) wher
   -- a closed listing without it says that no polynomial does
   pub none_agrees : (b w : ℕ) (rows : List Row) → 0 < length ps → AllByRecursion (IsPoint a.size k) ps → MayMember power gens wanted b w (Ok (No rows)) → ¬ HasPolynomial a k kind ps
   none_agrees b w rows some points may has = may.1.1 ((may.1.0.exact wanted).1 (member_from_polynomial a k kind ps some points has))
+
+  -- so an answer about the vector says the same of polynomials
+  pub tells : 0 < length ps → AllByRecursion (IsPoint a.size k) ps → (b w : ℕ) (answer : Result Answer CloseError) → MayMember power gens wanted b w answer → TellsPolynomial a k kind ps answer
+  tells some points b w (Ok (Yes steps)) may = steps_write steps some points may.1
+  tells some points b w (Ok (No rows)) may = none_agrees b w rows some points may
+  tells some points b w (Ok (Exceeds rows)) may = tt
+  tells some points b w (Err error) may = tt
 
   -- what is made of the last step is what the steps write
   pub made_agrees : (s : StepList) (limit : ℕ) (p : Poly) → WriteAgreeing a k kind ps s → Some (polynomial_of k p) ≡ within limit (step_term s.arities s.items (length s.items - 1)) → variables_of p ≤ k → IsPoly a k p × IsPolynomial a k kind (polynomial_of k p) × AgreesWith a ps (polynomial_of k p)

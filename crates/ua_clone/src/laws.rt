@@ -1,8 +1,8 @@
-//! Laws of polynomials that agree with points: the function does nothing, and its contract states them.
+//! Laws of polynomials that agree with points: each function does nothing, and its contract states them.
 
 ghost use Rattle.std.specs.Prelude.{◌≡◌, ◌↔◌, ◌-◌, ℕ, ◌<◌, ◌≤◌, List, length, map, Some};
 ghost use Rattle.std.specs.List.{AllByRecursion};
-ghost use Rattle.ua_table.specs.Algebras.{FiniteAlgebra, IsVector, arities_of, arities};
+ghost use Rattle.ua_table.specs.Algebras.{FiniteAlgebra, IsAlgebra, IsVector, arities_of, arities};
 ghost use Rattle.ua_table.specs.Terms.{Tree, IsTerm, term_value, eval};
 ghost use Rattle.ua_table.specs.Generated.{Sg};
 ghost use Rattle.ua_term.specs.Steps.{StepList, step_term, within};
@@ -11,7 +11,9 @@ ghost use Rattle.ua_clone.specs.declared.polynomials.Poly.{Poly};
 ghost use Rattle.ua_clone.specs.Points.{Point, IsPoint};
 ghost use Rattle.ua_clone.specs.Polynomials.{IsPolynomial, polynomial_value, AgreesWith, HasPolynomial, named_elements, polynomial_of, variables_of, IsPoly};
 ghost use Rattle.ua_clone.specs.Frames.{point_power, point_generators, wanted_values};
-ghost use Rattle.ua_clone.specs.Permitted.{WriteAgreeing};
+ghost use Rattle.ua_clone.specs.Permitted.{WriteAgreeing, MayClone};
+ghost use Rattle.ua_close.specs.declared.close.CloseError.{CloseError};
+ghost use Rattle.ua_close.specs.Permitted.{IsAnswerable};
 
 /// In the power with a coordinate for each point, a term at the vectors of variables and elements has as its
 /// value the polynomial's values at the points. So the vector of the wanted values is generated exactly where
@@ -28,4 +30,9 @@ pub fn polynomials()
     ensures made { (a : FiniteAlgebra) (k : ℕ) (kind : CloneKind) (ps : List Point) (s : StepList) (limit : ℕ) (p : Poly) → WriteAgreeing a k kind ps s → Some (polynomial_of k p) ≡ within limit (step_term s.arities s.items (length s.items - 1)) → variables_of p ≤ k → IsPoly a k p × IsPolynomial a k kind (polynomial_of k p) × AgreesWith a ps (polynomial_of k p) }
     ensures terms { (a : FiniteAlgebra) (xs : List ℕ) (t : Tree) → IsTerm (arities_of a) (length xs) t → polynomial_value a xs t ≡ eval a xs t }
     ensures few { (kind : CloneKind) (n : ℕ) → named_elements kind n ≤ n }
+{}
+
+/// Whether some polynomial of the kind agrees with points can be told otherwise than by want of memory.
+pub fn answers()
+    ensures { (a : FiniteAlgebra) (k : ℕ) (kind : CloneKind) (ps : List Point) (b w : ℕ) → IsAlgebra a → 0 < length ps → AllByRecursion (IsPoint a.size k) ps → IsAnswerable (MayClone a k kind ps b w) CloseError.OutOfMemory }
 {}

@@ -3,5 +3,6 @@
 
 mod decisions;
 mod frames;
+pub mod laws;
 
 pub use decisions::{decide, decide_rule};
