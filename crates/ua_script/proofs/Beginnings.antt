@@ -1,20 +1,19 @@
 -- The first token of a command.
-use Rattle.std.proofs.Common.{◌≡◌, ℕ, Bool, ◌||◌, true, false, List, ◌∷◌, ◌++◌, [], codes, refl, sym, subst}
-use Rattle.std.proofs.lemmas.Bool.{or_parts}
+use Rattle.std.proofs.Common.{◌≡◌, ℕ, Bool, ◌||◌, true, false, List, [], ◌∷◌, ◌++◌, Option, codes, refl, sym, subst}
+use Rattle.std.proofs.lemmas.Bool.{or_parts, not-true}
+use Rattle.ua_text.specs.declared.symbols.Role.TheVariants as roles
+use Rattle.ua_text.specs.declared.tokens.Place.{Place}
 use Rattle.ua_text.specs.Bytes.{is_number}
 use Rattle.ua_text.specs.Words.{same}
-use Rattle.ua_text.specs.Pieces.{Placed}
-use Rattle.ua_text.specs.Signs.{Wanted, Front, Spelled, IsSign, may_spell}
+use Rattle.ua_text.specs.Signs.{Wanted, sign, Spelled, may_spell}
 use Rattle.ua_text.specs.Reading.{begins_with}
-use Rattle.ua_script.specs.declared.script.Provable.TheVariants as provables
 use Rattle.ua_script.specs.declared.script.Command.{Command}
-use Rattle.ua_script.specs.declared.script.Command.TheVariants as commands
-use Rattle.ua_script.specs.Grammar.{command}
+use Rattle.ua_script.specs.declared.forms.CommandForm.{CommandForm}
+use Rattle.ua_script.specs.Operands.{values_text}
+use Rattle.ua_script.specs.Forms.{word_of, parts_of, asked}
+use Rattle.ua_script.specs.Grammar.{first_word, heading, command}
 use Rattle.ua_operands.specs.Reading.{begins_item, may_be_number}
-
--- it begins no command
-abbrev pub begins_other : List ℕ → Bool
-begins_other text = same text (codes "[") || (same text (codes "least") || (same text (codes "count") || (same text (codes "algebra") || (same text (codes "version") || (is_number text || same text (codes "("))))))
+use Rattle.ua_script.proofs.Table.{begins_other, no_other}
 
 -- so it is none of the words that begin another thing
 pub record IsPlain (text : List ℕ) : Type 0 where
@@ -40,51 +39,21 @@ plain text h =
 pub spelled_other : (w : Wanted) (word text : List ℕ) → w.sign ≡ Spelled word → same word text ≡ false → may_spell w.sign text ≡ false
 spelled_other w word text e h = subst (λ z. may_spell z text ≡ false) (sym e) h
 
--- what a token is that spells a word
-pub its_word : (w : Wanted) (word text : List ℕ) → w.sign ≡ Spelled word → IsSign w.sign text → text ≡ word
-its_word w word text e h = let f : IsSign (Spelled word) text = subst (λ z. IsSign z text) e h in f
-
--- the first token of a command, and those behind it
-pub record Begun (c : Command) : Type 0 where
+-- the first token, and those behind it
+pub record Begun (ws : List Wanted) : Type 0 where
   pub first : Wanted
   pub rest : List Wanted
   pub word : List ℕ
-  pub text : command c ≡ first ∷ rest
+  pub text : ws ≡ first ∷ rest
   pub spelled : first.sign ≡ Spelled word
   pub other : begins_other word ≡ false
 
-abbrev pub starts : {c : Command} {w : Wanted} {rest : List Wanted} {t : List ℕ} → command c ≡ w ∷ rest → w.sign ≡ Spelled t → begins_other t ≡ false → Begun c
-starts {c} {w} {rest} {t} e f h = record { first = w; rest = rest; word = t; text = e; spelled = f; other = h }
+begun_heading : (f : CommandForm) (cert : Bool) (place : Option Place) (ws : List Wanted) → Begun (heading cert (word_of f) place ++ ws)
+begun_heading f true place ws = record { first = sign roles.Begins (codes "cert"); rest = first_word roles.Form (word_of f) place ∷ ws; word = codes "cert"; text = refl; spelled = refl; other = refl }
+begun_heading f false place ws = record { first = first_word roles.Begins (word_of f) place; rest = ws; word = word_of f; text = refl; spelled = refl; other = not-true (begins_other (word_of f)) (no_other f) }
 
-abbrev pub begun : (c : Command) → Begun c
-begun (commands.Ask (provables.Close a w vs) m false) = starts refl refl refl
-begun (commands.Eval a t args) = starts refl refl refl
-begun (commands.Cg a pairs) = starts refl refl refl
-begun (commands.Ask (provables.Member a w vs t) m false) = starts refl refl refl
-begun (commands.Ask (provables.Cond a n) m false) = starts refl refl refl
-begun (commands.Ask (provables.Nu a k) m false) = starts refl refl refl
-begun (commands.Ask (provables.Jonsson a) m false) = starts refl refl refl
-begun (commands.Ask (provables.Hm a) m false) = starts refl refl refl
-begun (commands.Ask what m true) = starts refl refl refl
-begun (commands.Free a k m) = starts refl refl refl
-begun (commands.Sub a set) = starts refl refl refl
-begun (commands.Ones a) = starts refl refl refl
-begun (commands.Con a) = starts refl refl refl
-begun (commands.Types a) = starts refl refl refl
-begun (commands.Day a) = starts refl refl refl
-begun (commands.Condition a k is) = starts refl refl refl
-begun (commands.Clone a k kind ps) = starts refl refl refl
-begun (commands.Central a alpha beta delta) = starts refl refl refl
-begun (commands.Comm a alpha beta) = starts refl refl refl
-begun (commands.Series a kind) = starts refl refl refl
-begun (commands.Holds a left right) = starts refl refl refl
-begun (commands.Hom a b gens images) = starts refl refl refl
-begun (commands.Check a json) = starts refl refl refl
-begun (commands.Make place name what) = starts refl refl refl
-
--- a command in front of tokens, without its word
-pub behind_word : (c : Command) (ts : List Placed) (ws : List Wanted) → Front ts (command c ++ ws) [] → let b = begun c in Front ts (b.first ∷ (b.rest ++ ws)) []
-behind_word c ts ws f = let b = begun c in subst (λ z. Front ts (z ++ ws) []) b.text f
+pub begun : (c : Command) → Begun (command c)
+begun c = let a = asked c in begun_heading a.form a.cert a.place (values_text (parts_of a.form) a.values)
 
 -- a command begins with neither a vector, nor a mode, nor a number, nor a parenthesis
 pub command_begins : (c : Command) (ws : List Wanted) → begins_item (command c ++ ws)

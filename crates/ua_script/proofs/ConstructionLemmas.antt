@@ -11,7 +11,7 @@ use Rattle.ua_operands.specs.declared.written.PartText.{PartText}
 use Rattle.ua_script.specs.declared.script.MakeForm.{MakeForm}
 use Rattle.ua_script.specs.declared.script.MakeForm.TheVariants.{Product, Quotient, Sub, Reduct}
 use Rattle.ua_operands.specs.Written.{word, vector, part, names}
-use Rattle.ua_script.specs.Grammar.{construction}
+use Rattle.ua_script.specs.Operands.{construction}
 
 -- the word of a construction
 abbrev pub first_of : MakeForm → List ℕ

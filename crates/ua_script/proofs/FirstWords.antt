@@ -1,10 +1,10 @@
--- The search for the first word of a command.
+-- The search for the form of a word.
 use Rattle.std.proofs.Common.{◌≡◌, ◌<◌, ◌∙◌, ◌+◌, ℕ, List, length, drop, get_or, false, if◌then◌else◌, Some, ap}
 use Rattle.std.proofs.lemmas.List.{at_drop_more}
 use Rattle.ua_text.specs.Words.{same}
-use Rattle.ua_script.specs.declared.commands.FirstWord.{FirstWord}
-use Rattle.ua_script.specs.Reading.{first_text, found_first}
+use Rattle.ua_script.specs.declared.forms.CommandForm.{CommandForm}
+use Rattle.ua_script.specs.Forms.{word_of, found_form}
 
 -- a word that begins another command is passed over
-pub found_first-other : (t : List ℕ) (ws : List FirstWord) (i : ℕ) (d : FirstWord) → i < length ws → same t (first_text (get_or ws i d)) ≡ false → found_first t (drop i ws) ≡ found_first t (drop (i + 1) ws)
-found_first-other t ws i d before other = at_drop_more (found_first t) ws i d before ∙ ap (λ b. if b then Some (get_or ws i d) else found_first t (drop (i + 1) ws)) other
+pub found_form-other : (t : List ℕ) (ws : List CommandForm) (i : ℕ) (d : CommandForm) → i < length ws → same t (word_of (get_or ws i d)) ≡ false → found_form t (drop i ws) ≡ found_form t (drop (i + 1) ws)
+found_form-other t ws i d before other = at_drop_more (found_form t) ws i d before ∙ ap (λ b. if b then Some (get_or ws i d) else found_form t (drop (i + 1) ws)) other

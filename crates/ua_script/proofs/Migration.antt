@@ -2,23 +2,24 @@
 use Rattle.std.proofs.Common.{inl, inr, ℕ, zero, suc, ◌<◌, get_or, length, List, [], ◌∷◌, refl, arith}
 use Rattle.std.specs.List.{AllByRecursion}
 use Rattle.ua_text.specs.declared.named.Block.{Block}
+use Rattle.ua_text.specs.declared.symbols.Table.TheVariants.{Constructions, Points}
+use Rattle.ua_text.specs.declared.symbols.Part.{Part}
+use Rattle.ua_text.specs.declared.symbols.Part.TheVariants as parts
 use Rattle.ua_text.specs.Blocks.{IsBlock, MayName}
 use Rattle.ua_text.proofs.BlocksRead.{limited}
 use Rattle.ua_operands.specs.declared.written.Entry.{Entry}
 use Rattle.ua_operands.specs.declared.written.Entry.TheVariants as entries
 use Rattle.ua_operands.specs.declared.written.Items.{Items}
-use Rattle.ua_script.specs.declared.script.Provable.{Provable}
-use Rattle.ua_script.specs.declared.script.Provable.TheVariants as provables
 use Rattle.ua_operands.specs.declared.written.PointsText.{PointsText}
 use Rattle.ua_operands.specs.declared.written.PointsText.TheVariants.{Total, Partial}
 use Rattle.ua_script.specs.declared.script.MakeForm.{MakeForm}
 use Rattle.ua_script.specs.declared.script.MakeForm.TheVariants as forms
-use Rattle.ua_script.specs.declared.script.Command.{Command}
-use Rattle.ua_script.specs.declared.script.Command.TheVariants as commands
 use Rattle.ua_script.specs.declared.script.Item.{Item}
 use Rattle.ua_script.specs.declared.script.Item.TheVariants as items
 use Rattle.ua_script.specs.declared.script.Script.{Script}
-use Rattle.ua_script.specs.Grammar.{IsEntry, IsVector, AreVectors, IsProvable, IsConstruction, IsCommand, IsItem, IsWellFormed, migrated, ArePoints}
+use Rattle.ua_script.specs.Forms.{asked, parts_of}
+use Rattle.ua_script.specs.Operands.{Value, Values, IsValue, AreValues, IsEntry, IsVector, AreVectors, IsConstruction, ArePoints}
+use Rattle.ua_script.specs.Grammar.{IsItem, IsWellFormed, migrated}
 
 later_names : (version size : ℕ) (names : List (List ℕ)) → MayName version size names → MayName 2 size names
 later_names version size names (inl e) = inl e
@@ -46,43 +47,27 @@ later_points : (version : ℕ) (ps : PointsText) → ArePoints version ps → Ar
 later_points version (Total v) h = later_vector version v h
 later_points version (Partial v vs) h = (later_vector version v h.0, later_vectors version vs h.1)
 
-later_provable : (version : ℕ) (p : Provable) → IsProvable version p → IsProvable 2 p
-later_provable version (provables.Close a w gens) h = later_vectors version gens h
-later_provable version (provables.Member a w gens target) h = (later_vectors version gens h.0, later_vector version target h.1)
-later_provable version (provables.Cond a name) h = tt
-later_provable version (provables.Nu a k) h = tt
-later_provable version (provables.Jonsson a) h = tt
-later_provable version (provables.Hm a) h = tt
-
 later_construction : (version : ℕ) (m : MakeForm) → IsConstruction version m → IsConstruction 2 m
 later_construction version (forms.Product a b) h = tt
 later_construction version (forms.Quotient a p) h = h
 later_construction version (forms.Sub a v) h = later_vector version v h
 later_construction version (forms.Reduct a ops) h = h
 
-later_command : (version : ℕ) (c : Command) → IsCommand version c → IsCommand 2 c
-later_command version (commands.Ask what m cert) h = (h.0, later_provable version what h.1)
-later_command version (commands.Free a k m) h = tt
-later_command version (commands.Sub a set) h = later_vector version set h
-later_command version (commands.Ones a) h = tt
-later_command version (commands.Eval a t args) h = (h.0, later_vector version args h.1)
-later_command version (commands.Cg a pairs) h = later_vectors version pairs h
-later_command version (commands.Con a) h = tt
-later_command version (commands.Types a) h = tt
-later_command version (commands.Day a) h = tt
-later_command version (commands.Condition a k is) h = h
-later_command version (commands.Clone a k kind ps) h = later_points version ps h
-later_command version (commands.Central a alpha beta delta) h = h
-later_command version (commands.Comm a alpha beta) h = h
-later_command version (commands.Series a kind) h = tt
-later_command version (commands.Holds a left right) h = h
-later_command version (commands.Hom a b gens images) h = (later_vector version gens h.0, later_vector version images h.1)
-later_command version (commands.Check a json) h = tt
-later_command version (commands.Make place name what) h = later_construction version what h
+later_value : (version : ℕ) (p : Part) (x : Value p) → IsValue version p x → IsValue 2 p x
+later_value version parts.Vector x h = later_vector version x h
+later_value version parts.Vectors x h = later_vectors version x h
+later_value version parts.Body x h = later_block version x h
+later_value version (parts.Pick Constructions) x h = later_construction version x h
+later_value version (parts.Pick Points) x h = later_points version x h
+later_value version p x h = h
+
+later_values : (version : ℕ) (ps : List Part) (x : Values ps) → AreValues version ps x → AreValues 2 ps x
+later_values version [] x h = tt
+later_values version (p ∷ ps) x h = (later_value version p x.0 h.0, later_values version ps x.1 h.1)
 
 later : (version : ℕ) (i : Item) → IsItem version i → IsItem 2 i
 later version (items.Block b) h = later_block version b h
-later version (items.Command c) h = later_command version c h
+later version (items.Command c) h = (h.0, later_values version (parts_of (asked c).form) (asked c).values h.1)
 
 all_later : (version : ℕ) (is : List Item) → AllByRecursion (IsItem version) is → AllByRecursion (IsItem 2) is
 all_later version [] h = tt

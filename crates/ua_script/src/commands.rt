@@ -1,184 +1,323 @@
 //! Readers of commands. What is written for a command is read as that command, with its places, unless
 //! memory runs out.
 
-ghost use Rattle.std.specs.Prelude.{◌≡◌, ◌<◌, ◌∷◌, ◌++◌, ℕ, List, [], length, true, false, IfOk, codes};
-ghost use Rattle.std.specs.List.{flat_map, AllByRecursion};
-ghost use Rattle.ua_table.specs.declared.limits.TheConstants.{NESTING};
-ghost use Rattle.ua_table.specs.Names.{is_name};
+ghost use Rattle.std.specs.Prelude.{◌≡◌, ◌≤◌, ◌<◌, ◌∷◌, ◌++◌, ℕ, List, [], length, false, IfOk};
 ghost use Rattle.ua_text.specs.declared.symbols.Role.{Role};
-ghost use Rattle.ua_text.specs.Signs.{Wanted, sign, AreSpelled, Front};
+ghost use Rattle.ua_text.specs.declared.tokens.Place.{Place};
+ghost use Rattle.ua_text.specs.Signs.{Wanted, sign, Front};
 ghost use Rattle.ua_text.specs.Tokens.{tokens_left, source_of};
 ghost use Rattle.ua_text.specs.Reading.{Gives};
-ghost use Rattle.ua_operands.specs.declared.written.Word.{Word};
-ghost use Rattle.ua_operands.specs.declared.written.Number.{Number};
-ghost use Rattle.ua_operands.specs.declared.written.Items.{Items};
-ghost use Rattle.ua_operands.specs.declared.written.Mode.{Mode};
-ghost use Rattle.ua_script.specs.declared.script.Provable.{Provable};
+ghost use Rattle.ua_operands.specs.Reading.{begins_item};
 ghost use Rattle.ua_script.specs.declared.script.Command.{Command};
 ghost use Rattle.ua_script.specs.declared.script.Item.{Item};
-ghost use Rattle.ua_term.specs.Phrases.{Phrase, IsNested};
-ghost use Rattle.ua_term.specs.Terms.{term};
-ghost use Rattle.ua_operands.specs.Written.{word, number, vector, mode};
+ghost use Rattle.ua_script.specs.declared.forms.CommandForm.{CommandForm};
+ghost use Rattle.ua_script.specs.Operands.{Values};
+ghost use Rattle.ua_script.specs.Forms.{parts_of, made, certified};
+ghost use Rattle.ua_script.specs.Families.{IsQuestion, IsOfCongruences, IsOfConditions, IsOfAlgebras};
 ghost use Rattle.ua_script.specs.Grammar.{command};
-ghost use Rattle.ua_operands.specs.Reading.{IsShort, IsShortVector, begins_item};
-ghost use Rattle.ua_script.specs.Reading.{IsReadableItem, is_certified, certified, first_words, found_first};
+ghost use Rattle.ua_script.specs.Reading.{Standing, Beginning, IsMade, IsReadableItem};
 
-use crate::clones::clone_membership;
-use crate::conditions::{cond, condition, day, hm, jonsson, nu};
-use crate::congruences::{central, cg, comm, con, descent, types};
-use crate::constructions::make;
+use crate::constructions::construction;
+use crate::forms::{CommandForm, found_form};
 use crate::script::{Command, Provable};
 use std::alloc::Global;
 use ua_operands::Mode;
-use ua_operands::readers::{amount, mode, place_of, vector, vectors, word};
+use ua_operands::identities::identities;
+use ua_operands::points::{clone_word, points};
+use ua_operands::readers::{
+    amount, condition, mode, part, place_of, series, vector, vectors, word,
+};
 use ua_table::Listed;
 use ua_table::limits::NESTING;
 use ua_term::term;
-use ua_text::{Miss, Tokens, exact, is_next, next};
+use ua_text::{Miss, Place, Tokens, exact, is_next, next};
 
-/// A `close` behind its first word.
-fn close(alloc: Global, tokens: &mut Tokens<'_>) -> Result<Command, Miss>
-    ensures only { (a : Word) (w : Number) (vs : List Items) (m : Mode) (ws : List Wanted) → is_name a.name ≡ true → IsShort w → AllByRecursion IsShortVector vs → begins_item ws → Front (tokens_left tokens.old) (word a ∷ number Role.Amount w ∷ (flat_map vector vs ++ (mode m ++ ws))) [] → Gives result (λ x. (x ≡ Command.Ask (Provable.Close a w vs) m false) × Front (tokens_left tokens.new) ws []) }
+/// The text of a certificate.
+fn json(alloc: Global, tokens: &mut Tokens<'_>) -> Result<Listed<u8>, Miss>
+    ensures only { (json : List ℕ) (ws : List Wanted) → Front (tokens_left tokens.old) (sign Role.Json json ∷ ws) [] → Gives result (λ x. (x ≡ json) × Front (tokens_left tokens.new) ws []) }
     ensures progress { IfOk result (λ x. length (tokens_left tokens.new) < length (tokens_left tokens.old)) }
     ensures source { source_of tokens.new ≡ source_of tokens.old }
 {
-    let algebra = word(alloc, tokens)?;
-    let width = amount(tokens)?;
-    let gens = vectors(alloc, tokens)?;
-    let mode = mode(tokens)?;
-    let what = Provable::Close {
-        algebra,
-        width,
-        gens,
-    };
-    Ok(Command::Ask {
+    let token = next(tokens)?;
+    let json = Vec::from_slice(alloc, token.text)?;
+    Ok(Listed::new(json))
+}
+
+/// The question of a form behind its word.
+fn question(alloc: Global, form: CommandForm, tokens: &mut Tokens<'_>) -> Result<Command, Miss>
+    requires { IsQuestion form }
+    ensures only { (p : Place) (x : Values (parts_of form)) (ws : List Wanted) → Standing (parts_of form) x (tokens_left tokens.old) ws → Gives result (λ c. (c ≡ made form p x) × Front (tokens_left tokens.new) ws []) }
+    ensures progress { IfOk result (λ x. length (tokens_left tokens.new) ≤ length (tokens_left tokens.old)) }
+    ensures source { source_of tokens.new ≡ source_of tokens.old }
+{
+    match form {
+        CommandForm::Close => {
+            let algebra = word(alloc, tokens)?;
+            let width = amount(tokens)?;
+            let gens = vectors(alloc, tokens)?;
+            let mode = mode(tokens)?;
+            let what = Provable::Close {
+                algebra,
+                width,
+                gens,
+            };
+            Ok(ask(what, mode))
+        }
+        CommandForm::Member => {
+            let algebra = word(alloc, tokens)?;
+            let width = amount(tokens)?;
+            let gens = vectors(alloc, tokens)?;
+            exact(tokens, b"=")?;
+            let target = vector(alloc, tokens)?;
+            let what = Provable::Member {
+                algebra,
+                width,
+                gens,
+                target,
+            };
+            Ok(ask(what, Mode::Plain))
+        }
+        CommandForm::Cond => {
+            let algebra = word(alloc, tokens)?;
+            let name = condition(tokens)?;
+            let what = Provable::Cond { algebra, name };
+            Ok(ask(what, Mode::Plain))
+        }
+        CommandForm::Nu => {
+            let algebra = word(alloc, tokens)?;
+            let k = amount(tokens)?;
+            let what = Provable::Nu { algebra, k };
+            Ok(ask(what, Mode::Plain))
+        }
+        CommandForm::Jonsson => {
+            let algebra = word(alloc, tokens)?;
+            let what = Provable::Jonsson { algebra };
+            Ok(ask(what, Mode::Plain))
+        }
+        CommandForm::Hm => {
+            let algebra = word(alloc, tokens)?;
+            let what = Provable::Hm { algebra };
+            Ok(ask(what, Mode::Plain))
+        }
+        _ => unreachable!(),
+    }
+}
+
+/// The command on congruences of a form behind its word.
+fn on_congruences(
+    alloc: Global,
+    form: CommandForm,
+    tokens: &mut Tokens<'_>,
+) -> Result<Command, Miss>
+    requires { IsOfCongruences form }
+    ensures only { (p : Place) (x : Values (parts_of form)) (ws : List Wanted) → Standing (parts_of form) x (tokens_left tokens.old) ws → Gives result (λ c. (c ≡ made form p x) × Front (tokens_left tokens.new) ws []) }
+    ensures progress { IfOk result (λ x. length (tokens_left tokens.new) ≤ length (tokens_left tokens.old)) }
+    ensures source { source_of tokens.new ≡ source_of tokens.old }
+{
+    match form {
+        CommandForm::Cg => {
+            let algebra = word(alloc, tokens)?;
+            let pairs = vectors(alloc, tokens)?;
+            Ok(Command::Cg { algebra, pairs })
+        }
+        CommandForm::Con => {
+            let algebra = word(alloc, tokens)?;
+            Ok(Command::Con { algebra })
+        }
+        CommandForm::Types => {
+            let algebra = word(alloc, tokens)?;
+            Ok(Command::Types { algebra })
+        }
+        CommandForm::Central => {
+            let algebra = word(alloc, tokens)?;
+            let alpha = part(alloc, tokens)?;
+            let beta = part(alloc, tokens)?;
+            let delta = part(alloc, tokens)?;
+            Ok(Command::Central {
+                algebra,
+                alpha,
+                beta,
+                delta,
+            })
+        }
+        CommandForm::Comm => {
+            let algebra = word(alloc, tokens)?;
+            let alpha = part(alloc, tokens)?;
+            let beta = part(alloc, tokens)?;
+            Ok(Command::Comm {
+                algebra,
+                alpha,
+                beta,
+            })
+        }
+        CommandForm::Series => {
+            let algebra = word(alloc, tokens)?;
+            let kind = series(tokens)?;
+            Ok(Command::Series { algebra, kind })
+        }
+        _ => unreachable!(),
+    }
+}
+
+/// The command on identities, conditions, chains or clones of terms of a form behind its word.
+fn on_conditions(alloc: Global, form: CommandForm, tokens: &mut Tokens<'_>) -> Result<Command, Miss>
+    requires { IsOfConditions form }
+    ensures only { (p : Place) (x : Values (parts_of form)) (ws : List Wanted) → Standing (parts_of form) x (tokens_left tokens.old) ws → Gives result (λ c. (c ≡ made form p x) × Front (tokens_left tokens.new) ws []) }
+    ensures progress { IfOk result (λ x. length (tokens_left tokens.new) ≤ length (tokens_left tokens.old)) }
+    ensures source { source_of tokens.new ≡ source_of tokens.old }
+{
+    match form {
+        CommandForm::Holds => {
+            let algebra = word(alloc, tokens)?;
+            let left = term(alloc, tokens, NESTING as u8)?;
+            exact(tokens, b"=")?;
+            let right = term(alloc, tokens, NESTING as u8)?;
+            Ok(Command::Holds {
+                algebra,
+                left,
+                right,
+            })
+        }
+        CommandForm::Day => {
+            let algebra = word(alloc, tokens)?;
+            Ok(Command::Day { algebra })
+        }
+        CommandForm::Condition => {
+            let algebra = word(alloc, tokens)?;
+            let arity = amount(tokens)?;
+            let identities = identities(alloc, tokens)?;
+            Ok(Command::Condition {
+                algebra,
+                arity,
+                identities,
+            })
+        }
+        CommandForm::Clone => {
+            let algebra = word(alloc, tokens)?;
+            let arity = amount(tokens)?;
+            let kind = clone_word(tokens)?;
+            let points = points(alloc, tokens)?;
+            Ok(Command::Clone {
+                algebra,
+                arity,
+                kind,
+                points,
+            })
+        }
+        _ => unreachable!(),
+    }
+}
+
+/// The command on algebras, terms and maps of a form behind its word.
+fn on_algebras(alloc: Global, form: CommandForm, tokens: &mut Tokens<'_>) -> Result<Command, Miss>
+    requires { IsOfAlgebras form }
+    ensures only { (p : Place) (x : Values (parts_of form)) (ws : List Wanted) → Standing (parts_of form) x (tokens_left tokens.old) ws → Gives result (λ c. (c ≡ made form p x) × Front (tokens_left tokens.new) ws []) }
+    ensures progress { IfOk result (λ x. length (tokens_left tokens.new) ≤ length (tokens_left tokens.old)) }
+    ensures source { source_of tokens.new ≡ source_of tokens.old }
+{
+    match form {
+        CommandForm::Free => {
+            let algebra = word(alloc, tokens)?;
+            let k = amount(tokens)?;
+            let mode = mode(tokens)?;
+            Ok(Command::Free { algebra, k, mode })
+        }
+        CommandForm::Sub => {
+            let algebra = word(alloc, tokens)?;
+            let set = vector(alloc, tokens)?;
+            Ok(Command::Sub { algebra, set })
+        }
+        CommandForm::Ones => {
+            let algebra = word(alloc, tokens)?;
+            Ok(Command::Ones { algebra })
+        }
+        CommandForm::Eval => {
+            let algebra = word(alloc, tokens)?;
+            let term = term(alloc, tokens, NESTING as u8)?;
+            let args = vector(alloc, tokens)?;
+            Ok(Command::Eval {
+                algebra,
+                term,
+                args,
+            })
+        }
+        CommandForm::Hom => {
+            let first = word(alloc, tokens)?;
+            let second = word(alloc, tokens)?;
+            let gens = vector(alloc, tokens)?;
+            let images = vector(alloc, tokens)?;
+            Ok(Command::Hom {
+                first,
+                second,
+                gens,
+                images,
+            })
+        }
+        CommandForm::Check => {
+            let algebra = word(alloc, tokens)?;
+            let json = json(alloc, tokens)?;
+            Ok(Command::Check { algebra, json })
+        }
+        _ => unreachable!(),
+    }
+}
+
+/// A `make` behind its word, which stands at this place.
+fn make(alloc: Global, place: Place, tokens: &mut Tokens<'_>) -> Result<Command, Miss>
+    ensures only { (x : Values (parts_of CommandForm.Make)) (ws : List Wanted) → Standing (parts_of CommandForm.Make) x (tokens_left tokens.old) ws → Gives result (λ c. (c ≡ made CommandForm.Make place x) × Front (tokens_left tokens.new) ws []) }
+    ensures progress { IfOk result (λ x. length (tokens_left tokens.new) ≤ length (tokens_left tokens.old)) }
+    ensures source { source_of tokens.new ≡ source_of tokens.old }
+{
+    let name = word(alloc, tokens)?;
+    let what = construction(alloc, tokens)?;
+    Ok(Command::Make { place, name, what })
+}
+
+/// The command of a form behind its word, which stands at this place.
+fn operands(
+    alloc: Global,
+    form: CommandForm,
+    place: Place,
+    tokens: &mut Tokens<'_>,
+) -> Result<Command, Miss>
+    ensures only { (x : Values (parts_of form)) (ws : List Wanted) → Standing (parts_of form) x (tokens_left tokens.old) ws → Gives result (λ c. (c ≡ made form place x) × Front (tokens_left tokens.new) ws []) }
+    ensures progress { IfOk result (λ x. length (tokens_left tokens.new) ≤ length (tokens_left tokens.old)) }
+    ensures source { source_of tokens.new ≡ source_of tokens.old }
+{
+    match form {
+        CommandForm::Close
+        | CommandForm::Member
+        | CommandForm::Cond
+        | CommandForm::Nu
+        | CommandForm::Jonsson
+        | CommandForm::Hm => question(alloc, form, tokens),
+        CommandForm::Cg
+        | CommandForm::Con
+        | CommandForm::Types
+        | CommandForm::Central
+        | CommandForm::Comm
+        | CommandForm::Series => on_congruences(alloc, form, tokens),
+        CommandForm::Holds | CommandForm::Day | CommandForm::Condition | CommandForm::Clone =>
+            on_conditions(alloc, form, tokens),
+        CommandForm::Free
+        | CommandForm::Sub
+        | CommandForm::Ones
+        | CommandForm::Eval
+        | CommandForm::Hom
+        | CommandForm::Check => on_algebras(alloc, form, tokens),
+        CommandForm::Make => make(alloc, place, tokens),
+    }
+}
+
+/// A question without a certificate.
+fn ask(what: Provable, mode: Mode) -> Command
+    ensures { result ≡ Command.Ask what mode false }
+{
+    Command::Ask {
         what,
         mode,
         cert: false,
-    })
-}
-
-/// A `member` behind its first word.
-fn member(alloc: Global, tokens: &mut Tokens<'_>) -> Result<Command, Miss>
-    ensures only { (a : Word) (w : Number) (vs : List Items) (t : Items) (ws : List Wanted) → is_name a.name ≡ true → IsShort w → AllByRecursion IsShortVector vs → IsShortVector t → Front (tokens_left tokens.old) (word a ∷ number Role.Amount w ∷ (flat_map vector vs ++ (sign Role.Exact (codes "=") ∷ (vector t ++ ws)))) [] → Gives result (λ x. (x ≡ Command.Ask (Provable.Member a w vs t) Mode.Plain false) × Front (tokens_left tokens.new) ws []) }
-    ensures progress { IfOk result (λ x. length (tokens_left tokens.new) < length (tokens_left tokens.old)) }
-    ensures source { source_of tokens.new ≡ source_of tokens.old }
-{
-    let algebra = word(alloc, tokens)?;
-    let width = amount(tokens)?;
-    let gens = vectors(alloc, tokens)?;
-    exact(tokens, b"=")?;
-    let target = vector(alloc, tokens)?;
-    let what = Provable::Member {
-        algebra,
-        width,
-        gens,
-        target,
-    };
-    Ok(Command::Ask {
-        what,
-        mode: Mode::Plain,
-        cert: false,
-    })
-}
-
-/// An `eval` behind its first word.
-fn eval(alloc: Global, tokens: &mut Tokens<'_>) -> Result<Command, Miss>
-    ensures only { (a : Word) (p : Phrase) (v : Items) (ws : List Wanted) → is_name a.name ≡ true → IsNested NESTING p → AreSpelled [] (term p) → IsShortVector v → Front (tokens_left tokens.old) (word a ∷ (term p ++ (vector v ++ ws))) [] → Gives result (λ x. (x ≡ Command.Eval a p v) × Front (tokens_left tokens.new) ws []) }
-    ensures progress { IfOk result (λ x. length (tokens_left tokens.new) < length (tokens_left tokens.old)) }
-    ensures source { source_of tokens.new ≡ source_of tokens.old }
-{
-    let algebra = word(alloc, tokens)?;
-    let term = term(alloc, tokens, NESTING as u8)?;
-    let args = vector(alloc, tokens)?;
-    Ok(Command::Eval {
-        algebra,
-        term,
-        args,
-    })
-}
-
-/// A `free` behind its first word.
-fn free(alloc: Global, tokens: &mut Tokens<'_>) -> Result<Command, Miss>
-    ensures only { (a : Word) (k : Number) (m : Mode) (ws : List Wanted) → is_name a.name ≡ true → IsShort k → begins_item ws → Front (tokens_left tokens.old) (word a ∷ number Role.Amount k ∷ (mode m ++ ws)) [] → Gives result (λ x. (x ≡ Command.Free a k m) × Front (tokens_left tokens.new) ws []) }
-    ensures progress { IfOk result (λ x. length (tokens_left tokens.new) < length (tokens_left tokens.old)) }
-    ensures source { source_of tokens.new ≡ source_of tokens.old }
-{
-    let algebra = word(alloc, tokens)?;
-    let k = amount(tokens)?;
-    let mode = mode(tokens)?;
-    Ok(Command::Free { algebra, k, mode })
-}
-
-/// A `sub` behind its first word.
-fn sub(alloc: Global, tokens: &mut Tokens<'_>) -> Result<Command, Miss>
-    ensures only { (a : Word) (v : Items) (ws : List Wanted) → is_name a.name ≡ true → IsShortVector v → Front (tokens_left tokens.old) (word a ∷ (vector v ++ ws)) [] → Gives result (λ x. (x ≡ Command.Sub a v) × Front (tokens_left tokens.new) ws []) }
-    ensures progress { IfOk result (λ x. length (tokens_left tokens.new) < length (tokens_left tokens.old)) }
-    ensures source { source_of tokens.new ≡ source_of tokens.old }
-{
-    let algebra = word(alloc, tokens)?;
-    let set = vector(alloc, tokens)?;
-    Ok(Command::Sub { algebra, set })
-}
-
-/// An `ones` behind its first word.
-fn ones(alloc: Global, tokens: &mut Tokens<'_>) -> Result<Command, Miss>
-    ensures only { (a : Word) (ws : List Wanted) → is_name a.name ≡ true → Front (tokens_left tokens.old) (word a ∷ ws) [] → Gives result (λ x. (x ≡ Command.Ones a) × Front (tokens_left tokens.new) ws []) }
-    ensures progress { IfOk result (λ x. length (tokens_left tokens.new) < length (tokens_left tokens.old)) }
-    ensures source { source_of tokens.new ≡ source_of tokens.old }
-{
-    let algebra = word(alloc, tokens)?;
-    Ok(Command::Ones { algebra })
-}
-
-/// A `holds` behind its first word.
-fn holds(alloc: Global, tokens: &mut Tokens<'_>) -> Result<Command, Miss>
-    ensures only { (a : Word) (p q : Phrase) (ws : List Wanted) → is_name a.name ≡ true → IsNested NESTING p → AreSpelled [] (term p) → IsNested NESTING q → AreSpelled [] (term q) → begins_item ws → Front (tokens_left tokens.old) (word a ∷ (term p ++ (sign Role.Exact (codes "=") ∷ (term q ++ ws)))) [] → Gives result (λ x. (x ≡ Command.Holds a p q) × Front (tokens_left tokens.new) ws []) }
-    ensures progress { IfOk result (λ x. length (tokens_left tokens.new) < length (tokens_left tokens.old)) }
-    ensures source { source_of tokens.new ≡ source_of tokens.old }
-{
-    let algebra = word(alloc, tokens)?;
-    let left = term(alloc, tokens, NESTING as u8)?;
-    exact(tokens, b"=")?;
-    let right = term(alloc, tokens, NESTING as u8)?;
-    Ok(Command::Holds {
-        algebra,
-        left,
-        right,
-    })
-}
-
-/// A `hom` behind its first word.
-fn hom(alloc: Global, tokens: &mut Tokens<'_>) -> Result<Command, Miss>
-    ensures only { (a b : Word) (v w : Items) (ws : List Wanted) → is_name a.name ≡ true → is_name b.name ≡ true → IsShortVector v → IsShortVector w → Front (tokens_left tokens.old) (word a ∷ word b ∷ (vector v ++ (vector w ++ ws))) [] → Gives result (λ x. (x ≡ Command.Hom a b v w) × Front (tokens_left tokens.new) ws []) }
-    ensures progress { IfOk result (λ x. length (tokens_left tokens.new) < length (tokens_left tokens.old)) }
-    ensures source { source_of tokens.new ≡ source_of tokens.old }
-{
-    let first = word(alloc, tokens)?;
-    let second = word(alloc, tokens)?;
-    let gens = vector(alloc, tokens)?;
-    let images = vector(alloc, tokens)?;
-    Ok(Command::Hom {
-        first,
-        second,
-        gens,
-        images,
-    })
-}
-
-/// A `check` behind its first word.
-fn check(alloc: Global, tokens: &mut Tokens<'_>) -> Result<Command, Miss>
-    ensures only { (a : Word) (json : List ℕ) (ws : List Wanted) → is_name a.name ≡ true → Front (tokens_left tokens.old) (word a ∷ sign Role.Json json ∷ ws) [] → Gives result (λ x. (x ≡ Command.Check a json) × Front (tokens_left tokens.new) ws []) }
-    ensures progress { IfOk result (λ x. length (tokens_left tokens.new) < length (tokens_left tokens.old)) }
-    ensures source { source_of tokens.new ≡ source_of tokens.old }
-{
-    let algebra = word(alloc, tokens)?;
-    let token = next(tokens)?;
-    let json = Vec::from_slice(alloc, token.text)?;
-    Ok(Command::Check {
-        algebra,
-        json: Listed::new(json),
-    })
+    }
 }
 
 /// The same question, with a certificate.
@@ -195,139 +334,15 @@ fn certified(asked: Command) -> Command
     }
 }
 
-/// The commands that are built.
-#[derive(Clone, Copy)]
-enum FirstWord {
-    Close,
-    Member,
-    Eval,
-    Cg,
-    Con,
-    Free,
-    Sub,
-    Ones,
-    Holds,
-    Hom,
-    Central,
-    Comm,
-    Series,
-    Types,
-    Cond,
-    Nu,
-    Jonsson,
-    Hm,
-    Day,
-    Condition,
-    Clone,
-    Make,
-    Check,
-}
-
-impl FirstWord {
-    ghost use Rattle.std.specs.Prelude.{◌≡◌};
-    ghost use Rattle.ua_script.specs.Reading.{first_text};
-
-    /// The word with which the command begins.
-    fn text(self) -> &'static [u8]
-        ensures { result.now ≡ first_text self }
-    {
-        match self {
-            FirstWord::Close => b"close",
-            FirstWord::Member => b"member",
-            FirstWord::Eval => b"eval",
-            FirstWord::Cg => b"cg",
-            FirstWord::Con => b"con",
-            FirstWord::Free => b"free",
-            FirstWord::Sub => b"sub",
-            FirstWord::Ones => b"ones",
-            FirstWord::Holds => b"holds",
-            FirstWord::Hom => b"hom",
-            FirstWord::Central => b"central",
-            FirstWord::Comm => b"comm",
-            FirstWord::Series => b"series",
-            FirstWord::Types => b"types",
-            FirstWord::Cond => b"cond",
-            FirstWord::Nu => b"nu",
-            FirstWord::Jonsson => b"jonsson",
-            FirstWord::Hm => b"hm",
-            FirstWord::Day => b"day",
-            FirstWord::Condition => b"condition",
-            FirstWord::Clone => b"clone",
-            FirstWord::Make => b"make",
-            FirstWord::Check => b"check",
-        }
-    }
-}
-
-const FIRST_WORDS: &[FirstWord] = &[
-    FirstWord::Close,
-    FirstWord::Member,
-    FirstWord::Eval,
-    FirstWord::Cg,
-    FirstWord::Con,
-    FirstWord::Free,
-    FirstWord::Sub,
-    FirstWord::Ones,
-    FirstWord::Holds,
-    FirstWord::Hom,
-    FirstWord::Central,
-    FirstWord::Comm,
-    FirstWord::Series,
-    FirstWord::Types,
-    FirstWord::Cond,
-    FirstWord::Nu,
-    FirstWord::Jonsson,
-    FirstWord::Hm,
-    FirstWord::Day,
-    FirstWord::Condition,
-    FirstWord::Clone,
-    FirstWord::Make,
-    FirstWord::Check,
-];
-
-/// The command that begins with this word.
-fn first_word(text: &[u8]) -> Option<FirstWord>
-    ensures { result ≡ found_first text.now first_words }
-{
-    for word in FIRST_WORDS {
-        if text == word.text() {
-            return Some(*word);
-        }
-    }
-    None
-}
-
 /// A command without a certificate.
 fn plain(alloc: Global, tokens: &mut Tokens<'_>) -> Result<Command, Miss>
-    ensures only { (v : ℕ) (c : Command) (ws : List Wanted) → IsReadableItem v (Item.Command c) → is_certified c ≡ false → begins_item ws → Front (tokens_left tokens.old) (command c ++ ws) [] → Gives result (λ x. (x ≡ c) × Front (tokens_left tokens.new) ws []) }
+    ensures only { (f : CommandForm) (x : Values (parts_of f)) (w : Wanted) (ws : List Wanted) → Beginning f x w (tokens_left tokens.old) ws → Gives result (λ c. IsMade f x w.place c × Front (tokens_left tokens.new) ws []) }
     ensures progress { IfOk result (λ x. length (tokens_left tokens.new) < length (tokens_left tokens.old)) }
     ensures source { source_of tokens.new ≡ source_of tokens.old }
 {
     let first = next(tokens)?;
-    match first_word(first.text) {
-        Some(FirstWord::Close) => close(alloc, tokens),
-        Some(FirstWord::Member) => member(alloc, tokens),
-        Some(FirstWord::Eval) => eval(alloc, tokens),
-        Some(FirstWord::Cg) => cg(alloc, tokens),
-        Some(FirstWord::Con) => con(alloc, tokens),
-        Some(FirstWord::Free) => free(alloc, tokens),
-        Some(FirstWord::Sub) => sub(alloc, tokens),
-        Some(FirstWord::Ones) => ones(alloc, tokens),
-        Some(FirstWord::Holds) => holds(alloc, tokens),
-        Some(FirstWord::Hom) => hom(alloc, tokens),
-        Some(FirstWord::Central) => central(alloc, tokens),
-        Some(FirstWord::Comm) => comm(alloc, tokens),
-        Some(FirstWord::Series) => descent(alloc, tokens),
-        Some(FirstWord::Types) => types(alloc, tokens),
-        Some(FirstWord::Cond) => cond(alloc, tokens),
-        Some(FirstWord::Nu) => nu(alloc, tokens),
-        Some(FirstWord::Jonsson) => jonsson(alloc, tokens),
-        Some(FirstWord::Hm) => hm(alloc, tokens),
-        Some(FirstWord::Day) => day(alloc, tokens),
-        Some(FirstWord::Condition) => condition(alloc, tokens),
-        Some(FirstWord::Clone) => clone_membership(alloc, tokens),
-        Some(FirstWord::Make) => make(alloc, place_of(&first), tokens),
-        Some(FirstWord::Check) => check(alloc, tokens),
+    match found_form(first.text) {
+        Some(form) => operands(alloc, form, place_of(&first), tokens),
         None => Err(Miss::Other),
     }
 }

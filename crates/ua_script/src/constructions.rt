@@ -11,16 +11,15 @@ ghost use Rattle.ua_operands.specs.declared.written.Word.{Word};
 ghost use Rattle.ua_operands.specs.declared.written.Items.{Items};
 ghost use Rattle.ua_operands.specs.declared.written.PartText.{PartText};
 ghost use Rattle.ua_script.specs.declared.script.MakeForm.{MakeForm};
-ghost use Rattle.ua_script.specs.declared.script.Command.{Command};
 ghost use Rattle.ua_operands.specs.Written.{word, vector, part, names};
-ghost use Rattle.ua_script.specs.Grammar.{construction};
+ghost use Rattle.ua_script.specs.Operands.{construction};
 ghost use Rattle.ua_operands.specs.Reading.{IsShortVector, IsShortBlock, IsNamed, begins_number};
 ghost use Rattle.ua_script.specs.Reading.{IsShortConstruction};
 
-use crate::script::{Command, MakeForm};
+use crate::script::MakeForm;
 use std::alloc::Global;
 use ua_operands::readers::{is_word, names, part, vector, word};
-use ua_text::{Miss, Place, Tokens, next};
+use ua_text::{Miss, Tokens, next};
 
 /// A product behind its first word.
 fn product(alloc: Global, tokens: &mut Tokens<'_>) -> Result<MakeForm, Miss>
@@ -67,7 +66,7 @@ fn reduct(alloc: Global, tokens: &mut Tokens<'_>) -> Result<MakeForm, Miss>
 }
 
 /// How an algebra is made from others.
-fn construction(alloc: Global, tokens: &mut Tokens<'_>) -> Result<MakeForm, Miss>
+pub fn construction(alloc: Global, tokens: &mut Tokens<'_>) -> Result<MakeForm, Miss>
     ensures only { (m : MakeForm) (ws : List Wanted) → IsShortConstruction m → begins_number ws ≡ false → Front (tokens_left tokens.old) (construction m ++ ws) [] → Gives result (λ x. (x ≡ m) × Front (tokens_left tokens.new) ws []) }
     ensures progress { IfOk result (λ x. length (tokens_left tokens.new) < length (tokens_left tokens.old)) }
     ensures source { source_of tokens.new ≡ source_of tokens.old }
@@ -86,15 +85,4 @@ fn construction(alloc: Global, tokens: &mut Tokens<'_>) -> Result<MakeForm, Miss
         return reduct(alloc, tokens);
     }
     Err(Miss::Other)
-}
-
-/// A `make` behind its first word, which stands at this place.
-pub fn make(alloc: Global, place: Place, tokens: &mut Tokens<'_>) -> Result<Command, Miss>
-    ensures only { (n : Word) (m : MakeForm) (ws : List Wanted) → IsNamed n → IsShortConstruction m → begins_number ws ≡ false → Front (tokens_left tokens.old) (word n ∷ (construction m ++ ws)) [] → Gives result (λ x. (x ≡ Command.Make place n m) × Front (tokens_left tokens.new) ws []) }
-    ensures progress { IfOk result (λ x. length (tokens_left tokens.new) < length (tokens_left tokens.old)) }
-    ensures source { source_of tokens.new ≡ source_of tokens.old }
-{
-    let name = word(alloc, tokens)?;
-    let what = construction(alloc, tokens)?;
-    Ok(Command::Make { place, name, what })
 }
