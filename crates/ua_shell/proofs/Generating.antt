@@ -16,7 +16,8 @@ use Rattle.ua_text.proofs.SpelledLemmas.{spelled_both}
 use Rattle.ua_prod.specs.Draws.{next_state, state_after, drawn, draws, drawn_algebra, drawn_operation}
 use Rattle.ua_prod.proofs.DrawLaws.{draws_more, drawn-IsAlgebraTable, numbered-is_name, state_sum}
 use Rattle.ua_operands.specs.Written.{entry as entry_sign, vector}
-use Rattle.ua_script.specs.Grammar.{command, forms_built, AreVectors, IsCommand, IsEntry, IsWellFormed}
+use Rattle.ua_script.specs.Operands.{AreVectors, IsEntry}
+use Rattle.ua_script.specs.Grammar.{command, forms_built, IsCommand, IsWellFormed}
 use Rattle.ua_text.specs.declared.named.Block.{Block}
 use Rattle.ua_script.specs.declared.script.Command.{Command}
 use Rattle.ua_script.specs.declared.script.Item.{Item}
@@ -73,12 +74,12 @@ entries_spelled s (i ∷ is) rest h =
 
 vectors_spelled : (s : ℕ) (is : List ℕ) → AreSpelled forms_built (flat_map vector (map (λ i. drawn_vector (state_after s (7 * i))) is) ++ sign roles.Mode (codes "count") ∷ [])
 unfolding drawn_vector
-vectors_spelled s [] = ((4, lit< tt, refl), tt)
+vectors_spelled s [] = ((3, lit< tt, refl), tt)
 vectors_spelled s (i ∷ is) = (refl, entries_spelled (state_after s (7 * i)) (range_with_len 0 7) _ (vectors_spelled s is))
 
 closing_spelled : (s : ℕ) → AreSpelled forms_built (command (closing (drawn_vectors s 4)))
 unfolding drawn_vectors
-closing_spelled s = ((1, lit< tt, refl), (refl, (lit< tt, vectors_spelled s (range_with_len 0 4))))
+closing_spelled s = ((4, lit< tt, refl), (refl, (lit< tt, vectors_spelled s (range_with_len 0 4))))
 
 entries_formed : (vs : List ℕ) → AllByRecursion (IsEntry 1) (map entry vs)
 entries_formed [] = tt
@@ -91,7 +92,7 @@ vectors_formed s (i ∷ is) = (entries_formed (draws 3 (state_after s (7 * i)) 7
 
 closing_formed : (s : ℕ) → IsCommand 1 (closing (drawn_vectors s 4))
 unfolding drawn_vectors
-closing_formed s = (tt, vectors_formed s (range_with_len 0 4))
+closing_formed s = (tt, (tt, (tt, (vectors_formed s (range_with_len 0 4), (tt, tt)))))
 
 named_apart : (n : ℕ) → IsDistinct (pointwise nat_eq) ((drawn_block n).algebra.name ∷ [])
 unfolding drawn_block IsDistinct
@@ -101,11 +102,11 @@ pub generated_formed : (n : ℕ) → IsWellFormed forms_built (generated n)
 unfolding generated
 generated_formed n =
     let close = command (closing (drawn_vectors (state_after n values_drawn) 4)) in
-    let behind = spelled_both forms_built close (command congruences) (closing_spelled (state_after n values_drawn)) ((7, lit< tt, refl), (refl, tt)) in
+    let behind = spelled_both forms_built close (command congruences) (closing_spelled (state_after n values_drawn)) ((15, lit< tt, refl), (refl, tt)) in
     record {
       known = inl refl;
       spelled = spelled_both forms_built (block (drawn_block n)) (close ++ command congruences) (block_spelled n) behind;
-      each = (block_formed n, (closing_formed (state_after n values_drawn), (tt, tt)));
+      each = (block_formed n, (closing_formed (state_after n values_drawn), ((tt, (tt, tt)), tt)));
       names = named_apart n;
     }
 
