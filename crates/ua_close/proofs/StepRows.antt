@@ -1,6 +1,7 @@
 -- Each step on a word is an event of its worker, or none.
 use Rattle.std.proofs.Common.{◌≡◌, ◌≢◌, ⊎_elim, ℕ, suc, ◌+◌, ◌<◌, ◌≤◌, ◌^◌, Bool, true, false, List, [], ◌∷◌, ◌++◌, length, set, Some, None, refl, sym, ap, ◌∙◌, subst, arith, length-append}
 use Rattle.std.proofs.lemmas.List.{set-get_or}
+use Rattle.std.proofs.lemmas.Option.{get_or_from_slice_get}
 use Rattle.std.specs.Prelude.{bit_or, slice_get, slice_index, Contains}
 use mathlib.Core.Option.{some}
 use mathlib.Core.Logic.{dite}
@@ -22,7 +23,7 @@ use Rattle.ua_log.specs.declared.views.Worker.{Worker}
 use Rattle.ua_log.specs.declared.views.View.{View}
 use Rattle.ua_log.specs.Rule.{MayStand, code}
 use Rattle.ua_log.specs.Boards.{AreWords, workers, first_row, claim_word}
-use Rattle.ua_log.specs.Moves.{kept_of, sees, adds, knows, claims_slice, noted, FoundRecord, FoundClaims, SawClaims, Token}
+use Rattle.ua_log.specs.Moves.{kept_of, sees, missed, adds, knows, claims_slice, noted, FoundRecord, FoundClaims, SawClaims, Token}
 use Rattle.ua_log.proofs.Words.{code_some, row_none, row_empty, prefix_low}
 use Rattle.ua_log.proofs.ClosedLogs.{claims_back}
 use Rattle.ua_log.proofs.RowSteps.{bound_up, longer_words}
@@ -102,7 +103,19 @@ module _ (p : Product) (gens : List Vector) (plan : Plan) (of : IsPlanOf p gens 
   nothing s id i me m there e = λ j. record { words = set-get_or s.words i 0 j; homes = s.homes; views = (ap (set s.views id) e ∙ set_again s.views id me.0 there) j }
 
   pub load_empty : LoadEmpty p gens plan
-  load_empty s id me m a empty e = ap (λ (t : Table). erased (machine_in p gens plan t)) (nothing s id (next_row plan me) me m a.there e)
+  load_empty s id me m a empty e =
+      let log = a.rule.log in
+      let c = a.rule.claims in
+      let h = a.rule.halted in
+      let ws = in_order (numbered s.views) in
+      let k = (own me).number in
+      let mine = (read false (own me)).worker in
+      let as_before : in_order (numbered (set s.views id m.0)) ≡ ws =
+      own_moves plan s id me a m.0 (missed (own me)) (ap (λ (v : View). v.all) e) refl
+      ∙ ap (set ws k) (sym (get_or_from_slice_get ws k mine mine (own_stands plan s id me a))) ∙ set-get_or ws k mine in
+      let after_is = machine_is p gens plan (loaded s (next_row plan me) id me m) log c h (same_read s id (next_row plan me) me a) in
+      let before_is = machine_is p gens plan s log c h (words_read plan s id me a) in
+      ap erased (after_is ∙ (λ j. record { rows = values p gens log; origins = log; claims = c; halted = h; workers = as_before j }) ∙ sym before_is)
 
   pub load_below : LoadBelow p gens plan
   load_below s id i me m a r = ap (λ (t : Table). erased (machine_in p gens plan t)) (nothing s id i me m a.there r.1)

@@ -21,7 +21,7 @@ use Rattle.ua_log.specs.declared.views.Worker.{Worker}
 use Rattle.ua_log.specs.declared.views.View.{View}
 use Rattle.ua_log.specs.Rule.{IsPlan, Rule}
 use Rattle.ua_log.specs.Boards.{IsRuled, first_row, first_words, first_view}
-use Rattle.ua_log.specs.Moves.{own_of, kept_of, with_own, joined, split_first, split_new, join_first, spent_view, FoundRecord, Recalled, WonPlace, SawClaims, TriedClaim, Halted, Token}
+use Rattle.ua_log.specs.Moves.{own_of, kept_of, with_own, missed, joined, split_first, split_new, join_first, spent_view, FoundRecord, Recalled, WonPlace, SawClaims, TriedClaim, Halted, Token}
 use Rattle.ua_log.specs.Seats.{Home, seat_of, new_seat, with_worker}
 use Rattle.ua_log.specs.Logs.{LogView, origin_of}
 use Rattle.ua_work.specs.declared.harvests.Harvest.{Harvest}
@@ -167,7 +167,7 @@ module _ (p : Product) (gens : List Vector) (plan : Plan) where
 
   -- a row load that found the word empty is no event
   abbrev pub LoadEmpty : Type 0
-  LoadEmpty = (s : Table) (id : ℕ) (me m : Token) → IsAt plan s id me → slice_index s.words (next_row plan me) ≡ 0 → m.0 ≡ me.0
+  LoadEmpty = (s : Table) (id : ℕ) (me m : Token) → IsAt plan s id me → slice_index s.words (next_row plan me) ≡ 0 → m.0 ≡ with_own me.0 (missed (own me))
       → Stays s (loaded s (next_row plan me) id me m)
 
   -- a row load below seen is no event

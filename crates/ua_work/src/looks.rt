@@ -1,9 +1,8 @@
 //! Records of other workers, which a worker looks for.
 
 ghost use Rattle.std.specs.Prelude.{◌≡◌, ◌<◌, length, None, MatchOption, MatchResult};
-ghost use Rattle.ua_log.specs.Rule.{MayStand};
-ghost use Rattle.ua_log.specs.Moves.{sees, IsAlone};
-ghost use Rattle.ua_log.specs.Seats.{with_worker};
+ghost use Rattle.ua_log.specs.Moves.{IsAlone};
+ghost use Rattle.ua_work.specs.Looks.{LooksTell};
 ghost use Rattle.ua_work.specs.Replicas.{SameClosure};
 ghost use Rattle.ua_work.specs.Workings.{GoesOn, IsFurther, Stops, IsJobOf};
 
@@ -20,7 +19,7 @@ pub(crate) const LOOKS: u32 = 1024;
 pub(crate) fn look_often(board: &Board, seat: &mut Seat, looks: u32) -> Option<Origin>
     requires home { seat.old.home ≡ board.now }
     requires room { length seat.old.own.seen < board.now.plan.budget }
-    ensures found { MatchOption result (seat.new ≡ seat.old) (λ o. MayStand board.now.plan (length seat.old.own.seen) o × (seat.new ≡ with_worker seat.old (sees seat.old.own o))) }
+    ensures found { LooksTell board.now.plan seat.old result seat.new }
     ensures alone { IsAlone seat.old.made seat.old.own → result ≡ None }
 {
     for _ in 0..looks {

@@ -1,5 +1,5 @@
 use Rattle.std.proofs.Common.{refl, sym, ◌∙◌}
-use Rattle.ua_close.proofs.Takings.{taking_start, taking_step, taken_rule, none_waits}
+use Rattle.ua_close.proofs.HarvestsJoined.{taking_start, taking_step, taken_rule, none_waits}
 use Rattle.ua_close.proofs.gatherings.join_all.Goals as goal
 
 pub loop-next-init : goal.loop-next-init

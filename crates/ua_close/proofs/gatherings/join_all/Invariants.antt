@@ -1,5 +1,5 @@
 use Rattle.ua_work.specs.declared.harvests.Harvest.{Harvest}
-use Rattle.ua_close.proofs.Takings.{Taking}
+use Rattle.ua_close.proofs.HarvestsJoined.{Taking}
 use Rattle.ua_close.proofs.gatherings.join_all.Given as goal
 
 abbrev pub invariant-loop-next : goal.invariant-loop-next

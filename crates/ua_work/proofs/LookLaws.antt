@@ -1,0 +1,76 @@
+-- A seat that has looked for a record, and is else as it was.
+use Rattle.std.proofs.Common.{◌≡◌, ◌≤◌, ℕ, List, [], ◌∷◌, ◌++◌, length, refl, sym, ap, ◌∙◌, subst}
+use Rattle.ua_table.specs.declared.origins.Origin.{Origin}
+use Rattle.ua_table.specs.Algebras.{arities}
+use Rattle.ua_table.specs.Slices.{bound}
+use Rattle.ua_log.specs.declared.views.Plan.{Plan}
+use Rattle.ua_log.specs.Rule.{MayStand}
+use Rattle.ua_log.specs.Moves.{sees, missed, IsAlone}
+use Rattle.ua_log.specs.Seats.{SeatView, IsOwn, with_worker}
+use Rattle.ua_log.proofs.Words.{prefix_self}
+use Rattle.ua_work.specs.declared.goals.Goal.{Goal}
+use Rattle.ua_work.specs.declared.replicas.Replica.{Replica}
+use Rattle.ua_work.specs.Looks.{HasMissed}
+use Rattle.ua_work.specs.Harvests.{HasLeft}
+use Rattle.ua_work.specs.Serials.{HasCome}
+use Rattle.ua_work.specs.Replicas.{values_in, value_in, IsReplica, SameClosure}
+use Rattle.ua_work.specs.Workings.{IsWorking, GoesOn, IsFurther, AreDone, Comes}
+use Rattle.ua_work.proofs.WorkLaws.{for_same, further_trans, further_sees, working_sees}
+
+pub missed_self : (s : SeatView) → HasMissed s s
+missed_self s = record { misses = s.own.misses; same = refl }
+
+-- one look more that found nothing
+pub missed_more : (s u t : SeatView) → HasMissed s u → t ≡ with_worker u (missed u.own) → HasMissed s t
+missed_more s u t h e =
+    let more : List ℕ = u.own.misses ++ length u.own.seen ∷ [] in
+    record { misses = more; same = e ∙ ap (λ (x : SeatView). with_worker x (record x.own { misses = more })) h.same }
+
+-- and then one that found a record
+pub missed_sees : (s u t : SeatView) (o : Origin) → HasMissed s u → t ≡ with_worker u (sees u.own o) → HasMissed (with_worker s (sees s.own o)) t
+missed_sees s u t o h e = record { misses = h.misses; same = e ∙ ap (λ (x : SeatView). with_worker x (sees x.own o)) h.same }
+
+pub missed_stands : (p : Plan) (s u : SeatView) (o : Origin) → HasMissed s u → MayStand p (length u.own.seen) o → MayStand p (length s.own.seen) o
+missed_stands p s u o h may = subst (λ (x : SeatView). MayStand p (length x.own.seen) o) h.same may
+
+pub missed_alone : (s t : SeatView) → HasMissed s t → IsAlone s.made s.own → IsAlone t.made t.own
+missed_alone s t h a = (ap (λ (x : SeatView). x.made) h.same ∙ a.0, ap (λ (x : SeatView). x.own.number) h.same ∙ a.1)
+
+pub missed_working : (r : Replica) (s t : SeatView) → HasMissed s t → IsWorking r s.own → IsWorking r t.own
+missed_working r s t h k = subst (λ (x : SeatView). IsWorking r x.own) (sym h.same) record { replica = k.replica; values_are = k.values_are; puts = k.puts; note = k.note }
+
+-- the worker has entered the record that was found
+module _ (r new : Replica) (s t : SeatView) (x : Origin) (k : IsWorking r s.own) (same : SameClosure r new) (replica : IsReplica new) (own : IsOwn s.made s.kept s.own)
+    (more : values_in new ≡ values_in r ++ value_in r x ∷ []) where
+  pub found_working : HasMissed (with_worker s (sees s.own x)) t → IsWorking new t.own
+  found_working h = let seen : SeatView = with_worker s (sees s.own x) in missed_working new seen t h (working_sees r new s seen x k same replica own more refl)
+
+pub missed_goes : (goal : Goal) (r : Replica) (s t : SeatView) → HasMissed s t → GoesOn goal r s.own → GoesOn goal r t.own
+missed_goes goal r s t h k = record { working = missed_working r s t h k.working; unmet = k.unmet }
+
+pub missed_come : (r two : Replica) (s t : SeatView) (x : List ℕ) → HasMissed s t → SameClosure r two → Comes r s.own x → Comes two t.own x
+missed_come r two s t x h same come = subst (λ (y : SeatView). Comes two y.own x) (sym h.same) (for_same (λ p gens. HasCome p gens s.own.seen x) r two same come)
+
+-- all slices of what it has seen are claimed, and its own are done
+pub missed_left : (r two : Replica) (s t : SeatView) → HasMissed s t → SameClosure r two → r.shape ≡ arities r.operations → AreDone r s.own → bound r.shape (length s.own.seen) ≤ s.own.known → HasLeft two.operations two.gens.now.items t.own
+missed_left r two s t h same shape done known =
+    for_same (λ p gens. HasLeft p gens t.own) r two same
+    (subst (λ (y : SeatView). HasLeft r.operations r.gens.now.items y.own) (sym h.same) record { done = done; known = subst (λ ks. bound ks (length s.own.seen) ≤ s.own.known) shape known })
+
+pub missed_further : (s t : SeatView) → HasMissed s t → IsFurther s t
+missed_further s t h = subst (IsFurther s) (sym h.same) record {
+  home = refl;
+  made = refl;
+  kept = refl;
+  number = refl;
+  slices = refl;
+  known = refl;
+  mark = refl;
+  seen = prefix_self s.own.seen;
+  puts = prefix_self s.own.puts;
+}
+
+pub found_further : (s t : SeatView) (o : Origin) → HasMissed (with_worker s (sees s.own o)) t → IsFurther s t
+found_further s t o h =
+    let seen : SeatView = with_worker s (sees s.own o) in
+    further_trans s seen t (further_sees s seen o refl) (missed_further seen t h)
