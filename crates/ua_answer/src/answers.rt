@@ -2,7 +2,7 @@
 
 ghost use Rattle.std.specs.Prelude.{IfOk};
 ghost use Rattle.ua_script.specs.declared.script.Command.{Command};
-ghost use Rattle.ua_script.specs.Families.{IsOnCongruences, IsOnConditions};
+ghost use Rattle.ua_script.specs.inner.Families.{IsOnCongruences, IsOnConditions};
 ghost use Rattle.ua_reply.specs.Sessions.{bounds_of};
 ghost use Rattle.ua_answer.specs.Replies.{IsProvableBuilt, IsPlainBuilt, IsBuilt, ProvableReply, PlainReply, Reply, left_by, IsNamedRight};
 

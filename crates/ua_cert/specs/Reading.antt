@@ -1,5 +1,5 @@
 -- What a JSON value is as a certificate, or the first field that is none.
-use Rattle.std.specs.Prelude.{◌≡◌, ℕ, suc, ◌^◌, nat_lt, nat_eq, if◌then◌else◌, Option, Some, None, Result, Ok, Err, List, [], ◌∷◌, ◌++◌, map, codes}
+use Rattle.std.specs.Prelude.{ℕ, suc, ◌^◌, nat_lt, nat_eq, if◌then◌else◌, Option, Some, None, Result, Ok, Err, List, [], ◌∷◌, ◌++◌, map, codes}
 use Rattle.std.specs.Fmt.{decimal}
 use Rattle.std.specs.Ordering.{nat_cmp, match_ordering}
 use Rattle.std.specs.Cmp.Lexicographic.{pointwise, slice_cmp}
@@ -16,13 +16,6 @@ use Rattle.ua_cert.specs.declared.faults.FieldError.TheVariants as fault
 -- what a value is read as: a fault of shape comes before one of range
 abbrev pub Reading : Type 0 → Type 0
 Reading X = Result X FieldError
-
--- the code answers what is read, or that there is no memory
-abbrev pub Reads : {X : Type 0} → Reading X → Reading X → Type 0
-Reads want (Ok x) = want ≡ Ok x
-Reads want (Err (fault.Shape path)) = want ≡ Err (fault.Shape path)
-Reads want (Err (fault.Range path)) = want ≡ Err (fault.Range path)
-Reads want (Err fault.OutOfMemory) = Unit {0}
 
 -- the fault, with its path below another
 abbrev pub below : List ℕ → FieldError → FieldError

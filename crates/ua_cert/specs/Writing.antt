@@ -1,5 +1,5 @@
 -- The JSON value that a certificate is written as, and its text.
-use Rattle.std.specs.Prelude.{◌≡◌, ℕ, Ok, List, [], ◌∷◌, map, codes}
+use Rattle.std.specs.Prelude.{ℕ, List, [], ◌∷◌, map, codes}
 use Rattle.serde_json.specs.Data.{unsigned, Data, Members, no_members, member}
 use Rattle.serde_json.specs.Data as json
 use Rattle.serde_json.specs.View.{items_of}
@@ -12,7 +12,7 @@ use Rattle.ua_cert.specs.declared.certs.Cert.TheVariants.{Member, NotMember, Lis
 use Rattle.ua_cert.specs.declared.kinds.Kind.{Kind}
 use Rattle.ua_cert.specs.declared.kinds.Kind.TheVariants as kind
 use Rattle.ua_cert.specs.Reading.{condition_text, chain_text}
-use Rattle.ua_cert.specs.Certificates.{kind_text, cert_of}
+use Rattle.ua_cert.specs.Certificates.{kind_text}
 
 -- ---- values
 
@@ -65,7 +65,3 @@ data_of c = json.object (members (fields c))
 -- its text, on one line without blanks
 abbrev pub written : Cert → List ℕ
 written c = compact_text (data_of c)
-
--- the value is read as the same certificate
-abbrev pub IsReadBack : Cert → Type 0
-IsReadBack c = cert_of (data_of c) ≡ Ok c

@@ -5,7 +5,8 @@ ghost use Rattle.serde_json.specs.View.{view};
 ghost use Rattle.ua_cert.specs.declared.certs.CertStep.{CertStep};
 ghost use Rattle.ua_cert.specs.declared.certs.CondName.{CondName};
 ghost use Rattle.ua_cert.specs.declared.certs.ChainName.{ChainName};
-ghost use Rattle.ua_cert.specs.Reading.{Reading, Reads, mapped};
+ghost use Rattle.ua_cert.specs.Reading.{Reading, mapped};
+ghost use Rattle.ua_cert.specs.inner.Reading.{Reads};
 ghost use Rattle.ua_cert.specs.Certificates as certificates;
 
 use crate::certs::{Cert, CertStep, ChainName, CondName};

@@ -5,6 +5,7 @@ ghost use Rattle.std.specs.declared.alloc.Global.{Global};
 ghost use Rattle.std.specs.BTreeMap.{keys};
 ghost use Rattle.serde_json.specs.View.{view};
 ghost use Rattle.ua_cert.specs.Reading as reading;
+ghost use Rattle.ua_cert.specs.inner.Reading.{Reads};
 
 use crate::faults::FieldError;
 use crate::paths::under;
@@ -19,7 +20,7 @@ pub(crate) fn field<T: Readable + Drop>(
     object: &Value,
     key: &str,
 ) -> Result<T, FieldError>
-    ensures { reading.Reads (reading.field T.reads key.now (view object.now)) result }
+    ensures { Reads (reading.field T.reads key.now (view object.now)) result }
 {
     let Some(value) = object.get(key) else {
         return under(alloc, key.as_bytes(), Err(misshapen(alloc)));

@@ -3,6 +3,7 @@
 ghost use Rattle.std.specs.Prelude.{◌≡◌, map};
 ghost use Rattle.ua_cert.specs.declared.kinds.Kind.{Kind};
 ghost use Rattle.ua_cert.specs.Reading as reading;
+ghost use Rattle.ua_cert.specs.inner.Reading.{Reads};
 ghost use Rattle.ua_cert.specs.Certificates as certificates;
 ghost use Rattle.ua_cert.specs.Writing as writing;
 
@@ -26,7 +27,7 @@ pub(crate) enum Kind {
 
 /// The kind of this name.
 fn kind_named(alloc: Global, name: &[u8]) -> Result<Kind, FieldError>
-    ensures { reading.Reads (reading.named certificates.kind_names name.now) result }
+    ensures { Reads (reading.named certificates.kind_names name.now) result }
 {
     if name == b"member".as_slice() {
         return Ok(Kind::Member);

@@ -4,6 +4,7 @@ ghost use Rattle.std.specs.Prelude.{◌≡◌};
 ghost use Rattle.ua_cert.specs.declared.certs.CondName.{CondName};
 ghost use Rattle.ua_cert.specs.declared.certs.ChainName.{ChainName};
 ghost use Rattle.ua_cert.specs.Reading as reading;
+ghost use Rattle.ua_cert.specs.inner.Reading.{Reads};
 ghost use Rattle.ua_cert.specs.Writing as writing;
 
 use crate::certs::{ChainName, CondName, Text};
@@ -15,7 +16,7 @@ use std::alloc::{AllocError, Global};
 
 /// The condition of this name.
 fn condition(alloc: Global, name: &[u8]) -> Result<CondName, FieldError>
-    ensures { reading.Reads (reading.named reading.condition_names name.now) result }
+    ensures { Reads (reading.named reading.condition_names name.now) result }
 {
     if name == b"maltsev".as_slice() {
         return Ok(CondName::Maltsev);
@@ -37,7 +38,7 @@ fn condition(alloc: Global, name: &[u8]) -> Result<CondName, FieldError>
 
 /// The chains of this name.
 fn chains(alloc: Global, name: &[u8]) -> Result<ChainName, FieldError>
-    ensures { reading.Reads (reading.named reading.chain_names name.now) result }
+    ensures { Reads (reading.named reading.chain_names name.now) result }
 {
     if name == b"jonsson".as_slice() {
         return Ok(ChainName::Jonsson);

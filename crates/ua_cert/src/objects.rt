@@ -4,7 +4,8 @@ ghost use Rattle.std.specs.Prelude.{◌≡◌, Ok, IfOk, OnOk};
 ghost use Rattle.serde_json.specs.Data.{put as with_member};
 ghost use Rattle.serde_json.specs.View.{view, members_view};
 ghost use Rattle.ua_cert.specs.declared.certs.Cert.TheVariants as cert;
-ghost use Rattle.ua_cert.specs.Writing.{data_of, IsReadBack};
+ghost use Rattle.ua_cert.specs.Writing.{data_of};
+ghost use Rattle.ua_cert.specs.inner.Writing.{IsReadBack};
 
 use crate::certs::{Cert, CertStep, ChainName, CondName};
 use crate::kinds::Kind;

@@ -9,7 +9,8 @@ ghost use Rattle.serde_json.specs.Read.{read as read_text};
 ghost use Rattle.serde_json.specs.Errors.{IsMemory};
 ghost use Rattle.ua_cert.specs.declared.faults.CertError.{CertError};
 ghost use Rattle.ua_cert.specs.Lengths.{HasShortLists, HasListsBelow, IsShort};
-ghost use Rattle.ua_cert.specs.Reading.{Reads, keys_of, first_unlike};
+ghost use Rattle.ua_cert.specs.Reading.{keys_of, first_unlike};
+ghost use Rattle.ua_cert.specs.inner.Reading.{Reads};
 ghost use Rattle.ua_cert.specs.Certificates as certificates;
 
 use crate::certificates::certificate;

@@ -2,7 +2,8 @@
 
 ghost use Rattle.std.specs.Prelude.{◌≡◌, ◌⊎◌, ◌++◌, IfOk};
 ghost use Rattle.ua_cert.specs.declared.faults.FieldError.{FieldError};
-ghost use Rattle.ua_cert.specs.Reading.{Reading, Reads, index_path, under, both, below};
+ghost use Rattle.ua_cert.specs.Reading.{Reading, index_path, under, both, below};
+ghost use Rattle.ua_cert.specs.inner.Reading.{Reads};
 
 use crate::faults::FieldError;
 use std::alloc::{AllocError, Global};

@@ -6,6 +6,7 @@ ghost use Rattle.serde_json.specs.View.{view, items_view};
 ghost use Rattle.ua_cert.specs.declared.certs.CertStep.{CertStep};
 ghost use Rattle.ua_cert.specs.declared.faults.FieldError.{FieldError};
 ghost use Rattle.ua_cert.specs.Reading as reading;
+ghost use Rattle.ua_cert.specs.inner.Reading.{Reads};
 
 use crate::certs::{CertStep, Text};
 use crate::faults::FieldError;
@@ -19,7 +20,7 @@ pub(crate) trait Readable: Sized {
     ghost reads: { Data → reading.Reading Self };
 
     fn read(alloc: Global, value: &Value) -> Result<Self, FieldError>
-        ensures { reading.Reads (reads (view value.now)) result };
+        ensures { Reads (reads (view value.now)) result };
 }
 
 /// A fault of shape here.
@@ -61,7 +62,7 @@ fn items<T: Readable + Drop>(
     first: usize,
 ) -> Result<Listed<T>, FieldError>
     requires { first + length values.now < 2 ^ 64 }
-    ensures { reading.Reads (reading.items_from T.reads first (items_view values.now)) result }
+    ensures { Reads (reading.items_from T.reads first (items_view values.now)) result }
 {
     let mut list = Vec::new(alloc);
     let mut range: Option<Listed<u8>> = None;
@@ -84,7 +85,7 @@ fn items<T: Readable + Drop>(
 
 /// What an item of a list is read as, at the path of its number.
 fn item<T: Readable + Drop>(alloc: Global, value: &Value, i: usize) -> Result<T, FieldError>
-    ensures { reading.Reads (reading.under (reading.index_path i) (T.reads (view value.now))) result }
+    ensures { Reads (reading.under (reading.index_path i) (T.reads (view value.now))) result }
 {
     let path = index_path(alloc, i)?;
     under(alloc, path.as_slice(), T::read(alloc, value))
@@ -111,14 +112,14 @@ impl<T: Readable + Drop> Readable for Listed<T> {
 
 /// The text before the numbers of a step.
 fn first_word(alloc: Global, value: &Value) -> Result<Text, FieldError>
-    ensures { reading.Reads (reading.under (reading.index_path 0) (reading.text_of (view value.now))) result }
+    ensures { Reads (reading.under (reading.index_path 0) (reading.text_of (view value.now))) result }
 {
     item(alloc, value, 0)
 }
 
 /// The step of a text and numbers.
 fn step(read: Result<(Text, Listed<u32>), FieldError>) -> Result<CertStep, FieldError>
-    ensures { (want : reading.Reading (List ℕ × List ℕ)) → reading.Reads want read → reading.Reads (reading.mapped reading.step want) result }
+    ensures { (want : reading.Reading (List ℕ × List ℕ)) → Reads want read → Reads (reading.mapped reading.step want) result }
 {
     let (word, args) = read?;
     Ok(CertStep { word, args })
@@ -126,7 +127,7 @@ fn step(read: Result<(Text, Listed<u32>), FieldError>) -> Result<CertStep, Field
 
 /// What the items of a step are read as.
 fn step_of(alloc: Global, values: &[Value]) -> Result<CertStep, FieldError>
-    ensures { reading.Reads (reading.step_from (items_view values.now)) result }
+    ensures { Reads (reading.step_from (items_view values.now)) result }
 {
     match values {
         [] => Err(misshapen(alloc)),

@@ -14,7 +14,8 @@ use Rattle.ua_close.specs.declared.reaches.Reach.{Reach}
 use Rattle.ua_close.specs.declared.reaches.Reach.TheVariants as reaches
 use Rattle.ua_close.specs.declared.sizes.Size.{Size}
 use Rattle.ua_work.specs.declared.goals.Goal.{Goal}
-use Rattle.ua_close.specs.Kinds.{cardinality, IsEnough}
+use Rattle.ua_close.specs.Kinds.{cardinality}
+use Rattle.ua_close.specs.inner.Kinds.{IsEnough}
 use Rattle.ua_close.specs.Answers.{Answers}
 use Rattle.ua_close.specs.Reaches.{Reaches}
 use Rattle.ua_close.specs.Sizes.{IsSize}

@@ -21,7 +21,7 @@ use Rattle.ua_table.proofs.Choices.{greatest_low}
 use Rattle.ua_table.proofs.Lists.{Contains-map, Contains-map_from, all_map, all_weaker}
 use Rattle.ua_rows.specs.RowLists.{rows_at}
 use Rattle.ua_listing.specs.Arrangements.{origins_of}
-use Rattle.ua_listing.specs.Leasts.{AreByHeight}
+use Rattle.ua_listing.specs.inner.Leasts.{AreByHeight}
 use Rattle.ua_listing.specs.Rankings.{ArePositions}
 use Rattle.ua_listing.proofs.ArrangingLaws.{sorted_exists, sorted_from_order, positions_exist, reverse_then, less_one_way}
 use Rattle.ua_listing.proofs.HeightLaws.{greatest_most}

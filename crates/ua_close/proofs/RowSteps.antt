@@ -11,10 +11,11 @@ use Rattle.ua_table.proofs.Lists.{Contains-head, Contains-tail, Contains-cases, 
 use Rattle.ua_table.proofs.Members.{member_at}
 use Rattle.ua_table.proofs.Once.{once-some}
 use Rattle.ua_term.specs.Steps.{StepList}
-use Rattle.ua_listing.specs.Searches.{IsMarked}
+use Rattle.ua_listing.specs.inner.Searches.{IsMarked}
 use Rattle.ua_listing.proofs.MarkLaws.{marked_set}
 use Rattle.ua_close.specs.Memberships.{AreStepsTo}
-use Rattle.ua_close.specs.Needed.{rank_at, arguments_at, AreMarks, AreMarked, AreEarlier, AreStepsFor}
+use Rattle.ua_close.specs.Needed.{rank_at, arguments_at, AreStepsFor}
+use Rattle.ua_close.specs.inner.Needed.{AreMarks, AreMarked, AreEarlier}
 use Rattle.ua_close.proofs.NeedLaws.{HasMarked, marks_start, marks_skip, marks_more, marks_done, HasTaken, taken_start, taken_skip, taken_more, taken_done, are_needed, ascending_differ}
 use Rattle.ua_close.proofs.StepsForLaws.{rows_earlier, are_steps, last_value, steps_at}
 

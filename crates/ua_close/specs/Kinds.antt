@@ -1,5 +1,5 @@
 -- Which kind of listing there is.
-use Rattle.std.specs.Prelude.{◌≡◌, ℕ, ◌*◌, ◌≤◌, ◌⊎◌, List, [], ◌∷◌}
+use Rattle.std.specs.Prelude.{ℕ, ◌*◌, List, [], ◌∷◌}
 use Rattle.ua_table.specs.Algebras.{Product, Vector}
 use Rattle.ua_table.specs.Listings.{Row, IsClosedListing}
 use Rattle.ua_table.specs.Orders.{IsLeast}
@@ -10,11 +10,6 @@ use Rattle.ua_close.specs.Answers.{Answers, IsSerialAnswer}
 abbrev pub cardinality : Product → ℕ
 cardinality [] = 1
 cardinality (a ∷ p) = a.size * cardinality p
-
--- room for n records serves a budget of b: it is the budget, or within it as many as the product has vectors
-pub record IsEnough (p : Product) (b n : ℕ) : Type 0 where
-  pub within : n ≤ b
-  pub all : (n ≡ b) ⊎ (cardinality p ≤ n)
 
 -- a closed or an exceeding listing, whose rows have the ranks that the serial order gives them
 pub record HasAnswer (p : Product) (gens : List Vector) (b : ℕ) : Type 0 where

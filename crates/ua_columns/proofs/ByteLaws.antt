@@ -6,7 +6,7 @@ use Rattle.std.proofs.lemmas.Simd.{zip2_splat, map-map}
 use Rattle.std.specs.List.{AllByRecursion}
 use lib.Lanes.{zip2, sel_l, top}
 use Rattle.ua_rows.proofs.LineLaws.{all_or}
-use Rattle.ua_columns.specs.Tiles.{value_across, looked_across}
+use Rattle.ua_columns.specs.inner.Tiles.{value_across, looked_across}
 
 -- ---- the place of a number in its table, and the bits that tell which table it is
 

@@ -9,8 +9,9 @@ use Rattle.std.proofs.lemmas.List.FromFn.{length-map-range_with_len, get_or-map-
 use Rattle.std.proofs.lemmas.List.{get_or-map}
 use Rattle.ua_table.specs.Algebras.{Vector}
 use Rattle.ua_table.proofs.Lists.{all_take}
-use Rattle.ua_columns.specs.Tiles.{looked_at, looked_across, word_at, byte_word_at, IsKeyAt}
-use Rattle.ua_columns.specs.Columns.{limit, digits, base, AreBelow, entry_of, word_of, key_of, tiles_for, words_for, block_of, vector_in, vectors_in, AreColumns, AreLines, AreByteLines, AreLinesOf, AreDigits, values_at}
+use Rattle.ua_columns.specs.inner.Tiles.{looked_at, looked_across, word_at, byte_word_at, IsKeyAt}
+use Rattle.ua_columns.specs.Columns.{limit, digits, base, AreBelow, entry_of, word_of, key_of, tiles_for, words_for, block_of, vector_in, vectors_in, AreColumns, AreLines, AreByteLines, AreLinesOf, values_at}
+use Rattle.ua_columns.specs.inner.Columns.{AreDigits}
 use Rattle.ua_columns.proofs.TileLaws.{digits_of_word, same_digits}
 use Rattle.ua_columns.proofs.ListLaws.{all_drop, all_map_range, map_range_same, length_range, range_index}
 use Rattle.ua_columns.proofs.ColumnLaws.{entry_low, some_limit, limit_base}

@@ -11,7 +11,8 @@ use Rattle.ua_table.specs.Algebras.{Vector}
 use Rattle.ua_rows.specs.Words.{lanes_of, words_for}
 use Rattle.ua_columns.specs.Tiles.{key_at}
 use Rattle.ua_columns.specs.Columns.{values_at}
-use Rattle.ua_columns.specs.Quads.{IsBelow, quad_entry, quad_vector, quad_vectors, AreQuads, AreLongLines, values_in_word}
+use Rattle.ua_columns.specs.Quads.{IsBelow, quad_entry, quad_vector, quad_vectors, AreQuads, AreLongLines}
+use Rattle.ua_columns.specs.inner.Quads.{values_in_word}
 use Rattle.ua_rows.proofs.LineLaws.{all_or}
 use Rattle.ua_table.proofs.Lists.{all_weaker, all_append, all_get_or}
 use Rattle.ua_columns.proofs.ListLaws.{map_range_same}

@@ -10,7 +10,7 @@ use lib.Lanes.{Each1, number_l, zip2}
 use mir.Val.{zeroes, bool_byte}
 use Rattle.ua_rows.proofs.LineLaws.{all_or}
 use Rattle.ua_rows.proofs.WordLaws.{same_from_xor}
-use Rattle.ua_columns.specs.Tiles.{word_across, looked_at, word_at}
+use Rattle.ua_columns.specs.inner.Tiles.{word_across, looked_at, word_at}
 use Rattle.std.proofs.lemmas.Simd.{swz_l, get_or-zip2}
 
 pub each_from_all : (P : ℕ → Type 0) (xs : List ℕ) → AllByRecursion P xs → Each1 P xs

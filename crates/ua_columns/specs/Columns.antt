@@ -104,10 +104,6 @@ abbrev pub AreLinesOf : Bool → (ℕ → ℕ → ℕ) → List (List (List ℕ)
 AreLinesOf true f lines = AreByteLines f lines
 AreLinesOf false f lines = AreLines f lines
 
--- words of a block: in each place one for each lane, with the values at the entries of that lane as digits
-abbrev pub AreDigits : Bool → (ℕ → ℕ → ℕ) → List (List (List ℕ)) → List (List ℕ) → Type 0
-AreDigits in_bytes f block words = (j r : ℕ) → j < length words → r < 16 → slice_index (slice_index_or words j []) r ≡ number_l (base in_bytes) (map (λ c. f (digits in_bytes * j + c) (entry_of block r (digits in_bytes * j + c))) (range_with_len 0 (digits in_bytes)))
-
 -- the values at the entries of a vector
 abbrev pub values_at : (ℕ → ℕ → ℕ) → Vector → Vector
 values_at f v = map (λ x. f x (slice_index v x)) (range_with_len 0 (length v))

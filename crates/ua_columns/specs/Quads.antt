@@ -4,7 +4,6 @@ use Rattle.std.specs.List.{AllByRecursion, range_with_len}
 use Rattle.std.specs.declared.alloc.Global.{Global}
 use Rattle.ua_table.specs.Algebras.{Vector}
 use Rattle.ua_rows.specs.Words.{lanes_of, words_for}
-use Rattle.ua_columns.specs.Tiles.{key_at}
 
 -- the width, a size that no entry reaches, the vectors in order, and for how many more there is room at least
 pub record QuadVectors : Type 0 where
@@ -49,11 +48,3 @@ pub record AreQuads (width size words count : ℕ) (keys : Vec ℕ Global) (key 
 -- lines of a size, end to end: at each coordinate below the width the value at each element below the size there
 abbrev pub AreLongLines : ℕ → ℕ → (ℕ → ℕ → ℕ) → List ℕ → Type 0
 AreLongLines size width f lines = (x y : ℕ) → x < width → y < size → slice_index lines (x * size + y) ≡ f x y
-
--- the values of four lines at the entries of a word
-abbrev pub values_in_word : List ℕ → ℕ → ℕ → List ℕ
-values_in_word lines size word = map (λ e. slice_index lines (e * size + slice_index (lanes_of word) e)) (range_with_len 0 4)
-
--- one of so many keys is key r of a block
-abbrev pub IsSomeKey : List ℕ → ℕ → ℕ → List ℕ → ℕ → Type 0
-IsSomeKey keys words count block r = (i : ℕ) × (i < count) × (key_at keys words i ≡ key_at block words r)

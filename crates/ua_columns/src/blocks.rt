@@ -2,8 +2,9 @@
 
 ghost use Rattle.std.specs.Prelude.{◌≡◌, ℕ, ◌+◌, ◌<◌, ◌≤◌, ◌-◌, [], length, map, slice_index, slice_index_or, slice_range, IsTrue, true, false, ◌*◌, ◌/◌, ◌%◌, ◌^◌};
 ghost use Rattle.std.specs.List.{AllByRecursion, range_with_len};
-ghost use Rattle.ua_columns.specs.Tiles.{word_at, byte_word_at, IsSomeKeyAt};
-ghost use Rattle.ua_columns.specs.Columns.{limit, tables, AreBelow, AreLinesOf, AreDigits};
+ghost use Rattle.ua_columns.specs.inner.Tiles.{word_at, byte_word_at, IsSomeKeyAt};
+ghost use Rattle.ua_columns.specs.Columns.{limit, tables, AreBelow, AreLinesOf};
+ghost use Rattle.ua_columns.specs.inner.Columns.{AreDigits};
 
 use crate::fronts::{guesses, mix_all, second_guess};
 use crate::tiles::{Tile, byte_words, line_words};

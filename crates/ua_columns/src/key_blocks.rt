@@ -2,7 +2,7 @@
 
 ghost use Rattle.std.specs.Prelude.{◌≡◌, ℕ, ◌<◌, ◌≤◌, ◌-◌, ◌*◌, ◌/◌, ◌%◌, ◌^◌, length, IsTrue};
 ghost use Rattle.std.specs.List.{AllByRecursion};
-ghost use Rattle.ua_columns.specs.Quads.{IsSomeKey};
+ghost use Rattle.ua_columns.specs.inner.Quads.{IsSomeKey};
 
 use crate::fronts::{guesses, second_guess};
 use crate::tiles::LANES;

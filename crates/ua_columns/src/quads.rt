@@ -3,7 +3,8 @@
 ghost use Rattle.std.specs.Prelude.{◌≡◌, ℕ, ◌+◌, ◌-◌, ◌*◌, ◌/◌, ◌<◌, ◌≤◌, [], length, drop, slice_index, slice_index_or, slice_set};
 ghost use Rattle.std.specs.List.{AllByRecursion};
 ghost use Rattle.ua_rows.specs.Words.{lanes_of};
-ghost use Rattle.ua_columns.specs.Quads.{IsBelow, values_in_word};
+ghost use Rattle.ua_columns.specs.Quads.{IsBelow};
+ghost use Rattle.ua_columns.specs.inner.Quads.{values_in_word};
 
 use crate::fronts::with_word;
 use crate::tiles::LANES;

@@ -4,7 +4,7 @@ ghost use Rattle.std.specs.Prelude.{◌≡◌, ℕ, ◌+◌, ◌%◌, ◌<◌, �
 ghost use Rattle.std.specs.List.{AllByRecursion, range_with_len};
 ghost use Rattle.std.specs.Simd.Lanes.{number_l};
 ghost use Rattle.ua_columns.specs.Columns.{AreBelow};
-ghost use Rattle.ua_columns.specs.Tiles.{AreBytes, first_by_turns, second_by_turns, value_across, byte_word_at, word_across, word_at};
+ghost use Rattle.ua_columns.specs.inner.Tiles.{AreBytes, first_by_turns, second_by_turns, value_across, byte_word_at, word_across, word_at};
 
 use std::alloc::AllocError;
 use std::simd::prelude::*;

@@ -13,7 +13,7 @@ use Rattle.ua_term.specs.Assignments.{assignments}
 use Rattle.ua_bases.specs.Associative.{IsAssociativeIn, IsAssociative}
 use Rattle.ua_bases.specs.Bases.{IsClosedUnder}
 use Rattle.ua_bases.proofs.ProductLaws.{associative_product}
-use Rattle.ua_flaws.specs.Firsts.{first_behind}
+use Rattle.ua_flaws.specs.inner.Firsts.{first_behind}
 use Rattle.ua_flaws.specs.Shapes.{power}
 use Rattle.ua_flaws.specs.Closing.{Result, is_missing, missing_of}
 use Rattle.ua_flaws.proofs.ResultLaws.{of_operation}

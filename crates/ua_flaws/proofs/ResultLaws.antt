@@ -10,7 +10,7 @@ use Rattle.ua_table.specs.Refusals.{first_refusal}
 use Rattle.ua_table.proofs.Lists.{mapped_at}
 use Rattle.ua_table.proofs.FrameLemmas.{arities_of_power}
 use Rattle.ua_term.specs.Assignments.{assignments}
-use Rattle.ua_flaws.specs.Firsts.{first_behind}
+use Rattle.ua_flaws.specs.inner.Firsts.{first_behind}
 use Rattle.ua_flaws.specs.Shapes.{power}
 use Rattle.ua_flaws.specs.Closing.{is_missing, missing_of, missing}
 use Rattle.ua_flaws.proofs.WalkLaws.{map-same}

@@ -8,7 +8,7 @@ use Rattle.ua_table.proofs.Lists.{all_weaker}
 use Rattle.ua_rows.specs.RowLists.{RowList}
 use Rattle.ua_flaws.specs.declared.flaws.Flaw.{Flaw}
 use Rattle.ua_flaws.specs.declared.flaws.CheckError.{CheckError}
-use Rattle.ua_flaws.specs.Closing.{IsTableOver}
+use Rattle.ua_flaws.specs.inner.Closing.{IsTableOver}
 use Rattle.ua_table.specs.declared.origins.Origin.{Origin}
 use Rattle.ua_table.specs.Algebras.{arities, arities_of}
 use Rattle.ua_term.specs.Steps.{AreSteps}

@@ -6,7 +6,7 @@ use Rattle.std.specs.Option.{option_map, option_or, is_some}
 use Rattle.std.proofs.lemmas.List.{append-nil}
 use Rattle.std.proofs.lemmas.List.Folds.{find-append}
 use Rattle.ua_term.specs.Assignments.{assignments}
-use Rattle.ua_flaws.specs.Firsts.{first_behind}
+use Rattle.ua_flaws.specs.inner.Firsts.{first_behind}
 
 -- ---- a look through a mapped list
 

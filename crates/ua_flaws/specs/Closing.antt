@@ -1,13 +1,12 @@
 -- Rows that hold the generators and are closed under the operations.
-use Rattle.std.specs.Prelude.{◌≡◌, ◌<◌, ℕ, Bool, not, List, length, map, slice_index, find, Option}
+use Rattle.std.specs.Prelude.{ℕ, Bool, not, List, length, map, slice_index, find, Option}
 use Rattle.std.specs.Option.{option_map}
-use Rattle.std.specs.List.{range_with_len, AllByRecursion}
-use Rattle.ua_table.specs.Algebras.{Vector, FiniteAlgebra, Product, IsVector, arities, apply}
+use Rattle.std.specs.List.{range_with_len}
+use Rattle.ua_table.specs.Algebras.{Vector, Product, arities, apply}
 use Rattle.ua_table.specs.Refusals.{first_refusal}
 use Rattle.ua_term.specs.Assignments.{assignments}
-use Rattle.ua_rows.specs.RowLists.{RowList, rows_at}
+use Rattle.ua_rows.specs.RowLists.{rows_at}
 use Rattle.ua_flaws.specs.Firsts.{is_among}
-use Rattle.ua_flaws.specs.Shapes.{power}
 
 -- the value of operation f at the rows of these positions is no row
 abbrev pub is_missing : Product → List Vector → ℕ → List ℕ → Bool
@@ -24,9 +23,3 @@ missing_of p rows f = option_map (λ tuple. (f, tuple)) (find (is_missing p rows
 -- the first value that is no row, by operation and then by positions
 abbrev pub missing : Product → List Vector → Option Result
 missing p rows = first_refusal (map (missing_of p rows) (range_with_len 0 (length (arities p))))
-
--- rows of a power of the algebra, with the operations of that power
-pub record IsTableOver (a : FiniteAlgebra) (operations : Product) (rows : RowList) : Type 0 where
-  pub product : operations ≡ power a rows.width
-  pub some : 0 < rows.width
-  pub vectors : AllByRecursion (IsVector operations) rows.items

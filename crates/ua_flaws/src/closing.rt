@@ -8,8 +8,10 @@ ghost use Rattle.ua_table.specs.Refusals.{first_refusal};
 ghost use Rattle.ua_table.specs.Algebras.{IsVector, arities};
 ghost use Rattle.ua_term.specs.Printing.{name_at};
 ghost use Rattle.ua_flaws.specs.declared.flaws.Flaw.TheVariants as flaws;
-ghost use Rattle.ua_flaws.specs.Firsts.{is_among, first_behind};
-ghost use Rattle.ua_flaws.specs.Closing.{is_missing, missing_of, IsTableOver};
+ghost use Rattle.ua_flaws.specs.Firsts.{is_among};
+ghost use Rattle.ua_flaws.specs.inner.Firsts.{first_behind};
+ghost use Rattle.ua_flaws.specs.Closing.{is_missing, missing_of};
+ghost use Rattle.ua_flaws.specs.inner.Closing.{IsTableOver};
 ghost use Rattle.ua_flaws.specs.Flaws.{generators_flaw, results_flaw, Tells};
 
 use crate::flaws::{CheckError, Flaw};

@@ -1,7 +1,7 @@
 //! Origins of rows.
 
 ghost use Rattle.std.specs.Prelude.{◌≡◌, ◌<◌, ◌^◌, length};
-ghost use Rattle.ua_flaws.specs.Closing.{IsTableOver};
+ghost use Rattle.ua_flaws.specs.inner.Closing.{IsTableOver};
 ghost use Rattle.ua_flaws.specs.Flaws as flaws;
 
 use crate::closing::Table;

@@ -14,9 +14,10 @@ use Rattle.ua_table.specs.Tables.{IsTable}
 use Rattle.ua_table.proofs.Codes.{numeral-cons}
 use Rattle.ua_table.proofs.ApplyLemmas.{operation_at, length-apply, apply_at, numeral-below}
 use Rattle.ua_rows.proofs.ApplyForms.{size_is}
-use Rattle.ua_columns.specs.Tiles.{value_across}
+use Rattle.ua_columns.specs.inner.Tiles.{value_across}
 use Rattle.ua_columns.specs.Columns.{limit, entry_of, values_at}
-use Rattle.ua_lanes.specs.Lines.{AreSizesAtMost, scale_at, size_at, algebra_at, line_value}
+use Rattle.ua_lanes.specs.Lines.{AreSizesAtMost, size_at, algebra_at, line_value}
+use Rattle.ua_lanes.specs.inner.Lines.{scale_at}
 use Rattle.ua_rows.proofs.LineLaws.{all_or}
 
 -- ---- the algebra of a coordinate

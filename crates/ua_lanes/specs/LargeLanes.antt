@@ -1,5 +1,5 @@
 -- Vectors of a product of algebras of any size, in words of four entries.
-use Rattle.std.specs.Prelude.{◌≡◌, ◌≢◌, ℕ, ◌*◌, ◌^◌, ◌<◌, IsTrue, List, length, slice_index, vec_len}
+use Rattle.std.specs.Prelude.{◌≡◌, ℕ, ◌*◌, ◌^◌, ◌<◌, IsTrue, List, length, slice_index, vec_len}
 use Rattle.std.specs.List.{AllByRecursion}
 use Rattle.ua_table.specs.Algebras.{Product, IsProduct, IsVector, arities}
 use Rattle.ua_rows.specs.RowLists.{rows_at}
@@ -30,13 +30,6 @@ pub record IsLongWindow (p : Product) (quads : QuadVectors) (w : LongWindow) : T
   pub lines_long : vec_len w.lines ≡ 4 * quads.size * words_for quads.width
   pub values_long : vec_len w.values ≡ 16 * words_for quads.width
   pub are_lined : IsTrue w.lined → HasLongLines p quads w.op w.fixed w.free w.lines.items
-
--- the lines are those of operation f at a tuple where the argument at this place is free
-pub record IsLongLinedFor (w : LongWindow) (f : ℕ) (args : List ℕ) (place : ℕ) : Type 0 where
-  pub lined : IsTrue w.lined
-  pub operation : w.op ≡ f
-  pub free : w.free ≡ place
-  pub others : (j : ℕ) → j < 4 → j ≢ place → slice_index args j ≡ slice_index w.fixed j
 
 -- the words hold vectors of the product, and the window is of it
 pub record AreLargeLanes (p : Product) (quads : QuadVectors) (w : LongWindow) : Type 0 where

@@ -1,15 +1,11 @@
 -- The lines of an operation: its values at one coordinate, where one argument is free.
-use Rattle.std.specs.Prelude.{ℕ, ◌%◌, ◌^◌, ◌≤◌, nat_lt, if◌then◌else◌, Bool, List, [], map, slice_index, slice_index_or, slice_set}
+use Rattle.std.specs.Prelude.{ℕ, ◌≤◌, nat_lt, if◌then◌else◌, List, [], map, slice_index, slice_index_or, slice_set}
 use Rattle.std.specs.List.{AllByRecursion}
 use Rattle.ua_table.specs.Algebras.{Vector, FiniteAlgebra, Product, value_at, column}
 
 -- all algebras have at most so many elements
 abbrev pub AreSizesAtMost : ℕ → Product → Type 0
 AreSizesAtMost n p = AllByRecursion (λ (a : FiniteAlgebra). a.size ≤ n) p
-
--- by what the values at a coordinate are multiplied in lines: where they take half a byte, those of odd coordinates by sixteen
-abbrev pub scale_at : Bool → ℕ → ℕ
-scale_at in_bytes x = if in_bytes then 1 else 16 ^ (x % 2)
 
 -- how many elements the algebra of coordinate x has, and none past the last
 abbrev pub size_at : Product → ℕ → ℕ

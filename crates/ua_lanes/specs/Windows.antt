@@ -1,5 +1,5 @@
 -- What a window tells: for the tuples that differ in one place alone, with sixteen numbers there, which values are vectors.
-use Rattle.std.specs.Prelude.{◌≡◌, ◌≢◌, ℕ, ◌+◌, ◌*◌, ◌/◌, ◌%◌, ◌^◌, ◌<◌, ◌≤◌, Bool, IsTrue, List, length, take, slice_index, slice_set, Contains, vec_len}
+use Rattle.std.specs.Prelude.{◌≡◌, ℕ, ◌+◌, ◌*◌, ◌/◌, ◌%◌, ◌^◌, ◌<◌, ◌≤◌, Bool, IsTrue, List, length, take, slice_index, slice_set, Contains, vec_len}
 use Rattle.std.specs.List.{AllByRecursion}
 use Rattle.ua_table.specs.Algebras.{Vector, Product, IsProduct, IsVector, arities, apply}
 use Rattle.ua_rows.specs.RowLists.{rows_at}
@@ -34,12 +34,6 @@ pub record HasLines (p : Product) (in_bytes : Bool) (items : List Vector) (f : �
   pub few : slice_index (arities p) f ≤ 4
   pub named : AllByRecursion (λ a. a < length items) (tuple_of p f fixed)
   pub lines_are : AreLinesOf in_bytes (line_value p f (rows_at items (tuple_of p f fixed)) free) lines
-
--- the lines are those of operation f at a tuple, of which the entry at the free place does not matter
-pub record IsLinedFor (w : Window) (f : ℕ) (args : List ℕ) : Type 0 where
-  pub lined : IsTrue w.lined
-  pub operation : w.op ≡ f
-  pub others : (j : ℕ) → j < 4 → j ≢ w.free → slice_index args j ≡ slice_index w.fixed j
 
 -- the lines are those that the window names, and each bit that is set tells of a tuple whose value is known
 pub record IsWindow (p : Product) (in_bytes : Bool) (items : List Vector) (w : Window) : Type 0 where

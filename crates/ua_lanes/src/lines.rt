@@ -5,8 +5,9 @@ ghost use Rattle.std.specs.List.{AllByRecursion};
 ghost use Rattle.ua_table.specs.Algebras.{arities, column, numeral};
 ghost use Rattle.ua_rows.specs.RowLists.{rows_at};
 ghost use Rattle.ua_columns.specs.Columns.{limit, AreBelow, AreLines, AreByteLines, AreLinesOf};
-ghost use Rattle.ua_columns.specs.Tiles.{value_across};
-ghost use Rattle.ua_lanes.specs.Lines.{line_value, scale_at};
+ghost use Rattle.ua_columns.specs.inner.Tiles.{value_across};
+ghost use Rattle.ua_lanes.specs.Lines.{line_value};
+ghost use Rattle.ua_lanes.specs.inner.Lines.{scale_at};
 ghost use Rattle.ua_lanes.specs.Windows.{AreVectors};
 
 use ua_columns::{Columns, LANES, Tile, set_entry};

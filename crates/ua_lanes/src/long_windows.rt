@@ -3,7 +3,8 @@
 ghost use Rattle.std.specs.Prelude.{◌≡◌, ◌*◌, ◌^◌, ◌<◌, ◌≤◌, length, slice_index, IfOk};
 ghost use Rattle.std.specs.List.{AllByRecursion};
 ghost use Rattle.ua_table.specs.Algebras.{Product, arities};
-ghost use Rattle.ua_lanes.specs.LargeLanes.{AreQuadVectors, IsLongWindow, IsLongLinedFor};
+ghost use Rattle.ua_lanes.specs.LargeLanes.{AreQuadVectors, IsLongWindow};
+ghost use Rattle.ua_lanes.specs.inner.LargeLanes.{IsLongLinedFor};
 ghost use Rattle.ua_columns.specs.Quads.{QuadVectors};
 ghost use Rattle.ua_lanes.specs.Windows.{tuple_of, AreBitsOf};
 

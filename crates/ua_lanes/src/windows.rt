@@ -4,7 +4,8 @@ ghost use Rattle.std.specs.Prelude.{◌≡◌, ◌≢◌, ℕ, ◌*◌, ◌/◌,
 ghost use Rattle.std.specs.List.{AllByRecursion};
 ghost use Rattle.ua_table.specs.Algebras.{Vector, Product, arities};
 ghost use Rattle.ua_columns.specs.Columns.{tables, tiles_for, words_for};
-ghost use Rattle.ua_lanes.specs.Windows.{AreVectors, AreBitsOf, IsLinedFor, IsWindow, tuple_of};
+ghost use Rattle.ua_lanes.specs.Windows.{AreVectors, AreBitsOf, IsWindow, tuple_of};
+ghost use Rattle.ua_lanes.specs.inner.Windows.{IsLinedFor};
 
 use crate::lines::write_lines;
 use std::alloc::{AllocError, Global};

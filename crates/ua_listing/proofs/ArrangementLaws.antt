@@ -16,7 +16,8 @@ use Rattle.ua_table.specs.Orders.{Record, by_rank, rows_of}
 use Rattle.ua_table.proofs.Lists.{mapped_from, All-slice_get, all_from_contains, all_weaker, all_map}
 use Rattle.ua_rows.specs.RowLists.{rows_at}
 use Rattle.ua_listing.specs.Rankings.{IsRanking, ArePositions}
-use Rattle.ua_listing.specs.Arrangements.{origins_of, listed, IsIndex, by_position, origins_at, IsOriginOver, IsArranged}
+use Rattle.ua_listing.specs.Arrangements.{origins_of, listed, IsIndex, by_position, IsOriginOver, IsArranged}
+use Rattle.ua_listing.specs.inner.Arrangements.{origins_at}
 use Rattle.ua_table.proofs.Once.{once-below, once-some}
 
 -- ---- the columns of a listing

@@ -21,7 +21,7 @@ use Rattle.ua_table.proofs.SliceLaws.{bound_laws, slices_partition}
 use Rattle.ua_table.proofs.GeneratedLaws.{length-term_values}
 use Rattle.ua_table.proofs.Units.{positive_sum}
 use Rattle.ua_rows.specs.RowLists.{rows_at}
-use Rattle.ua_listing.specs.Searches.{height_in, origin_in, IsReached, IsSearch, IsVisited, no_arguments, IsTupleVisited, IsWholeSearch}
+use Rattle.ua_listing.specs.inner.Searches.{height_in, origin_in, IsReached, IsSearch, IsVisited, no_arguments, IsTupleVisited, IsWholeSearch}
 use Rattle.ua_listing.specs.declared.searches.Search.{Search}
 use Rattle.ua_listing.proofs.MarkLaws.{marked_below}
 use Rattle.ua_listing.proofs.SearchLaws.{one_row}

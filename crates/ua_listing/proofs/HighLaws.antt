@@ -12,8 +12,8 @@ use Rattle.ua_table.specs.Counting.{EachOnceBelow, numbers_below}
 use Rattle.ua_table.proofs.Counts.{each_once-numbers_below, each_once-IsPermutation, length-numbers_below}
 use Rattle.ua_table.proofs.Lists.{Contains-map_from}
 use Rattle.ua_listing.specs.declared.sorting.HighRow.{HighRow}
-use Rattle.ua_listing.specs.Leasts.{ComesBefore, AreByHeight}
-use Rattle.ua_listing.specs.Rankings.{places_of}
+use Rattle.ua_listing.specs.inner.Leasts.{ComesBefore, AreByHeight}
+use Rattle.ua_listing.specs.inner.Rankings.{places_of}
 use Rattle.ua_table.proofs.Once.{once-differ}
 
 -- a height and a position

@@ -18,9 +18,9 @@ use Rattle.ua_table.specs.Origins.{IsOrigin, arguments_of, origin_value}
 use Rattle.ua_table.proofs.ApplyLemmas.{IsVector-apply}
 use Rattle.ua_table.proofs.Lists.{found, all_at, all_from_contains, All-slice_get}
 use Rattle.ua_listing.specs.Arrangements.{origins_of}
-use Rattle.ua_listing.specs.Leasts.{ComesBefore, AreByHeight}
+use Rattle.ua_listing.specs.inner.Leasts.{ComesBefore, AreByHeight}
 use Rattle.ua_listing.specs.Rankings.{ArePositions}
-use Rattle.ua_listing.specs.Searches.{IsWholeSearch}
+use Rattle.ua_listing.specs.inner.Searches.{IsWholeSearch}
 use Rattle.ua_listing.specs.declared.searches.Search.{Search}
 use Rattle.ua_table.proofs.Members.{zip_by_index}
 use Rattle.ua_table.proofs.GeneratedLaws.{length-term_values}

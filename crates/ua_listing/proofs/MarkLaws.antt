@@ -2,7 +2,7 @@
 use Rattle.std.proofs.Common.{◌≡◌, ◌⊎◌, ◌↔◌, inl, inr, ⊎_elim, ℕ, zero, suc, ◌<◌, Bool, true, false, List, [], ◌∷◌, length, replicate, set, refl, sym, ap, ◌∙◌, arith}
 use Rattle.std.specs.Prelude.{slice_index_or}
 use Rattle.std.proofs.lemmas.List.{get_or_default}
-use Rattle.ua_listing.specs.Searches.{IsMarked}
+use Rattle.ua_listing.specs.inner.Searches.{IsMarked}
 
 pub marked_below : (marks : List Bool) (q : ℕ) → IsMarked marks q → q < length marks
 marked_below [] q e = cc

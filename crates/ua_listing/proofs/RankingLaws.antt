@@ -16,7 +16,8 @@ use Rattle.ua_table.specs.Counting.{EachOnceBelow, numbers_below}
 use Rattle.ua_table.proofs.Counts.{each_once-numbers_below, each_once-IsPermutation}
 use Rattle.ua_rows.specs.RowLists.{rows_at}
 use Rattle.ua_listing.specs.declared.sorting.RankedRow.{RankedRow}
-use Rattle.ua_listing.specs.Rankings.{ranks_of_rows, IsRanking}
+use Rattle.ua_listing.specs.Rankings.{IsRanking}
+use Rattle.ua_listing.specs.inner.Rankings.{ranks_of_rows}
 use Rattle.ua_table.proofs.Once.{once-differ}
 
 -- a vector and its rank

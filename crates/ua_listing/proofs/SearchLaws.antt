@@ -20,7 +20,7 @@ use Rattle.ua_table.specs.Numbering.{greatest}
 use Rattle.ua_table.specs.Orders.{height_of, spelled}
 use Rattle.ua_table.specs.Origins.{IsOrigin, arguments_of, origin_value}
 use Rattle.ua_table.proofs.Lists.{all_weaker}
-use Rattle.ua_listing.specs.Searches.{IsMarked, height_in, origin_in, IsReached, IsBefore, IsNotAfter, IsFound, IsSearch, IsNear, IsVisited, ReachesMore, IsTop, MayVisit, HasReachedBy}
+use Rattle.ua_listing.specs.inner.Searches.{IsMarked, height_in, origin_in, IsReached, IsBefore, IsNotAfter, IsFound, IsSearch, IsNear, IsVisited, ReachesMore, IsTop, MayVisit, HasReachedBy}
 use Rattle.ua_listing.specs.declared.searches.Search.{Search}
 use Rattle.ua_listing.proofs.MarkLaws.{marked_set}
 use Rattle.ua_table.proofs.Members.{member_at}

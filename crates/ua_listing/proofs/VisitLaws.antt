@@ -17,7 +17,7 @@ use Rattle.ua_table.proofs.Lists.{all_at, all_weaker, all_map, all_append, Conta
 use Rattle.ua_table.proofs.Rows.{slices_of_rows}
 use Rattle.ua_table.proofs.SliceLaws.{bound_laws, slices_partition}
 use Rattle.ua_table.proofs.Units.{place_from}
-use Rattle.ua_listing.specs.Searches.{height_in, height_number, IsReached, IsNearTop, IsSearch, IsVisited, ReachesMore, IsTop, MayVisit, HasReachedBy, AreGeneratorsVisited, AreConstantsVisited, no_arguments, application, IsTupleVisited, IsSliceVisited, AreSlicesVisited, IsRowTable, IsSearchOf, HasReachedIn, MayVisitIn, GoesOnTo}
+use Rattle.ua_listing.specs.inner.Searches.{height_in, height_number, IsReached, IsNearTop, IsSearch, IsVisited, ReachesMore, IsTop, MayVisit, HasReachedBy, AreGeneratorsVisited, AreConstantsVisited, no_arguments, application, IsTupleVisited, IsSliceVisited, AreSlicesVisited, IsRowTable, IsSearchOf, HasReachedIn, MayVisitIn, GoesOnTo}
 use Rattle.ua_listing.specs.declared.searches.Search.{Search}
 use Rattle.ua_listing.specs.declared.searches.Table.{Table}
 use Rattle.ua_listing.proofs.MarkLaws.{marked_below}

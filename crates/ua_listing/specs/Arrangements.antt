@@ -2,7 +2,6 @@
 use Rattle.std.specs.Prelude.{◌≡◌, ℕ, ◌<◌, List, [], ◌∷◌, length, map, slice_get, slice_index_or, Some}
 use Rattle.std.specs.List.{AllByRecursion}
 use Rattle.ua_table.specs.declared.origins.Origin.{Origin}
-use Rattle.ua_table.specs.declared.origins.Origin.TheVariants.{Gen}
 use Rattle.ua_table.specs.Algebras.{Vector, IsIncreasing}
 use Rattle.ua_table.specs.Origins.{IsOrigin, arguments_of}
 use Rattle.ua_table.specs.Counting.{EachOnceBelow}
@@ -29,10 +28,6 @@ pub record IsIndex (rows : List Vector) (ranks places : List ℕ) (os : List Ori
 -- an origin with positions in place of ranks
 abbrev pub by_position : List ℕ → List ℕ → Origin → Origin
 by_position ks positions o = by_rank ks positions o
-
--- the origins of the records of these ranks, by positions
-abbrev pub origins_at : List ℕ → List ℕ → List Record → List ℕ → List Origin
-origins_at ks positions records ranks = map (λ r. by_position ks positions (slice_index_or records r ([], Gen 0)).1) ranks
 
 -- an origin over n rows, for some number of generators
 pub record IsOriginOver (ks : List ℕ) (n : ℕ) (o : Origin) : Type 0 where

@@ -2,7 +2,7 @@
 pub mod Rankings
 -- The listing of records: their vectors in order, each with its rank and its origin by positions.
 pub mod Arrangements
--- The rows of a listing as they are reached, by ascending height.
-pub mod Searches
 -- What the least listing is made from.
 pub mod Leasts
+-- What private functions say.
+pub mod inner

@@ -1,18 +1,8 @@
 -- Vectors in lexicographic order, by the ranks that they had.
-use Rattle.std.specs.Prelude.{◌≡◌, ℕ, ◌<◌, List, length, map, slice_index}
+use Rattle.std.specs.Prelude.{◌≡◌, ℕ, ◌<◌, List, length, slice_index}
 use Rattle.ua_table.specs.Algebras.{Vector, IsIncreasing}
 use Rattle.ua_table.specs.Counting.{EachOnceBelow}
 use Rattle.ua_rows.specs.RowLists.{rows_at}
-use Rattle.ua_listing.specs.declared.sorting.HighRow.{HighRow}
-use Rattle.ua_listing.specs.declared.sorting.RankedRow.{RankedRow}
-
--- the ranks of the rows, in order
-abbrev pub ranks_of_rows : List RankedRow → List ℕ
-ranks_of_rows rows = map (λ (r : RankedRow). r.rank) rows
-
--- the positions of the rows, in order
-abbrev pub places_of : List HighRow → List ℕ
-places_of rows = map (λ (r : HighRow). r.place) rows
 
 -- the ranks of all rows, in the order of their vectors
 pub record IsRanking (rows : List Vector) (ranks : List ℕ) : Type 0 where

@@ -10,7 +10,7 @@ ghost use Rattle.ua_table.specs.Numbering.{IsShape};
 ghost use Rattle.ua_table.specs.Orders.{IsLeast};
 ghost use Rattle.ua_table.specs.Slices.{bound, IsMark};
 ghost use Rattle.ua_listing.specs.Leasts.{IsClosedWithin};
-ghost use Rattle.ua_listing.specs.Searches.{height_number, IsNearTop, IsTop, ReachesMore, IsRowTable, IsSearchOf, MayVisitIn, HasReachedIn, GoesOnTo, GeneratorsVisitedIn, ConstantsVisitedIn, SliceVisitedIn, SlicesVisitedIn, IsWholeSearch};
+ghost use Rattle.ua_listing.specs.inner.Searches.{height_number, IsNearTop, IsTop, ReachesMore, IsRowTable, IsSearchOf, MayVisitIn, HasReachedIn, GoesOnTo, GeneratorsVisitedIn, ConstantsVisitedIn, SliceVisitedIn, SlicesVisitedIn, IsWholeSearch};
 
 use crate::listing::{Listing, moved_arguments};
 use crate::searches::{Search, Table};

@@ -8,7 +8,8 @@ ghost use Rattle.ua_table.specs.Listings.{vectors_of, ranks_of};
 ghost use Rattle.ua_table.specs.Orders.{Record, rows_of};
 ghost use Rattle.ua_rows.specs.RowLists.{rows_at};
 ghost use Rattle.ua_listing.specs.Rankings.{ArePositions};
-ghost use Rattle.ua_listing.specs.Arrangements.{origins_of, by_position, origins_at, listed, IsIndex, IsOriginOver, IsArranged};
+ghost use Rattle.ua_listing.specs.Arrangements.{origins_of, by_position, listed, IsIndex, IsOriginOver, IsArranged};
+ghost use Rattle.ua_listing.specs.inner.Arrangements.{origins_at};
 
 use crate::records::Records;
 use crate::sorting::{positions_of, ranks_in_order};

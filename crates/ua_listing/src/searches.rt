@@ -2,7 +2,7 @@
 
 ghost use Rattle.std.specs.Prelude.{◌≡◌, ◌<◌, ◌↔◌, ◌++◌, [], ◌∷◌, length, replicate, set, slice_get, Some, true, false, IfOk, OnOk, IsTrue};
 ghost use Rattle.ua_table.specs.Origins.{origin_value};
-ghost use Rattle.ua_listing.specs.Searches.{IsNamed, IsBefore, IsTop, IsRowTable, IsSearchOf, MayVisitIn, HasReachedIn};
+ghost use Rattle.ua_listing.specs.inner.Searches.{IsNamed, IsBefore, IsTop, IsRowTable, IsSearchOf, MayVisitIn, HasReachedIn};
 
 use std::alloc::{AllocError, Global};
 use ua_rows::{Operations, Rows};

@@ -3,8 +3,9 @@
 ghost use Rattle.std.specs.Prelude.{◌≡◌, ◌<◌, ◌^◌, length, map, IfOk};
 ghost use Rattle.ua_table.specs.Counting.{EachOnceBelow};
 ghost use Rattle.ua_table.specs.Orders.{rows_of};
-ghost use Rattle.ua_listing.specs.Rankings.{ranks_of_rows, places_of, IsRanking, ArePositions};
-ghost use Rattle.ua_listing.specs.Leasts.{AreByHeight};
+ghost use Rattle.ua_listing.specs.Rankings.{IsRanking, ArePositions};
+ghost use Rattle.ua_listing.specs.inner.Rankings.{ranks_of_rows, places_of};
+ghost use Rattle.ua_listing.specs.inner.Leasts.{AreByHeight};
 
 use crate::records::Records;
 use std::alloc::{AllocError, Global};

@@ -3,7 +3,6 @@ use Rattle.std.specs.Prelude.{◌≡◌, ◌<◌, Bool, true, false, List, [], �
 use Rattle.std.specs.List.{AllByRecursion}
 use Rattle.ua_table.specs.declared.limits.TheConstants.{NUMBERS}
 use Rattle.ua_text.specs.Bytes.{is_number}
-use Rattle.ua_text.specs.Pieces.{Placed}
 use Rattle.ua_text.specs.Signs.{Sign, Spelled, Wanted}
 use Rattle.ua_text.specs.Reading.{begins_with}
 use Rattle.ua_operands.specs.declared.written.Word.{Word}
@@ -47,11 +46,6 @@ may_be_number _ = true
 abbrev pub begins_number : List Wanted → Bool
 begins_number [] = false
 begins_number (w ∷ ws) = may_be_number w.sign
-
--- the first token is a number
-abbrev pub is_number_front : List Placed → Bool
-is_number_front [] = false
-is_number_front (t ∷ ts) = is_number t.text
 
 -- what may stand behind a command: neither a vector, nor a mode, nor a number, nor a parenthesis
 abbrev pub begins_item : List Wanted → Type 0

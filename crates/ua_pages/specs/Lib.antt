@@ -1,1 +1,2 @@
+-- Rows of one stride, end to end in pages.
 pub mod Paging

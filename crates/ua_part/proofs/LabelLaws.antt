@@ -5,7 +5,8 @@ use Rattle.std.specs.Bool.{Decides}
 use Rattle.std.proofs.lemmas.Bool.{cases_lt}
 use Rattle.std.proofs.lemmas.Bool.Decides.{Decides-and, Decides-eqb, Decides-like}
 use Rattle.std.proofs.lemmas.List.{length_push, get_or_push, get_or_append_left}
-use Rattle.ua_part.specs.Labels.{same_labels, labels_at, AreFirstPlaces}
+use Rattle.ua_part.specs.Labels.{same_labels}
+use Rattle.ua_part.specs.inner.Labels.{labels_at, AreFirstPlaces}
 
 same_labels-Decides : (x y : ℕ × ℕ) → Decides (same_labels x y) (x ≡ y)
 same_labels-Decides x y =

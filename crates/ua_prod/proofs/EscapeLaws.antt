@@ -23,7 +23,7 @@ use Rattle.ua_table.proofs.Lists.{Contains-head, Contains-tail, Contains-map_fro
 use Rattle.ua_table.proofs.Searches.{none_passes}
 use Rattle.ua_prod.specs.Constructions.{value_of, tuples_among, place_among}
 use Rattle.ua_prod.specs.Escapes.{IsEscape, IsFirstEscape}
-use Rattle.ua_prod.specs.Searches.{AreArguments, Keeps, IsFirstEscapeOf}
+use Rattle.ua_prod.specs.inner.Searches.{AreArguments, Keeps, IsFirstEscapeOf}
 use Rattle.ua_prod.proofs.ClashLaws.{arity_is, size_is, value_is, head_not}
 use Rattle.ua_prod.proofs.Numerals.{cmp_equal, cmp-append, cmp_same}
 use Rattle.ua_prod.proofs.RenumberingLaws.{all_mapped}

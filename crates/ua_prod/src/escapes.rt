@@ -5,7 +5,7 @@ ghost use Rattle.std.specs.List.{AllByRecursion, range_with_len};
 ghost use Rattle.std.specs.List.Sorted.{IsStrictlyIncreasing};
 ghost use Rattle.ua_prod.specs.Constructions.{place_among};
 ghost use Rattle.ua_prod.specs.Escapes.{IsClosed, IsFirstEscape};
-ghost use Rattle.ua_prod.specs.Searches.{Keeps, IsFirstEscapeOf};
+ghost use Rattle.ua_prod.specs.inner.Searches.{Keeps, IsFirstEscapeOf};
 
 use crate::renumbering::Renumbering;
 use crate::tuples::{arguments, tuple_numbers};

@@ -5,7 +5,7 @@ ghost use Rattle.std.specs.List.{AllByRecursion, flat_map};
 ghost use Rattle.ua_table.specs.declared.limits.TheConstants.{SIZE, VALUES};
 ghost use Rattle.ua_table.specs.Algebras.{numeral};
 ghost use Rattle.ua_prod.specs.Constructions.{tuples_among};
-ghost use Rattle.ua_prod.specs.Searches.{AreArguments};
+ghost use Rattle.ua_prod.specs.inner.Searches.{AreArguments};
 
 use std::alloc::{AllocError, Global};
 use ua_table::{Elem, OpTable};

@@ -5,7 +5,7 @@ use Rattle.std.specs.List.{AllByRecursion, range_with_len}
 use Rattle.std.proofs.lemmas.Bool.{lt-leb}
 use Rattle.ua_table.specs.Algebras.{Vector, numeral}
 use Rattle.ua_rows.specs.Words.{word_of, lanes_of}
-use Rattle.ua_rows.specs.Gathered.{vectors_behind}
+use Rattle.ua_rows.specs.inner.Gathered.{vectors_behind}
 use Rattle.ua_rows.specs.Kernels.{IsLineOf, looked}
 use Rattle.ua_rows.proofs.LaneLaws.{lanes_are, word_of_lanes}
 

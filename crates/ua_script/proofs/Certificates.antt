@@ -15,9 +15,11 @@ use Rattle.ua_script.specs.declared.script.Command.{Command}
 use Rattle.ua_script.specs.declared.script.Item.TheVariants as items
 use Rattle.ua_script.specs.declared.forms.CommandForm.{CommandForm}
 use Rattle.ua_script.specs.Operands.{Values, values_text}
-use Rattle.ua_script.specs.Forms.{word_of, parts_of, asked, made, certified, finished}
+use Rattle.ua_script.specs.Forms.{word_of, parts_of, asked, made, certified}
+use Rattle.ua_script.specs.inner.Forms.{finished}
 use Rattle.ua_script.specs.Grammar.{first_word, heading, command, MayAsk, forms_built}
-use Rattle.ua_script.specs.Reading.{Beginning, IsMade, IsKept, IsReadableItem}
+use Rattle.ua_script.specs.Reading.{IsReadableItem}
+use Rattle.ua_script.specs.inner.Reading.{Beginning, IsMade, IsKept}
 use Rattle.ua_script.proofs.Table.{remade, no_cert}
 use Rattle.ua_script.proofs.Shortness.{all_short}
 

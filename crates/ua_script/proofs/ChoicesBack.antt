@@ -9,7 +9,7 @@ use Rattle.ua_operands.specs.declared.written.SeriesWord.TheVariants.{Derived, L
 use Rattle.ua_operands.specs.declared.written.CloneWord.{CloneWord}
 use Rattle.ua_operands.specs.declared.written.CloneWord.TheVariants.{Term, Polynomial}
 use Rattle.ua_operands.specs.Written.{cond_word, series_word, clone_word}
-use Rattle.ua_script.specs.Tables.{choice_words}
+use Rattle.ua_script.specs.inner.Tables.{choice_words}
 
 only : (b : Bool) → (b || false) ≡ true → b ≡ true
 only true e = refl

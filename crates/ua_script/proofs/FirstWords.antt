@@ -3,7 +3,8 @@ use Rattle.std.proofs.Common.{◌≡◌, ◌<◌, ◌∙◌, ◌+◌, ℕ, List,
 use Rattle.std.proofs.lemmas.List.{at_drop_more}
 use Rattle.ua_text.specs.Words.{same}
 use Rattle.ua_script.specs.declared.forms.CommandForm.{CommandForm}
-use Rattle.ua_script.specs.Forms.{word_of, found_form}
+use Rattle.ua_script.specs.Forms.{word_of}
+use Rattle.ua_script.specs.inner.Forms.{found_form}
 
 -- a word that begins another command is passed over
 pub found_form-other : (t : List ℕ) (ws : List CommandForm) (i : ℕ) (d : CommandForm) → i < length ws → same t (word_of (get_or ws i d)) ≡ false → found_form t (drop i ws) ≡ found_form t (drop (i + 1) ws)

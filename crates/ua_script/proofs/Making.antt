@@ -10,8 +10,9 @@ use Rattle.ua_operands.specs.Reading.{begins_item}
 use Rattle.ua_script.specs.declared.script.Command.{Command}
 use Rattle.ua_script.specs.declared.forms.CommandForm.{CommandForm}
 use Rattle.ua_script.specs.Operands.{Values, values_text}
-use Rattle.ua_script.specs.Forms.{word_of, parts_of, all_forms, found_form, made}
-use Rattle.ua_script.specs.Reading.{AreShort, Standing, IsMade}
+use Rattle.ua_script.specs.Forms.{word_of, parts_of, all_forms, made}
+use Rattle.ua_script.specs.inner.Forms.{found_form}
+use Rattle.ua_script.specs.inner.Reading.{AreShort, Standing, IsMade}
 use Rattle.ua_script.proofs.Table.{found, end}
 use Rattle.ua_script.proofs.Certificates.{kept_at}
 

@@ -15,7 +15,8 @@ use Rattle.ua_operands.proofs.ReadLemmas.{begins_after}
 use Rattle.ua_script.specs.declared.forms.CommandForm.{CommandForm}
 use Rattle.ua_script.specs.Forms.{parts_of}
 use Rattle.ua_script.specs.Operands.{Value, Values, value_text, values_text}
-use Rattle.ua_script.specs.Reading.{IsShortValue, ends, all_end, Standing}
+use Rattle.ua_script.specs.Reading.{ends}
+use Rattle.ua_script.specs.inner.Reading.{IsShortValue, all_end, Standing}
 
 -- what the reader of a part wants of what stands behind it
 abbrev pub Ends : Part → List Wanted → Type 0

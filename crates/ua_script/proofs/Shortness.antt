@@ -21,7 +21,7 @@ use Rattle.ua_operands.specs.Written.{further, number, entry, vector, part, part
 use Rattle.ua_script.specs.Operands.{Value, Values, value_text, values_text, IsValue, AreValues, IsPart, construction, IsConstruction}
 use Rattle.ua_script.specs.Grammar.{forms_built}
 use Rattle.ua_operands.specs.Reading.{IsShort, IsShortEntry, IsShortVector, IsShortBlock, IsNamed, ArePointsShort}
-use Rattle.ua_script.specs.Reading.{IsShortConstruction, IsShortValue, AreShort}
+use Rattle.ua_script.specs.inner.Reading.{IsShortConstruction, IsShortValue, AreShort}
 use Rattle.ua_term.proofs.TermReading.{spelled_alone}
 
 short_entries : (es : List Entry) → AreSpelled forms_built (map entry es) → AllByRecursion IsShortEntry es

@@ -26,10 +26,11 @@ use Rattle.ua_script.specs.declared.script.Command.TheVariants as commands
 use Rattle.ua_script.specs.declared.forms.CommandForm.{CommandForm}
 use Rattle.ua_script.specs.declared.forms.CommandForm.TheVariants as forms
 use Rattle.ua_script.specs.Operands.{Values}
-use Rattle.ua_script.specs.Forms.{form_row, word_of, parts_of, all_forms, question_forms, found_form, Asked, question, asked, made, certified, finished}
+use Rattle.ua_script.specs.Forms.{form_row, word_of, parts_of, all_forms, question_forms, Asked, question, asked, made, certified}
+use Rattle.ua_script.specs.inner.Forms.{found_form, finished}
 use Rattle.ua_script.specs.Grammar.{HasMode, MayAsk}
 use Rattle.ua_script.specs.Tables.{script_forms, without_modes, question_row, commands as command_rows, provables as question_rows}
-use Rattle.ua_script.specs.Reading.{IsKept, all_end}
+use Rattle.ua_script.specs.inner.Reading.{IsKept, all_end}
 use Rattle.ua_script.proofs.Parts.{all_stop, all_ok, all_simple}
 
 -- each form is found by its word

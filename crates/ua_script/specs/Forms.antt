@@ -1,5 +1,5 @@
 -- The forms of commands: a row for each, with its word and the parts behind it, and what a command is made of.
-use Rattle.std.specs.Prelude.{ℕ, Bool, true, false, List, [], ◌∷◌, Option, Some, None, if◌then◌else◌, codes}
+use Rattle.std.specs.Prelude.{ℕ, Bool, true, false, List, [], ◌∷◌, Option, Some, None, codes}
 use Rattle.ua_text.specs.declared.symbols.Part.{Part}
 use Rattle.ua_text.specs.declared.symbols.Part.TheVariants as parts
 use Rattle.ua_text.specs.declared.symbols.Table.TheVariants.{Constructions, Points}
@@ -58,11 +58,6 @@ all_forms = forms.Close ∷ forms.Member ∷ forms.Cond ∷ forms.Nu ∷ forms.J
 -- those of questions, before which `cert` may stand
 abbrev pub question_forms : List CommandForm
 question_forms = forms.Close ∷ forms.Member ∷ forms.Cond ∷ forms.Nu ∷ forms.Jonsson ∷ forms.Hm ∷ []
-
--- the first of these forms that has the word
-abbrev pub found_form : List ℕ → List CommandForm → Option CommandForm
-found_form t [] = None
-found_form t (f ∷ fs) = if same t (word_of f) then Some f else found_form t fs
 
 -- What a command is made of: its form, whether a certificate is asked, the place of its first word where that is kept,
 -- and what stands for its parts.
@@ -134,7 +129,3 @@ made forms.Check p x = commands.Check x.0 x.1.0
 abbrev pub certified : Command → Command
 certified (commands.Ask what m cert) = commands.Ask what m true
 certified c = c
-
-abbrev pub finished : Bool → Command → Command
-finished true c = certified c
-finished false c = c

@@ -13,9 +13,10 @@ ghost use Rattle.ua_script.specs.declared.script.Item.{Item};
 ghost use Rattle.ua_script.specs.declared.forms.CommandForm.{CommandForm};
 ghost use Rattle.ua_script.specs.Operands.{Values};
 ghost use Rattle.ua_script.specs.Forms.{parts_of, made, certified};
-ghost use Rattle.ua_script.specs.Families.{IsQuestion, IsOfCongruences, IsOfConditions, IsOfAlgebras};
+ghost use Rattle.ua_script.specs.inner.Families.{IsQuestion, IsOfCongruences, IsOfConditions, IsOfAlgebras};
 ghost use Rattle.ua_script.specs.Grammar.{command};
-ghost use Rattle.ua_script.specs.Reading.{Standing, Beginning, IsMade, IsReadableItem};
+ghost use Rattle.ua_script.specs.Reading.{IsReadableItem};
+ghost use Rattle.ua_script.specs.inner.Reading.{Standing, Beginning, IsMade};
 
 use crate::constructions::construction;
 use crate::forms::{CommandForm, found_form};

@@ -14,7 +14,7 @@ ghost use Rattle.ua_script.specs.declared.script.MakeForm.{MakeForm};
 ghost use Rattle.ua_operands.specs.Written.{word, vector, part, names};
 ghost use Rattle.ua_script.specs.Operands.{construction};
 ghost use Rattle.ua_operands.specs.Reading.{IsShortVector, IsShortBlock, IsNamed, begins_number};
-ghost use Rattle.ua_script.specs.Reading.{IsShortConstruction};
+ghost use Rattle.ua_script.specs.inner.Reading.{IsShortConstruction};
 
 use crate::script::MakeForm;
 use std::alloc::Global;

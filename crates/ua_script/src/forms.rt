@@ -3,7 +3,8 @@
 ghost use Rattle.std.specs.Prelude.{◌≡◌};
 ghost use Rattle.ua_text.specs.Grammars.{row_of, forms_of};
 ghost use Rattle.ua_operands.specs.declared.written.Mode.{Mode};
-ghost use Rattle.ua_script.specs.Forms.{form_row, all_forms, found_form, question, asked};
+ghost use Rattle.ua_script.specs.Forms.{form_row, all_forms, question, asked};
+ghost use Rattle.ua_script.specs.inner.Forms.{found_form};
 ghost use Rattle.ua_script.specs.Grammar.{forms_built};
 ghost use Rattle.ua_script.specs.Tables.{script_forms};
 

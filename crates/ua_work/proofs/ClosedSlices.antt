@@ -16,10 +16,10 @@ use Rattle.ua_bases.specs.Associative.{result_of}
 use Rattle.ua_bases.specs.Bases.{IsClosedUnder}
 use Rattle.ua_work.specs.declared.replicas.Replica.{Replica}
 use Rattle.ua_work.specs.Harvests.{IsDone}
-use Rattle.ua_work.specs.Replicas.{values_in, value_in, IsOriginIn, IsReplica}
-use Rattle.ua_work.specs.Serials.{turn_from}
-use Rattle.ua_work.specs.Walks.{tuples_in, turn_at, IsLeftOf}
-use Rattle.ua_work.specs.Workings.{IsWorking, IsSettled, Comes}
+use Rattle.ua_work.specs.inner.Replicas.{values_in, value_in, IsOriginIn, IsReplica}
+use Rattle.ua_work.specs.inner.Serials.{turn_from}
+use Rattle.ua_work.specs.inner.Walks.{tuples_in, turn_at, IsLeftOf}
+use Rattle.ua_work.specs.inner.Workings.{IsWorking, IsSettled, Comes}
 use Rattle.ua_work.proofs.RowValues.{in_different, in_all}
 use Rattle.ua_work.proofs.WorkLaws.{places_seen}
 use Rattle.ua_work.proofs.FinishLaws.{left_start, left_end}

@@ -10,11 +10,12 @@ use Rattle.ua_log.specs.Seats.{SeatView, IsOwn, with_worker}
 use Rattle.ua_log.proofs.Words.{prefix_self}
 use Rattle.ua_work.specs.declared.goals.Goal.{Goal}
 use Rattle.ua_work.specs.declared.replicas.Replica.{Replica}
-use Rattle.ua_work.specs.Looks.{HasMissed}
+use Rattle.ua_work.specs.inner.Looks.{HasMissed}
 use Rattle.ua_work.specs.Harvests.{HasLeft}
 use Rattle.ua_work.specs.Serials.{HasCome}
-use Rattle.ua_work.specs.Replicas.{values_in, value_in, IsReplica, SameClosure}
-use Rattle.ua_work.specs.Workings.{IsWorking, GoesOn, IsFurther, AreDone, Comes}
+use Rattle.ua_work.specs.inner.Replicas.{values_in, value_in, IsReplica, SameClosure}
+use Rattle.ua_work.specs.Beginnings.{IsFurther}
+use Rattle.ua_work.specs.inner.Workings.{IsWorking, GoesOn, AreDone, Comes}
 use Rattle.ua_work.proofs.WorkLaws.{for_same, further_trans, further_sees, working_sees}
 
 pub missed_self : (s : SeatView) → HasMissed s s

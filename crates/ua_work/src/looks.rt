@@ -2,9 +2,10 @@
 
 ghost use Rattle.std.specs.Prelude.{◌≡◌, ◌<◌, length, None, MatchOption, MatchResult};
 ghost use Rattle.ua_log.specs.Moves.{IsAlone};
-ghost use Rattle.ua_work.specs.Looks.{LooksTell};
-ghost use Rattle.ua_work.specs.Replicas.{SameClosure};
-ghost use Rattle.ua_work.specs.Workings.{GoesOn, IsFurther, Stops, IsJobOf};
+ghost use Rattle.ua_work.specs.inner.Looks.{LooksTell};
+ghost use Rattle.ua_work.specs.inner.Replicas.{SameClosure};
+ghost use Rattle.ua_work.specs.Beginnings.{IsFurther};
+ghost use Rattle.ua_work.specs.inner.Workings.{GoesOn, Stops, IsJobOf};
 
 use crate::harvests::End;
 use crate::puts::{Job, take_in};

@@ -2,7 +2,8 @@ use Rattle.std.proofs.Common.{◌≡◌, None, Some, Err, [], refl, sym, subst}
 use Rattle.serde_json.specs.View.{view}
 use Rattle.serde_json.specs.Find.{get}
 use Rattle.ua_cert.specs.declared.faults.FieldError.TheVariants as fault
-use Rattle.ua_cert.specs.Reading.{Reads, under, found}
+use Rattle.ua_cert.specs.Reading.{under, found}
+use Rattle.ua_cert.specs.inner.Reading.{Reads}
 use Rattle.ua_cert.proofs.fields.field.Goals as goal
 
 pub returns-in_default : goal.returns-in_default

@@ -1,6 +1,7 @@
 use Rattle.std.proofs.Common.{◌∙◌, subst}
 use Rattle.serde_json.specs.View.{view}
-use Rattle.ua_cert.specs.Reading.{Reads, under}
+use Rattle.ua_cert.specs.Reading.{under}
+use Rattle.ua_cert.specs.inner.Reading.{Reads}
 use Rattle.ua_cert.proofs.reading.item.Goals as goal
 
 pub returns : goal.returns

@@ -1,7 +1,8 @@
 use Rattle.std.proofs.Common.{◌≡◌, ◌+◌, ◌∷◌, ◌++◌, [], Err, sym, ap, subst, ◌∙◌}
 use Rattle.serde_json.specs.View.{view, items_view}
 use Rattle.ua_cert.specs.declared.faults.FieldError.TheVariants as fault
-use Rattle.ua_cert.specs.Reading.{Reads, under, index_path, items_from}
+use Rattle.ua_cert.specs.Reading.{under, index_path, items_from}
+use Rattle.ua_cert.specs.inner.Reading.{Reads}
 use Rattle.ua_cert.proofs.ReadLaws.{resume, left, item_taken, range_noted, range_kept, some_noted, none_noted}
 use Rattle.ua_cert.proofs.reading.items.Goals as goal
 use Rattle.ua_cert.proofs.reading.items.Goals.{in-Ok+in_ok-keep-in-Ok, in-Err-Range+then-is_none, in-Err-Range+else-is_none}

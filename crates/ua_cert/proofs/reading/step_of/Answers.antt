@@ -1,6 +1,7 @@
 use Rattle.std.proofs.Common.{◌-◌, length, take, drop, sym, subst}
 use Rattle.serde_json.specs.View.{view, items_view}
-use Rattle.ua_cert.specs.Reading.{Reads, both, under, index_path, text_of, number_of, items_from}
+use Rattle.ua_cert.specs.Reading.{both, under, index_path, text_of, number_of, items_from}
+use Rattle.ua_cert.specs.inner.Reading.{Reads}
 use Rattle.ua_cert.proofs.ReadLaws.{step_split}
 use Rattle.ua_cert.proofs.reading.step_of.Goals as goal
 

@@ -1,6 +1,6 @@
 use Rattle.std.proofs.Common.{◌≡◌, ◌+◌, ◌-◌, ◌∷◌, ◌++◌, [], take, set, length-set, sym, ap, ◌∙◌, arith}
 use Rattle.std.proofs.lemmas.List.{take_more_set, take-set}
-use Rattle.ua_flaws.specs.Firsts.{first_behind}
+use Rattle.ua_flaws.specs.inner.Firsts.{first_behind}
 use Rattle.ua_check.specs.Equations.{differ}
 use Rattle.ua_flaws.proofs.WalkLaws.{found_here, found_not}
 use Rattle.ua_check.proofs.equations.+first_failure.Goals as goal

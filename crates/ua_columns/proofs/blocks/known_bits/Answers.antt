@@ -1,5 +1,5 @@
 use Rattle.std.proofs.Common.{◌≡◌, ℕ, ◌+◌, ◌*◌, ◌/◌, ◌%◌, ◌^◌, ◌<◌, length, bit_or, sym, ap, subst, ◌∙◌, arith}
-use Rattle.ua_columns.specs.Tiles.{IsSomeKeyAt}
+use Rattle.ua_columns.specs.inner.Tiles.{IsSomeKeyAt}
 use Rattle.ua_columns.proofs.TileLaws.{one_more, bit_below, bit_at, bit_small, bit_true, bit_of, byte_is_bit, bit_entered}
 use Rattle.ua_columns.proofs.blocks.known_bits.Goals as goal
 

@@ -1,5 +1,5 @@
 use Rattle.std.proofs.Common.{◌≡◌, ℕ, ◌<◌, ◌/◌, ◌%◌, ◌^◌, length}
-use Rattle.ua_columns.specs.Tiles.{IsSomeKeyAt}
+use Rattle.ua_columns.specs.inner.Tiles.{IsSomeKeyAt}
 use Rattle.ua_columns.proofs.blocks.with_second_guesses.Given as goal
 
 abbrev pub invariant-loop-r : goal.invariant-loop-r

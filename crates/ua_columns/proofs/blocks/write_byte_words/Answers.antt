@@ -2,7 +2,7 @@ use Rattle.std.proofs.Common.{◌≡◌, ◌+◌, ◌*◌, ◌/◌, ◌%◌, [],
 use Rattle.std.specs.List.{range_with_len}
 use Rattle.std.specs.Prelude.{slice_set}
 use Rattle.std.proofs.lemmas.List.{get_or-set_same, get_or-set_other}
-use Rattle.ua_columns.specs.Tiles.{byte_word_at}
+use Rattle.ua_columns.specs.inner.Tiles.{byte_word_at}
 use Rattle.ua_columns.proofs.TileLaws.{one_more}
 use Rattle.ua_columns.proofs.blocks.write_byte_words.Goals as goal
 

@@ -1,6 +1,6 @@
 use Rattle.std.proofs.Common.{◌≡◌, ℕ, ◌+◌, ◌*◌, ◌/◌, ◌%◌, ◌<◌, ◌≤◌, [], length, map, slice_index_or, slice_range}
 use Rattle.std.specs.List.{range_with_len}
-use Rattle.ua_columns.specs.Tiles.{byte_word_at}
+use Rattle.ua_columns.specs.inner.Tiles.{byte_word_at}
 use Rattle.ua_columns.proofs.blocks.write_byte_words.Given as goal
 
 abbrev pub invariant-loop-j : goal.invariant-loop-j

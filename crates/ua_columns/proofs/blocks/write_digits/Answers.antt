@@ -1,5 +1,6 @@
 use Rattle.std.proofs.Common.{◌≡◌, ◌*◌, ◌≤◌, length, sym, ap, ◌∙◌, subst, arith}
-use Rattle.ua_columns.specs.Columns.{limit, tables, AreBelow, AreLinesOf, AreDigits}
+use Rattle.ua_columns.specs.Columns.{limit, tables, AreBelow, AreLinesOf}
+use Rattle.ua_columns.specs.inner.Columns.{AreDigits}
 use Rattle.ua_columns.proofs.KnownLaws.{half_digits, byte_digits}
 use Rattle.ua_columns.proofs.blocks.write_digits.Goals as goal
 

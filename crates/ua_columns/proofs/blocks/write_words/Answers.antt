@@ -2,7 +2,7 @@ use Rattle.std.proofs.Common.{◌≡◌, [], map, slice_index_or, ◌∙◌, ari
 use Rattle.std.specs.List.{range_with_len}
 use Rattle.std.specs.Prelude.{slice_set}
 use Rattle.std.proofs.lemmas.List.{get_or-set_same, get_or-set_other}
-use Rattle.ua_columns.specs.Tiles.{word_at}
+use Rattle.ua_columns.specs.inner.Tiles.{word_at}
 use Rattle.ua_columns.proofs.TileLaws.{one_more}
 use Rattle.ua_columns.proofs.blocks.write_words.Goals as goal
 

@@ -1,6 +1,6 @@
 use Rattle.std.proofs.Common.{◌≡◌, ℕ, ◌<◌, [], map, slice_index_or}
 use Rattle.std.specs.List.{range_with_len}
-use Rattle.ua_columns.specs.Tiles.{word_at}
+use Rattle.ua_columns.specs.inner.Tiles.{word_at}
 use Rattle.ua_columns.proofs.blocks.write_words.Given as goal
 
 abbrev pub invariant-loop-j : goal.invariant-loop-j

@@ -1,5 +1,5 @@
 use Rattle.std.proofs.Common.{◌≡◌, ℕ, ◌+◌, ◌*◌, ◌/◌, ◌%◌, ◌^◌, ◌<◌, bit_or, sym, ap, subst, ◌∙◌, arith}
-use Rattle.ua_columns.specs.Quads.{IsSomeKey}
+use Rattle.ua_columns.specs.inner.Quads.{IsSomeKey}
 use Rattle.ua_columns.proofs.TileLaws.{one_more, bit_below, bit_at, bit_small, bit_true, bit_of, byte_is_bit, bit_entered}
 use Rattle.ua_columns.proofs.key_blocks.known_keys.Goals as goal
 

@@ -1,5 +1,5 @@
 use Rattle.std.proofs.Common.{◌≡◌, ℕ, ◌<◌, ◌/◌, ◌%◌, ◌^◌}
-use Rattle.ua_columns.specs.Quads.{IsSomeKey}
+use Rattle.ua_columns.specs.inner.Quads.{IsSomeKey}
 use Rattle.ua_columns.proofs.key_blocks.known_keys.Given as goal
 
 abbrev pub invariant-loop-r : goal.invariant-loop-r

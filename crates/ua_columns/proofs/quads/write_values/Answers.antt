@@ -5,7 +5,7 @@ use Rattle.std.proofs.lemmas.Bool.{cases_lt}
 use Rattle.std.proofs.lemmas.List.{length-take, length-drop}
 use borrow.Rule.Slice.PartMut.{put_mid, mid_len}
 use Rattle.ua_rows.specs.Words.{lanes_of}
-use Rattle.ua_columns.specs.Quads.{values_in_word}
+use Rattle.ua_columns.specs.inner.Quads.{values_in_word}
 use Rattle.ua_columns.proofs.ListLaws.{part_index, put_long, put_here, put_before}
 use Rattle.ua_columns.proofs.quads.write_values.Goals as goal
 

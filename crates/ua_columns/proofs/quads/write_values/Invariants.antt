@@ -1,7 +1,7 @@
 use Rattle.std.proofs.Common.{◌≡◌, ℕ, ◌+◌, ◌*◌, ◌<◌, length, drop}
 use Rattle.std.specs.Prelude.{slice_index}
 use Rattle.ua_rows.specs.Words.{lanes_of}
-use Rattle.ua_columns.specs.Quads.{values_in_word}
+use Rattle.ua_columns.specs.inner.Quads.{values_in_word}
 use Rattle.ua_columns.proofs.quads.write_values.Given as goal
 
 abbrev pub invariant-loop-r : goal.invariant-loop-r

@@ -1,6 +1,6 @@
 use Rattle.std.proofs.Common.{◌≡◌, ℕ, ◌+◌, ◌<◌, [], ◌∷◌, ap, ◌∙◌, arith}
 use Rattle.std.specs.Simd.Lanes.{number_l}
-use Rattle.ua_columns.specs.Tiles.{word_across, looked_across, byte_word_at}
+use Rattle.ua_columns.specs.inner.Tiles.{word_across, looked_across, byte_word_at}
 use Rattle.ua_columns.proofs.ByteLaws.{lane_across}
 use Rattle.ua_columns.proofs.tiles.byte_words.Goals as goal
 

@@ -1,6 +1,6 @@
 use Rattle.std.proofs.Common.{◌≡◌, ℕ, ◌<◌, [], ◌∷◌, ◌∙◌, arith}
 use Rattle.std.specs.Simd.Lanes.{number_l}
-use Rattle.ua_columns.specs.Tiles.{word_across, word_at}
+use Rattle.ua_columns.specs.inner.Tiles.{word_across, word_at}
 use Rattle.ua_columns.proofs.tiles.line_words.Goals as goal
 
 pub returns : goal.returns

@@ -2,7 +2,7 @@ use Rattle.std.proofs.Common.{ℕ, ◌<◌, List, [], ◌∷◌, length, map, ge
 use Rattle.std.specs.List.{AllByRecursion}
 use Rattle.std.proofs.lemmas.List.{length-map}
 use Rattle.ua_rows.proofs.LineLaws.{all_or}
-use Rattle.ua_columns.specs.Tiles.{value_across}
+use Rattle.ua_columns.specs.inner.Tiles.{value_across}
 use Rattle.ua_columns.proofs.ByteLaws.{places_low, values_across, values_small, of_four}
 use Rattle.ua_columns.proofs.tiles.looked_across.Goals as goal
 

@@ -1,6 +1,6 @@
 use Rattle.std.proofs.Common.{◌≡◌, ℕ, ◌+◌, ◌<◌, [], ◌∷◌, take, drop, slice_index_or, ap, ◌∙◌, arith}
 use Rattle.std.specs.Simd.Lanes.{number_l}
-use Rattle.ua_columns.specs.Tiles.{first_by_turns, second_by_turns}
+use Rattle.ua_columns.specs.inner.Tiles.{first_by_turns, second_by_turns}
 use Rattle.ua_columns.proofs.TileLaws.{word_across_pairs}
 use Rattle.ua_columns.proofs.tiles.transposed.Goals as goal
 

@@ -1,6 +1,6 @@
 use Rattle.std.proofs.Common.{◌≡◌, ◌+◌, ◌-◌, ◌<◌, true, false, ◌∷◌, ◌++◌, [], length, take, set, length-set, refl, sym, ap, ◌∙◌, arith}
 use Rattle.std.proofs.lemmas.List.{take_more_set, take-set}
-use Rattle.ua_flaws.specs.Firsts.{first_behind}
+use Rattle.ua_flaws.specs.inner.Firsts.{first_behind}
 use Rattle.ua_flaws.specs.Closing.{is_missing}
 use Rattle.ua_flaws.proofs.WalkLaws.{leaf, goes_in, found_here, found_not}
 use Rattle.ua_flaws.proofs.closing.+first_missing.Goals as goal

@@ -1,5 +1,5 @@
 use Rattle.std.proofs.Common.{◌≡◌, ◌-◌, ◌+◌, length, take}
-use Rattle.ua_flaws.specs.Firsts.{first_behind}
+use Rattle.ua_flaws.specs.inner.Firsts.{first_behind}
 use Rattle.ua_flaws.specs.Closing.{is_missing}
 use Rattle.ua_flaws.proofs.WalkLaws.{from}
 use Rattle.ua_flaws.proofs.closing.+first_missing.Given as goal

@@ -3,7 +3,7 @@ use Rattle.std.specs.Prelude.{slice_index, slice_set}
 use Rattle.std.proofs.Math.Nat.{mul-le-mul_right}
 use Rattle.std.proofs.lemmas.Simd.{length-replicate}
 use Rattle.ua_table.specs.Algebras.{numeral}
-use Rattle.ua_columns.specs.Tiles.{value_across}
+use Rattle.ua_columns.specs.inner.Tiles.{value_across}
 use Rattle.ua_columns.proofs.TileLaws.{one_more}
 use Rattle.ua_lanes.proofs.LineLaws.{zeros_low, zeros_across}
 use Rattle.ua_lanes.proofs.lines.line_at.Goals as goal

@@ -2,7 +2,7 @@ use Rattle.std.proofs.Common.{◌≡◌, ℕ, ◌*◌, ◌<◌, ◌≤◌, lengt
 use Rattle.std.specs.Prelude.{slice_index, slice_set}
 use Rattle.std.specs.List.{AllByRecursion}
 use Rattle.ua_table.specs.Algebras.{numeral}
-use Rattle.ua_columns.specs.Tiles.{value_across}
+use Rattle.ua_columns.specs.inner.Tiles.{value_across}
 use Rattle.ua_lanes.proofs.lines.line_at.Given as goal
 
 abbrev pub invariant-loop-y : goal.invariant-loop-y

@@ -3,7 +3,7 @@ use Rattle.std.specs.List.{AllByRecursion}
 use Rattle.ua_rows.specs.RowLists.{rows_at}
 use Rattle.ua_rows.proofs.ApplyForms.{rows_at-vectors, has_operation, size_is, arity_is, entries_below}
 use Rattle.ua_columns.specs.Columns.{limit}
-use Rattle.ua_lanes.specs.Lines.{scale_at}
+use Rattle.ua_lanes.specs.inner.Lines.{scale_at}
 use Rattle.ua_lanes.proofs.LineLaws.{size_most, some_scale, scale_fits, zeros_across, line_past, line_is}
 use Rattle.ua_lanes.proofs.lines.line_of.Goals as goal
 

@@ -3,7 +3,8 @@ use Rattle.std.specs.Prelude.{slice_index, slice_index_or}
 use Rattle.std.proofs.lemmas.Bool.{cases_lt}
 use Rattle.ua_rows.specs.RowLists.{rows_at}
 use Rattle.ua_columns.specs.Columns.{limit}
-use Rattle.ua_lanes.specs.Lines.{AreSizesAtMost, scale_at, line_value}
+use Rattle.ua_lanes.specs.Lines.{AreSizesAtMost, line_value}
+use Rattle.ua_lanes.specs.inner.Lines.{scale_at}
 use Rattle.ua_lanes.proofs.LineLaws.{line_low}
 use Rattle.ua_lanes.proofs.lines.write_byte_lines.Goals as goal
 

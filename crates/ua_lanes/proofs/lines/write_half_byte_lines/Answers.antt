@@ -6,7 +6,8 @@ use Rattle.std.proofs.lemmas.List.{length-set}
 use Rattle.ua_table.proofs.Lists.{all_set}
 use Rattle.ua_rows.specs.RowLists.{rows_at}
 use Rattle.ua_columns.specs.Columns.{limit, entry_of}
-use Rattle.ua_lanes.specs.Lines.{AreSizesAtMost, scale_at, line_value}
+use Rattle.ua_lanes.specs.Lines.{AreSizesAtMost, line_value}
+use Rattle.ua_lanes.specs.inner.Lines.{scale_at}
 use Rattle.ua_lanes.proofs.LineLaws.{line_low, column_here, column_others}
 use Rattle.ua_lanes.proofs.lines.write_half_byte_lines.Goals as goal
 

@@ -3,7 +3,7 @@ use Rattle.std.specs.Prelude.{IfOk}
 use Rattle.ua_table.specs.Algebras.{Vector, IsVector}
 use Rattle.ua_table.specs.Listings.{vectors_of, ranks_of}
 use Rattle.ua_table.proofs.Lists.{all_weaker, AllZip-length}
-use Rattle.ua_listing.specs.Leasts.{AreByHeight}
+use Rattle.ua_listing.specs.inner.Leasts.{AreByHeight}
 use Rattle.ua_listing.specs.Rankings.{ArePositions}
 use Rattle.ua_listing.proofs.LeastLaws.{closed_vectors, least_listing}
 use Rattle.ua_listing.proofs.leasts.least.Goals as goal

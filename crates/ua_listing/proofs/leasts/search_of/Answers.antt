@@ -8,7 +8,7 @@ use Rattle.ua_table.specs.Numbering.{IsShape}
 use Rattle.ua_table.specs.Slices.{bound}
 use Rattle.ua_table.specs.VectorLists.{VectorList}
 use Rattle.ua_table.proofs.Lists.{Contains-none}
-use Rattle.ua_listing.specs.Searches.{IsMarked, IsSearch, IsSearchOf, ReachesMore, IsRowTable, GeneratorsVisitedIn, ConstantsVisitedIn, SlicesVisitedIn, IsWholeSearch}
+use Rattle.ua_listing.specs.inner.Searches.{IsMarked, IsSearch, IsSearchOf, ReachesMore, IsRowTable, GeneratorsVisitedIn, ConstantsVisitedIn, SlicesVisitedIn, IsWholeSearch}
 use Rattle.ua_listing.specs.declared.searches.Search.{Search}
 use Rattle.ua_listing.specs.declared.searches.Table.{Table}
 use Rattle.ua_listing.proofs.SearchLaws.{later_chain}

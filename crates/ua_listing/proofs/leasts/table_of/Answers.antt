@@ -7,7 +7,7 @@ use Rattle.ua_table.specs.Algebras.{Vector, FiniteAlgebra, Product, IsProduct, I
 use Rattle.ua_table.specs.Numbering.{IsShape, Fits}
 use Rattle.ua_table.proofs.SliceLaws.{bound_laws}
 use Rattle.ua_listing.specs.Leasts.{IsClosedWithin}
-use Rattle.ua_listing.specs.Searches.{IsRowTable}
+use Rattle.ua_listing.specs.inner.Searches.{IsRowTable}
 use Rattle.ua_listing.specs.declared.searches.Table.{Table}
 use Rattle.ua_table.specs.Counting.{EachOnceBelow, numbers_below}
 use Rattle.ua_table.specs.Listings.{Row, vectors_of}

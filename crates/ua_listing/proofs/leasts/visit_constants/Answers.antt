@@ -4,7 +4,7 @@ use Rattle.std.specs.Prelude.{slice_index}
 use Rattle.ua_rows.specs.declared.scratch_rows.Scratch.{Scratch}
 use Rattle.ua_table.specs.Algebras.{arities}
 use Rattle.ua_listing.specs.declared.searches.Search.{Search}
-use Rattle.ua_listing.specs.Searches.{GoesOnTo, AreConstantsVisited, no_arguments}
+use Rattle.ua_listing.specs.inner.Searches.{GoesOnTo, AreConstantsVisited, no_arguments}
 use Rattle.ua_listing.proofs.VisitLaws.{goes_on_start, goes_on_more, constants_more, constants_skip}
 use Rattle.ua_listing.proofs.leasts.visit_constants.Goals as goal
 use Rattle.ua_listing.proofs.leasts.visit_constants.Goals.{then-arity-eq0+in_ok-visit, else-arity-eq0}

@@ -1,5 +1,5 @@
 use Rattle.std.proofs.Common.{◌≡◌, length}
-use Rattle.ua_listing.specs.Searches.{GoesOnTo, AreConstantsVisited}
+use Rattle.ua_listing.specs.inner.Searches.{GoesOnTo, AreConstantsVisited}
 use Rattle.ua_listing.proofs.leasts.visit_constants.Given as goal
 
 abbrev pub invariant-loop-op : goal.invariant-loop-op

@@ -4,7 +4,7 @@ use Rattle.std.proofs.lemmas.Option.{get_or_from_slice_get}
 use Rattle.ua_table.specs.declared.origins.Origin.TheVariants.{Gen}
 use Rattle.ua_table.proofs.Lists.{All-slice_get, AllZip-length}
 use Rattle.ua_listing.specs.declared.searches.Search.{Search}
-use Rattle.ua_listing.specs.Searches.{GoesOnTo, AreGeneratorsVisited}
+use Rattle.ua_listing.specs.inner.Searches.{GoesOnTo, AreGeneratorsVisited}
 use Rattle.ua_listing.proofs.VisitLaws.{absent, goes_on_start, goes_on_more, may_generator, generators_more}
 use Rattle.ua_listing.proofs.leasts.visit_generators.Goals as goal
 use Rattle.ua_listing.proofs.leasts.visit_generators.Goals.{in-Some+in_ok-reach, in_default}

@@ -1,4 +1,4 @@
-use Rattle.ua_listing.specs.Searches.{GoesOnTo, AreGeneratorsVisited}
+use Rattle.ua_listing.specs.inner.Searches.{GoesOnTo, AreGeneratorsVisited}
 use Rattle.ua_listing.proofs.leasts.visit_generators.Given as goal
 
 abbrev pub invariant-loop-index : goal.invariant-loop-index

@@ -8,7 +8,7 @@ use Rattle.ua_table.specs.Slices.{bound}
 use Rattle.ua_table.proofs.SliceLaws.{bound_laws}
 use Rattle.ua_listing.specs.declared.searches.Search.{Search}
 use Rattle.ua_listing.specs.declared.searches.Table.{Table}
-use Rattle.ua_listing.specs.Searches.{height_in, height_number, IsRowTable, IsSearchOf, GoesOnTo}
+use Rattle.ua_listing.specs.inner.Searches.{height_in, height_number, IsRowTable, IsSearchOf, GoesOnTo}
 use Rattle.ua_listing.proofs.MarkLaws.{marked_below}
 use Rattle.ua_table.proofs.Members.{member_at}
 use Rattle.ua_listing.proofs.VisitLaws.{order_few, height_kept, top_of, goes_on_start, goes_on_chain, slices_more}

@@ -1,6 +1,6 @@
 use Rattle.std.proofs.Common.{◌≡◌, ◌≤◌, length}
 use Rattle.ua_table.specs.Slices.{IsMark}
-use Rattle.ua_listing.specs.Searches.{GoesOnTo, SlicesVisitedIn}
+use Rattle.ua_listing.specs.inner.Searches.{GoesOnTo, SlicesVisitedIn}
 use Rattle.ua_listing.proofs.leasts.visit_row.Given as goal
 
 abbrev pub invariant-loop-s : goal.invariant-loop-s

@@ -1,7 +1,7 @@
 use Rattle.std.proofs.Common.{◌+◌, ◌-◌, ◌<◌, length, sym, subst, arith}
 use Rattle.ua_table.specs.Algebras.{arities}
 use Rattle.ua_table.proofs.SliceLaws.{bound_laws}
-use Rattle.ua_listing.specs.Searches.{SlicesVisitedIn}
+use Rattle.ua_listing.specs.inner.Searches.{SlicesVisitedIn}
 use Rattle.ua_listing.proofs.SearchLaws.{later_itself, later_chain}
 use Rattle.ua_listing.proofs.VisitLaws.{order_few, row_kept, near_next}
 use Rattle.ua_listing.proofs.leasts.visit_rows.Goals as goal

@@ -1,7 +1,7 @@
 use Rattle.std.proofs.Common.{◌≡◌, ℕ, ◌-◌, ◌<◌, ◌≤◌, length}
 use Rattle.ua_table.specs.Algebras.{arities}
 use Rattle.ua_table.specs.Slices.{bound, IsMark}
-use Rattle.ua_listing.specs.Searches.{IsSearchOf, ReachesMore, IsNearTop, SlicesVisitedIn}
+use Rattle.ua_listing.specs.inner.Searches.{IsSearchOf, ReachesMore, IsNearTop, SlicesVisitedIn}
 use Rattle.ua_listing.proofs.leasts.visit_rows.Given as goal
 
 abbrev pub invariant-loop-m : goal.invariant-loop-m

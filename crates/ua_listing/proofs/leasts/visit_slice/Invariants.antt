@@ -1,5 +1,5 @@
 use Rattle.std.proofs.Common.{◌≡◌, length}
-use Rattle.ua_listing.specs.Searches.{GoesOnTo}
+use Rattle.ua_listing.specs.inner.Searches.{GoesOnTo}
 use Rattle.ua_listing.proofs.VisitLaws.{HasWalked}
 use Rattle.ua_listing.proofs.leasts.visit_slice.Given as goal
 

@@ -5,7 +5,8 @@ use Rattle.std.proofs.lemmas.List.{length-map}
 use Rattle.ua_table.specs.Counting.{EachOnceBelow}
 use Rattle.ua_table.specs.Orders.{Record, rows_of}
 use Rattle.ua_listing.specs.Rankings.{ArePositions}
-use Rattle.ua_listing.specs.Arrangements.{listed, origins_at, IsOriginOver, IsArranged}
+use Rattle.ua_listing.specs.Arrangements.{listed, IsOriginOver, IsArranged}
+use Rattle.ua_listing.specs.inner.Arrangements.{origins_at}
 use Rattle.ua_listing.proofs.ArrangementLaws.{ranks-within, arranged}
 use Rattle.ua_listing.proofs.listing.index_of.Goals as goal
 

@@ -4,7 +4,8 @@ use Rattle.std.proofs.lemmas.Option.{get_or_from_slice_get}
 use Rattle.ua_table.specs.declared.origins.Origin.TheVariants.{Gen}
 use Rattle.ua_table.specs.Orders.{Record}
 use Rattle.ua_table.proofs.Lists.{All-slice_get}
-use Rattle.ua_listing.specs.Arrangements.{by_position, origins_at, IsOriginOver}
+use Rattle.ua_listing.specs.Arrangements.{by_position, IsOriginOver}
+use Rattle.ua_listing.specs.inner.Arrangements.{origins_at}
 use Rattle.ua_listing.proofs.listing.moved_origins.Goals as goal
 
 pub moved-requires : goal.moved-requires

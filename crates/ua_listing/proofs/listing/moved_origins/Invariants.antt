@@ -1,5 +1,5 @@
 use Rattle.std.proofs.Common.{◌≡◌, take}
-use Rattle.ua_listing.specs.Arrangements.{origins_at}
+use Rattle.ua_listing.specs.inner.Arrangements.{origins_at}
 use Rattle.ua_listing.proofs.listing.moved_origins.Given as goal
 
 abbrev pub invariant-loop-rank : goal.invariant-loop-rank

@@ -3,7 +3,7 @@ use Rattle.std.specs.Prelude.{IsTrue}
 use Rattle.std.specs.Ordering.{is_lt}
 use Rattle.ua_table.specs.declared.origins.Origin.{Origin}
 use Rattle.ua_table.specs.declared.origins.Origin.TheVariants.{Op}
-use Rattle.ua_listing.specs.Searches.{IsBefore}
+use Rattle.ua_listing.specs.inner.Searches.{IsBefore}
 use Rattle.ua_listing.proofs.SearchLaws.{same_operation}
 use Rattle.ua_listing.proofs.searches.is_before.Goals as goal
 

@@ -1,7 +1,8 @@
 use Rattle.std.proofs.Common.{ap, sym, subst, ◌∙◌}
 use Rattle.std.proofs.lemmas.Result.{IfOk-weaker}
 use Rattle.ua_table.specs.Orders.{rows_of}
-use Rattle.ua_listing.specs.Rankings.{ranks_of_rows, IsRanking}
+use Rattle.ua_listing.specs.Rankings.{IsRanking}
+use Rattle.ua_listing.specs.inner.Rankings.{ranks_of_rows}
 use Rattle.ua_listing.proofs.sorting.ranks_in_order.Goals as goal
 
 pub returns-clause-ranking : goal.returns-clause-ranking

@@ -1,6 +1,6 @@
 use Rattle.std.proofs.Common.{◌≡◌, ◌+◌, ◌<◌, ◌++◌, [], ◌∷◌, ℕ, List, Vec, Global, length, get_or, set, sym, ap, ap₂, ◌∙◌, subst, arith}
 use Rattle.std.proofs.lemmas.List.{map-append, map-set, get_or-map, length-map, length_push}
-use Rattle.ua_part.specs.Blocks.{members_of, spaced}
+use Rattle.ua_part.specs.Blocks.{spaced, members_of}
 use Rattle.ua_part.proofs.TextLaws.{members_below, AreTexts, with_member, texts_more}
 use Rattle.ua_part.proofs.text.block_texts.Goals as goal
 

@@ -1,6 +1,6 @@
 use Rattle.std.proofs.Common.{List, ℕ, subst, below_more}
 use Rattle.std.specs.Prelude.{Option, IfSome, IfNone}
-use Rattle.ua_prod.specs.Searches.{Keeps, IsFirstEscapeOf}
+use Rattle.ua_prod.specs.inner.Searches.{Keeps, IsFirstEscapeOf}
 use Rattle.ua_prod.proofs.EscapeLaws.{KeepsAt, keeps_at, first_in_order}
 use Rattle.ua_prod.proofs.escapes.first_escape.Goals as goal
 

@@ -5,7 +5,7 @@ use Rattle.std.proofs.lemmas.Bool.{both_ways}
 use Rattle.std.proofs.lemmas.List.{take_all, length-map}
 use Rattle.ua_table.specs.Algebras.{numeral}
 use Rattle.ua_prod.specs.Constructions.{tuples_among}
-use Rattle.ua_prod.specs.Searches.{AreArguments}
+use Rattle.ua_prod.specs.inner.Searches.{AreArguments}
 use Rattle.ua_prod.proofs.EscapeLaws.{Stays, value_read, keeps_all, stays_more, first_among}
 use Rattle.ua_prod.proofs.escapes.first_escape_of.Goals as goal
 

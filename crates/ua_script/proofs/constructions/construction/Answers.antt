@@ -3,7 +3,7 @@ use Rattle.ua_text.specs.declared.symbols.Role.TheVariants as roles
 use Rattle.ua_text.specs.Signs.{sign, Front}
 use Rattle.ua_text.specs.Tokens.{tokens_left}
 use Rattle.ua_text.specs.Reading.{Gives}
-use Rattle.ua_script.specs.Reading.{IsShortConstruction}
+use Rattle.ua_script.specs.inner.Reading.{IsShortConstruction}
 use Rattle.ua_script.proofs.ConstructionLemmas.{first_of, behind, construction_front, is_product, is_quotient, is_subalgebra, is_reduct, some_construction}
 use Rattle.ua_script.proofs.constructions.construction.Goals as goal
 

@@ -1,7 +1,7 @@
 use Rattle.std.proofs.Common.{◌≤◌, length, arith}
 use Rattle.ua_rows.proofs.RowLemmas.{length-rows_at}
 use Rattle.ua_bases.specs.Bases.{row_at}
-use Rattle.ua_work.specs.Replicas.{values_in}
+use Rattle.ua_work.specs.inner.Replicas.{values_in}
 use Rattle.ua_work.proofs.WorkLaws.{places_seen}
 use Rattle.ua_work.proofs.PairLaws.{pair_origin, pair_new}
 use Rattle.ua_work.proofs.GrowthLaws.{recorded_further}

@@ -1,5 +1,6 @@
-use Rattle.ua_work.specs.Replicas.{SameClosure}
-use Rattle.ua_work.specs.Workings.{GoesOn, IsFurther}
+use Rattle.ua_work.specs.inner.Replicas.{SameClosure}
+use Rattle.ua_work.specs.Beginnings.{IsFurther}
+use Rattle.ua_work.specs.inner.Workings.{GoesOn}
 use Rattle.ua_work.proofs.looks.catch_up.Given as goal
 
 abbrev pub invariant-loop : goal.invariant-loop

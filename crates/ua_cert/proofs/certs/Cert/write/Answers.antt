@@ -9,7 +9,8 @@ use Rattle.serde_json.specs.View.{view}
 use Rattle.serde_json.specs.Written.{has_float, compact_text}
 use Rattle.ua_cert.specs.declared.certs.Cert.{Cert}
 use Rattle.ua_cert.specs.Certificates.{IsReadAs, cert_of}
-use Rattle.ua_cert.specs.Writing.{written, data_of, IsReadBack}
+use Rattle.ua_cert.specs.Writing.{written, data_of}
+use Rattle.ua_cert.specs.inner.Writing.{IsReadBack}
 use Rattle.ua_cert.proofs.WriteLaws.{shallow, whole}
 use Rattle.ua_cert.proofs.certs.Cert.write.Goals as goal
 

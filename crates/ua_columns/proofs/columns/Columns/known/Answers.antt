@@ -3,8 +3,9 @@ use Rattle.std.specs.Prelude.{slice_index_or, Contains}
 use Rattle.std.specs.List.{AllByRecursion}
 use Rattle.std.proofs.lemmas.List.FromFn.{length-map-range_with_len}
 use Rattle.ua_table.specs.Algebras.{Vector}
-use Rattle.ua_columns.specs.Tiles.{IsSomeKeyAt}
-use Rattle.ua_columns.specs.Columns.{VectorColumns, words_for, block_of, vector_in, AreLinesOf, AreDigits, values_at}
+use Rattle.ua_columns.specs.inner.Tiles.{IsSomeKeyAt}
+use Rattle.ua_columns.specs.Columns.{VectorColumns, words_for, block_of, vector_in, AreLinesOf, values_at}
+use Rattle.ua_columns.specs.inner.Columns.{AreDigits}
 use Rattle.ua_columns.proofs.KnownLaws.{whole_at, known_vector}
 use Rattle.ua_columns.proofs.columns.Columns.known.Goals as goal
 

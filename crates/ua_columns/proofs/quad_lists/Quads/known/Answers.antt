@@ -5,7 +5,8 @@ use Rattle.std.proofs.Math.Nat.{mul-le-mul_right}
 use Rattle.std.proofs.lemmas.List.FromFn.{length-map-range_with_len}
 use Rattle.ua_table.specs.Algebras.{Vector}
 use Rattle.ua_columns.specs.Columns.{values_at}
-use Rattle.ua_columns.specs.Quads.{QuadVectors, quad_vector, AreLongLines, IsSomeKey}
+use Rattle.ua_columns.specs.Quads.{QuadVectors, quad_vector, AreLongLines}
+use Rattle.ua_columns.specs.inner.Quads.{IsSomeKey}
 use Rattle.ua_columns.proofs.ListLaws.{part_index}
 use Rattle.ua_columns.proofs.QuadLaws.{known_quads}
 use Rattle.ua_columns.proofs.quad_lists.Quads.known.Goals as goal

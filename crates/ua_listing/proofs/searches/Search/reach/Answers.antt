@@ -8,7 +8,7 @@ use Rattle.ua_listing.specs.declared.searches.Search.{Search}
 use Rattle.ua_listing.specs.declared.searches.Table.{Table}
 use Rattle.ua_table.specs.declared.origins.Origin.{Origin}
 use Rattle.ua_table.specs.declared.origins.Origin.TheVariants.{Gen}
-use Rattle.ua_listing.specs.Searches.{IsMarked, height_in, origin_in, IsBefore, IsRowTable, IsTop, IsSearchOf, MayVisitIn, HasReachedIn}
+use Rattle.ua_listing.specs.inner.Searches.{IsMarked, height_in, origin_in, IsBefore, IsRowTable, IsTop, IsSearchOf, MayVisitIn, HasReachedIn}
 use Rattle.ua_listing.proofs.MarkLaws.{mark_is}
 use Rattle.ua_listing.proofs.SearchLaws.{entered, improved, stays}
 use Rattle.ua_listing.proofs.searches.Search.reach.Goals as goal

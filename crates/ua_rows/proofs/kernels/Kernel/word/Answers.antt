@@ -1,7 +1,7 @@
 use Rattle.std.proofs.Common.{◌≡◌, ◌<◌, ◌^◌, [], length, map, get_or, sym, ap, subst, arith}
 use Rattle.std.specs.List.{AllByRecursion, range_with_len}
 use Rattle.ua_rows.specs.declared.kernels.Kernel.{Kernel}
-use Rattle.ua_rows.specs.Gathered.{vectors_behind}
+use Rattle.ua_rows.specs.inner.Gathered.{vectors_behind}
 use Rattle.ua_rows.specs.Kernels.{looked, base_of, cells_of, Reads}
 use Rattle.ua_rows.specs.Words.{lanes_of}
 use Rattle.ua_rows.proofs.LineLaws.{line_read, one_behind}

@@ -1,6 +1,6 @@
 use Rattle.std.proofs.Common.{◌+◌, ◌-◌, ◌*◌, ◌/◌, ◌++◌, ℕ, List, take, refl, ap, ◌∙◌}
 use Rattle.std.specs.Prelude.{replicate}
-use Rattle.ua_rows.specs.Gathered.{vectors_behind}
+use Rattle.ua_rows.specs.inner.Gathered.{vectors_behind}
 use Rattle.ua_rows.specs.Kernels.{base_of, cells_of, looked, looked_from}
 use Rattle.ua_rows.proofs.WriteLaws.{written, written_mix, sealed}
 use Rattle.ua_rows.proofs.kernels.Kernel.write_words.Goals as goal

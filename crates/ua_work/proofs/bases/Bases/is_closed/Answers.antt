@@ -1,8 +1,8 @@
 use Rattle.std.proofs.Common.{ℕ, sym, ◌∙◌, subst}
 use Rattle.ua_bases.specs.Bases.{IsComplete}
 use Rattle.ua_bases.proofs.ClosedBases.{closed_by_bases}
-use Rattle.ua_work.specs.Completions.{IsBasisOf}
-use Rattle.ua_work.specs.Bases.{IsKnown}
+use Rattle.ua_work.specs.inner.Completions.{IsBasisOf}
+use Rattle.ua_work.specs.inner.Bases.{IsKnown}
 use Rattle.ua_work.proofs.bases.Bases.is_closed.Goals as goal
 
 pub returns-then-self-eq1 : goal.returns-then-self-eq1

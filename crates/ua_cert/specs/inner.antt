@@ -1,0 +1,4 @@
+-- What a function that reads a value answers.
+pub mod Reading
+-- That what is written is read back.
+pub mod Writing

@@ -1,0 +1,2 @@
+-- A number at the front of the tokens.
+pub mod Reading
