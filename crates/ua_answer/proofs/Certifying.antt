@@ -3,7 +3,7 @@ use Rattle.std.proofs.Common.{◌≡◌, ℕ, ◌<◌, ◌≤◌, true, nat_le, 
 use Rattle.std.specs.List.{AllByRecursion}
 use Rattle.std.proofs.lemmas.List.{length-replicate}
 use Rattle.ua_table.specs.declared.limits.TheConstants.{WIDTH}
-use Rattle.ua_table.specs.Algebras.{Vector, FiniteAlgebra, Product, IsProduct, IsVector}
+use Rattle.ua_table.specs.Algebras.{Vector, FiniteAlgebra, Product, IsProduct, IsVector, power}
 use Rattle.ua_table.specs.Frames.{IsWidth}
 use Rattle.ua_table.specs.VectorLists.{VectorList}
 use Rattle.ua_close.specs.declared.close.Closure.{Closure}
@@ -19,7 +19,6 @@ use Rattle.ua_cert.specs.declared.certs.Cert.{Cert}
 use Rattle.ua_cert.specs.declared.certs.CondName.{CondName}
 use Rattle.ua_cert.specs.declared.certs.CondName.TheVariants as conditions
 use Rattle.ua_cert.specs.declared.certs.ChainName.{ChainName}
-use Rattle.ua_flaws.specs.Shapes.{power}
 use Rattle.ua_check.specs.Conditions.{condition_of, has_places}
 use Rattle.ua_check.specs.Chains.{kind_of}
 use Rattle.ua_certify.specs.Certified.{closure_certificate, member_certificate, condition_certificate, chain_certificate, HasNoFlaw}

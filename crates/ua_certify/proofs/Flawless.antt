@@ -1,5 +1,5 @@
 -- The certificates of answers have no flaw.
-use Rattle.std.proofs.Common.{◌≡◌, ℕ, zero, suc, ◌-◌, ◌*◌, ◌<◌, ◌≤◌, ◌&&◌, true, false, Some, None, Ok, Vec, List, [], ◌∷◌, map, length, replicate, inr, ⊎_elim, refl, sym, ap, ◌∙◌, subst, arith}
+use Rattle.std.proofs.Common.{◌≡◌, ℕ, ◌-◌, ◌*◌, ◌<◌, ◌≤◌, ◌&&◌, true, false, Some, None, Ok, Vec, List, [], ◌∷◌, map, length, replicate, inr, ⊎_elim, refl, sym, ap, ◌∙◌, subst, arith}
 use Rattle.std.specs.Prelude.{Contains, slice_get, nat_le}
 use Rattle.std.specs.declared.alloc.Global.{Global}
 use Rattle.std.specs.List.{AllByRecursion}
@@ -11,15 +11,16 @@ use Rattle.std.proofs.lemmas.List.FromFn.{length-map-range_with_len}
 use Rattle.std.proofs.lemmas.Option.{get_or_from_slice_get}
 use Rattle.ua_table.specs.declared.limits.TheConstants.{WIDTH, CELLS}
 use Rattle.ua_table.specs.declared.origins.Origin.{Origin}
-use Rattle.ua_table.specs.Algebras.{Vector, FiniteAlgebra, IsAlgebra, Product, IsProduct, IsVector, IsIncreasing, signature, arities_of}
+use Rattle.ua_table.specs.Algebras.{Vector, FiniteAlgebra, IsAlgebra, Product, IsProduct, IsVector, IsIncreasing, arities_of, power}
 use Rattle.ua_table.specs.Tables.{IsAlgebraTable}
 use Rattle.ua_table.specs.Frames.{IsWidth}
 use Rattle.ua_table.specs.Terms.{Tree}
 use Rattle.ua_table.specs.Generated.{Sg}
 use Rattle.ua_table.specs.Listings.{Row, vectors_of, IsClosedListing}
-use Rattle.ua_table.proofs.Lists.{all_from_contains, all_replicate}
+use Rattle.ua_table.proofs.Lists.{all_from_contains}
 use Rattle.ua_table.proofs.FrameLemmas.{arities_of_power}
-use Rattle.ua_term.specs.Steps.{StepList, AreSteps, step_values, unfolded}
+use Rattle.ua_table.proofs.AlgebraLemmas.{power_product}
+use Rattle.ua_term.specs.Steps.{StepList, AreSteps, step_values, unfolded, written_term}
 use Rattle.ua_identity.specs.declared.limits.TheConstants.{PLACES}
 use Rattle.ua_identity.specs.Identities.{VariablePattern, TermIdentity, over_two}
 use Rattle.ua_identity.specs.Conditions.{TermCondition, IsPattern, IsCondition, Meets, maltsev, majority, minority, pixley, near_unanimity}
@@ -37,9 +38,8 @@ use Rattle.ua_cert.specs.declared.certs.CondName.{CondName}
 use Rattle.ua_cert.specs.declared.certs.CondName.TheVariants.{Maltsev, Majority, Minority, Pixley, Nu}
 use Rattle.ua_cert.specs.declared.certs.ChainName.{ChainName}
 use Rattle.ua_cert.specs.declared.certs.ChainName.TheVariants.{Jonsson, Hm}
-use Rattle.ua_flaws.specs.Shapes.{power}
 use Rattle.ua_flaws.specs.Answers.{AreExact, IsPowerListing}
-use Rattle.ua_flaws.specs.Steps.{written_steps, written_term}
+use Rattle.ua_flaws.specs.Steps.{written_steps}
 use Rattle.ua_flaws.specs.Flaws.{member_flaw, not_member_flaw}
 use Rattle.ua_check.specs.Conditions.{condition_of, has_places, width_of, condition_flaw, no_condition_flaw}
 use Rattle.ua_check.specs.Chains.{kind_of, chain_width, chain_flaw, HasNoChain}
@@ -60,14 +60,6 @@ abbrev pub AbsentLaw : Type 0
 AbsentLaw = (a : FiniteAlgebra) (gens : List Vector) (rows : List Row) (target : Vector) (width : ℕ) → IsPowerListing a width gens rows → IsVector (power a width) target → ¬ Contains (vectors_of rows) target → not_member_flaw a gens (vectors_of rows) target width ≡ None
 
 -- ---- powers
-
-power_product : (a : FiniteAlgebra) (width : ℕ) → IsAlgebra a → 0 < width → IsProduct (power a width)
-power_product a zero h some = absurd (omega (arith, some))
-power_product a (suc n) h some = record {
-  wide = omega arith;
-  algebras = all_replicate IsAlgebra (suc n) a h;
-  similar = all_replicate (λ b. signature b ≡ signature a) (suc n) a refl;
-}
 
 pub closed_power : (a : FiniteAlgebra) (width b : ℕ) (gens : List Vector) (rows : List Row) → MemberLaw → IsAlgebraTable a → IsWidth width → AllByRecursion (IsVector (power a width)) gens → IsClosedListing (power a width) gens b rows → IsPowerListing a width gens rows
 closed_power a width b gens rows law table wide admitted closed = record {
@@ -119,7 +111,7 @@ condition_is n Nu k h = n.near_unanimity_is k (low k h) (high k h)
     high j e = grind (arith, nat_tests)
 
 abbrev pub WideLaw : Type 0
-WideLaw = (a : FiniteAlgebra) (ps : List VariablePattern) → 0 < a.size → 0 < length ps → 0 < length (patterns.power a ps)
+WideLaw = (a : FiniteAlgebra) (ps : List VariablePattern) → 0 < a.size → 0 < length ps → 0 < length (patterns.pattern_power a ps)
 
 abbrev pub TermLaw : Type 0
 TermLaw = (a : FiniteAlgebra) (name : CondName) (k : ℕ) (steps : List Origin) → IsAlgebraTable a → has_places name k ≡ true → length (condition_power a (condition_of name k)) ≤ WIDTH → 0 < length steps → AreSteps (arities_of a) k steps → Meets a (written_term (arities_of a) steps) (condition_of name k)
@@ -193,7 +185,7 @@ NoChainLaw = (a : FiniteAlgebra) (name : ChainName) (rows : List Vector) (even o
     → no_chain_flaw a name rows even odd ≡ None
 
 abbrev pub PlaceLaw : Type 0
-PlaceLaw = (a : FiniteAlgebra) (ps : List VariablePattern) (places : ℕ) → AllByRecursion IsPattern ps → AllByRecursion (λ (p : VariablePattern). length p.places ≡ places) ps → AllByRecursion (IsVector (patterns.power a ps)) (generators a ps places)
+PlaceLaw = (a : FiniteAlgebra) (ps : List VariablePattern) (places : ℕ) → AllByRecursion IsPattern ps → AllByRecursion (λ (p : VariablePattern). length p.places ≡ places) ps → AllByRecursion (IsVector (patterns.pattern_power a ps)) (generators a ps places)
 
 -- the steps of each term
 abbrev pub items_of : List StepList → List (List Origin)

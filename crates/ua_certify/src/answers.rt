@@ -3,13 +3,12 @@
 
 ghost use Rattle.std.specs.Prelude.{◌≡◌, ◌≤◌, ℕ, true, Ok, IfOk};
 ghost use Rattle.std.specs.List.{AllByRecursion};
-ghost use Rattle.ua_table.specs.Algebras.{IsVector};
+ghost use Rattle.ua_table.specs.Algebras.{IsVector, power};
 ghost use Rattle.ua_table.specs.Frames.{IsWidth};
 ghost use Rattle.ua_close.specs.Answers.{Answers};
 ghost use Rattle.ua_close.specs.Memberships.{Tells};
 ghost use Rattle.ua_cond.specs.Permitted.{MayDecide};
 ghost use Rattle.ua_chain.specs.Permitted.{MayChain};
-ghost use Rattle.ua_flaws.specs.Shapes.{power};
 ghost use Rattle.ua_check.specs.Conditions.{condition_of, has_places};
 ghost use Rattle.ua_check.specs.Chains.{kind_of};
 ghost use Rattle.ua_certify.specs.Certified as certified;

@@ -7,7 +7,7 @@ use Rattle.ua_table.specs.Generated.{HasMoreThan}
 use Rattle.ua_table.specs.Terms.{Tree}
 use Rattle.ua_table.specs.Listings.{Row, vectors_of, IsClosedListing, IsExceedingListing}
 use Rattle.ua_table.specs.Orders.{IsSerialListing}
-use Rattle.ua_term.specs.Steps.{StepList, AreSteps, step_term}
+use Rattle.ua_term.specs.Steps.{StepList, AreSteps, written_term}
 use Rattle.ua_close.specs.Needed.{AreStepsFor}
 use Rattle.ua_table.specs.Sequences.{BeginsWith, EndsWith}
 use Rattle.ua_identity.specs.Chains.{ChainKind, IsChain, IsLeastChain, power_of, generators_of, AreReached}
@@ -16,9 +16,9 @@ use Rattle.ua_chain.specs.declared.chains.Chain.TheVariants.{Yes, No, Exceeds}
 
 -- ---- a chain
 
--- the term that steps write: that of the last
+-- the term that steps write
 abbrev pub term_of : StepList → Tree
-term_of s = step_term s.arities s.items (length s.items - 1)
+term_of s = written_term s.arities s.items
 
 -- steps over the operations of the algebra and the places of the kind
 pub record AreTermSteps (a : FiniteAlgebra) (kind : ChainKind) (s : StepList) : Type 0 where

@@ -15,6 +15,7 @@ use Rattle.ua_table.specs.Refusals.{refusal_if, first_refusal}
 use Rattle.ua_table.proofs.Lists.{all_from_places}
 use Rattle.ua_table.proofs.RefusalLemmas.{passed}
 use Rattle.ua_table.specs.Sequences.{Alternates, BeginsWith, EndsWith}
+use Rattle.ua_term.specs.Steps.{written_term}
 use Rattle.ua_identity.specs.Chains.{ChainKind, AreLinked, IsOwn, IsPlace, IsChain}
 use Rattle.ua_identity.specs.Patterns.{all_fillings}
 use Rattle.ua_cert.specs.declared.certs.CertStep.{CertStep}
@@ -22,7 +23,7 @@ use Rattle.ua_cert.specs.declared.certs.ChainName.{ChainName}
 use Rattle.ua_cert.specs.declared.certs.ChainName.TheVariants.{Jonsson, Hm}
 use Rattle.ua_flaws.specs.declared.flaws.Flaw.TheVariants as flaw
 use Rattle.ua_flaws.specs.Firsts.{first_bad}
-use Rattle.ua_flaws.specs.Steps.{origin_of, origins_of, written_term, last_term}
+use Rattle.ua_flaws.specs.Steps.{origin_of, origins_of, last_term}
 use Rattle.ua_flaws.specs.Flaws.{steps_flaw}
 use Rattle.ua_flaws.specs.Laws.{StepsAreSteps, LastIsTerm}
 use Rattle.ua_check.specs.Chains.{kind_of, chain_width, WritesChain, place_identity, satisfies, satisfies_all, is_fit, link_at, are_linked, is_in_chain, links_flaw, term_flaw, terms_flaw, is_without_term, chain_lines, chain_flaw}

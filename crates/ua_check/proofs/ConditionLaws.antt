@@ -7,13 +7,14 @@ use Rattle.std.proofs.lemmas.List.{length-replicate}
 use Rattle.std.proofs.lemmas.List.FromFn.{length-map-range_with_len}
 use Rattle.std.proofs.lemmas.Bool.{or_parts}
 use Rattle.ua_table.specs.declared.limits.TheConstants.{WIDTH}
-use Rattle.ua_table.specs.Algebras.{Vector, FiniteAlgebra, arities_of}
+use Rattle.ua_table.specs.Algebras.{Vector, FiniteAlgebra, arities_of, power}
 use Rattle.ua_table.specs.declared.origins.Origin.{Origin}
 use Rattle.ua_table.specs.Terms.{IsTerm}
 use Rattle.ua_table.specs.Generated.{Sg}
 use Rattle.ua_table.specs.Refusals.{refusal_if, first_refusal}
 use Rattle.ua_table.proofs.Lists.{all_map, all_from_contains}
 use Rattle.ua_table.proofs.RefusalLemmas.{passed}
+use Rattle.ua_term.specs.Steps.{written_term}
 use Rattle.ua_identity.specs.declared.limits.TheConstants.{PLACES}
 use Rattle.ua_identity.specs.Identities.{TermIdentity}
 use Rattle.ua_identity.specs.Conditions.{TermCondition, IsMet, near_unanimous}
@@ -23,8 +24,7 @@ use Rattle.ua_cert.specs.declared.certs.CondName.{CondName}
 use Rattle.ua_cert.specs.declared.certs.CondName.TheVariants.{Maltsev, Majority, Minority, Pixley, Nu}
 use Rattle.ua_flaws.specs.declared.flaws.ListName.TheVariants.{Rows}
 use Rattle.ua_flaws.specs.declared.flaws.Flaw.TheVariants as flaw
-use Rattle.ua_flaws.specs.Steps.{origins_of, written_term, last_term}
-use Rattle.ua_flaws.specs.Shapes.{power}
+use Rattle.ua_flaws.specs.Steps.{origins_of, last_term}
 use Rattle.ua_flaws.specs.Flaws.{vectors_flaw, steps_flaw, outside_lines}
 use Rattle.ua_flaws.specs.Laws.{StepsAreSteps, LastIsTerm, LackedIsOutside}
 use Rattle.ua_check.specs.Conditions.{condition_of, has_places, is_no_condition, WritesTerm, HasNoTerm, identities_flaw, condition_lines, condition_flaw, width_of, no_condition_flaw}

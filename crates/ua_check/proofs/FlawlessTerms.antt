@@ -9,13 +9,13 @@ use Rattle.std.proofs.lemmas.Bool.{and_from, or_from}
 use Rattle.std.proofs.lemmas.Option.{slice_get_within, get_or_from_slice_get}
 use Rattle.ua_table.specs.declared.limits.TheConstants.{WIDTH}
 use Rattle.ua_table.specs.declared.origins.Origin.{Origin}
-use Rattle.ua_table.specs.Algebras.{Vector, FiniteAlgebra, IsVector, arities_of, IsIncreasing}
+use Rattle.ua_table.specs.Algebras.{Vector, FiniteAlgebra, IsVector, arities_of, IsIncreasing, power}
 use Rattle.ua_table.specs.Tables.{IsAlgebraTable}
 use Rattle.ua_table.specs.Terms.{Tree, eval}
 use Rattle.ua_table.specs.Refusals.{first_refusal}
 use Rattle.ua_table.proofs.Lists.{found, All-slice_get}
 use Rattle.ua_table.proofs.RefusalLemmas.{passed, refusal_if-false}
-use Rattle.ua_term.specs.Steps.{AreSteps}
+use Rattle.ua_term.specs.Steps.{AreSteps, written_term}
 use Rattle.ua_term.specs.Assignments.{assignments}
 use Rattle.ua_term.proofs.AssignmentLaws.{assignment_from, read_all}
 use Rattle.ua_table.specs.Sequences.{Alternates, BeginsWith, EndsWith}
@@ -29,8 +29,7 @@ use Rattle.ua_cert.specs.declared.certs.ChainName.{ChainName}
 use Rattle.ua_flaws.specs.declared.flaws.ListName.TheVariants.{Rows}
 use Rattle.ua_flaws.specs.declared.flaws.Flaw.TheVariants as flaw
 use Rattle.ua_flaws.specs.Firsts.{first_bad}
-use Rattle.ua_flaws.specs.Steps.{written_step, written_steps, written_term, last_term}
-use Rattle.ua_flaws.specs.Shapes.{power}
+use Rattle.ua_flaws.specs.Steps.{written_step, written_steps, last_term}
 use Rattle.ua_flaws.specs.Answers.{AreExact}
 use Rattle.ua_flaws.specs.Flaws.{steps_flaw, outside_lines}
 use Rattle.ua_flaws.specs.Laws.{WrittenIsFlawless, WrittenIsRead, VectorsAreFlawless, LackingIsFlawless}

@@ -11,10 +11,9 @@ use Rattle.ua_table.specs.Tables.{IsAlgebraTable}
 use Rattle.ua_table.specs.Terms.{Tree, Generator, eval, eval_all}
 use Rattle.ua_table.specs.Origins.{IsOrigin}
 use Rattle.ua_table.proofs.Lists.{all_push}
-use Rattle.ua_term.specs.Steps.{AreSteps, terms_at, term_after, unfolded}
+use Rattle.ua_term.specs.Steps.{AreSteps, terms_at, term_after, unfolded, written_term}
 use Rattle.ua_term.proofs.StepLaws.{step_at, unfolded_more, length_from}
 use Rattle.ua_term.proofs.TreeLemmas.{operation_facts}
-use Rattle.ua_flaws.specs.Steps.{written_term}
 use Rattle.ua_check.specs.inner.Equations.{element_of}
 
 -- ---- their values

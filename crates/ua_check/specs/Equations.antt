@@ -2,8 +2,8 @@
 use Rattle.std.specs.Prelude.{ℕ, ◌==◌, not, Bool, List, map, slice_index}
 use Rattle.ua_table.specs.Algebras.{FiniteAlgebra, arities_of}
 use Rattle.ua_table.specs.Terms.{eval}
+use Rattle.ua_term.specs.Steps.{written_term}
 use Rattle.ua_check.specs.declared.equations.Side.{Side}
-use Rattle.ua_flaws.specs.Steps.{written_term}
 
 -- the value of a side of an equation at an assignment
 abbrev pub side_value : FiniteAlgebra → Side → List ℕ → ℕ

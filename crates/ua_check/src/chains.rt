@@ -4,10 +4,10 @@ ghost use Rattle.std.specs.Prelude.{◌≡◌, ◌<◌, ◌≤◌, ◌^◌, ◌=
 ghost use Rattle.std.specs.List.{AllByRecursion, list_any};
 ghost use Rattle.ua_table.specs.Algebras.{arities_of};
 ghost use Rattle.ua_table.specs.Refusals.{first_refusal};
-ghost use Rattle.ua_term.specs.Steps.{AreSteps};
+ghost use Rattle.ua_term.specs.Steps.{AreSteps, written_term};
 ghost use Rattle.ua_identity.specs.KindTables.{link_of};
 ghost use Rattle.ua_cert.specs.declared.certs.CertStep.{CertStep};
-ghost use Rattle.ua_flaws.specs.Steps.{written_term, origins_of};
+ghost use Rattle.ua_flaws.specs.Steps.{origins_of};
 ghost use Rattle.ua_flaws.specs.Flaws.{Tells};
 ghost use Rattle.ua_check.specs.Chains as chains;
 ghost use Rattle.ua_check.specs.inner.Chains.{AreStepsWithin};

@@ -5,11 +5,10 @@ ghost use Rattle.std.specs.List.{AllByRecursion};
 ghost use Rattle.ua_table.specs.declared.limits.TheConstants.{WIDTH};
 ghost use Rattle.ua_table.specs.Algebras.{arities_of};
 ghost use Rattle.ua_table.specs.Refusals.{refusal_if};
-ghost use Rattle.ua_term.specs.Steps.{AreSteps};
+ghost use Rattle.ua_term.specs.Steps.{AreSteps, written_term};
 ghost use Rattle.ua_identity.specs.Identities.{TermIdentity};
 ghost use Rattle.ua_identity.specs.Conditions.{IsCondition};
 ghost use Rattle.ua_flaws.specs.declared.flaws.Flaw.TheVariants as flaw;
-ghost use Rattle.ua_flaws.specs.Steps.{written_term};
 ghost use Rattle.ua_flaws.specs.Flaws.{Tells};
 ghost use Rattle.ua_check.specs.Conditions as conditions;
 

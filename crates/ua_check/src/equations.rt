@@ -4,9 +4,8 @@ ghost use Rattle.std.specs.Prelude.{◌≡◌, ◌-◌, ◌<◌, ◌≤◌, ℕ,
 ghost use Rattle.std.specs.List.{AllByRecursion};
 ghost use Rattle.std.specs.Option.{option_map};
 ghost use Rattle.ua_table.specs.Algebras.{arities_of};
-ghost use Rattle.ua_term.specs.Steps.{AreSteps};
+ghost use Rattle.ua_term.specs.Steps.{AreSteps, written_term};
 ghost use Rattle.ua_flaws.specs.inner.Firsts.{first_behind};
-ghost use Rattle.ua_flaws.specs.Steps.{written_term};
 ghost use Rattle.ua_check.specs.Conditions.{identity_failure};
 ghost use Rattle.ua_check.specs.Equations.{differ};
 ghost use Rattle.ua_check.specs.inner.Equations.{IsSide};

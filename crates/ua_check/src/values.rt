@@ -5,8 +5,7 @@ ghost use Rattle.std.specs.List.{AllByRecursion};
 ghost use Rattle.ua_table.specs.Algebras.{arities_of, value_at};
 ghost use Rattle.ua_table.specs.Origins.{IsOrigin};
 ghost use Rattle.ua_table.specs.Terms.{eval};
-ghost use Rattle.ua_term.specs.Steps.{AreSteps};
-ghost use Rattle.ua_flaws.specs.Steps.{written_term};
+ghost use Rattle.ua_term.specs.Steps.{AreSteps, written_term};
 ghost use Rattle.ua_check.specs.inner.Equations.{element_of};
 
 use ua_table::{Algebra, Elem, Origin};

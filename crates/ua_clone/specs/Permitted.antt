@@ -1,8 +1,8 @@
 -- What may be answered when it is asked whether some polynomial agrees with points, with the refusals.
-use Rattle.std.specs.Prelude.{◌≡◌, ℕ, ◌+◌, ◌-◌, List, length, slice_get, Some, Result, Ok, Err}
+use Rattle.std.specs.Prelude.{◌≡◌, ℕ, ◌+◌, List, Result, Ok, Err}
 use Rattle.ua_table.specs.Algebras.{FiniteAlgebra, arities_of}
 use Rattle.ua_table.specs.Terms.{Tree}
-use Rattle.ua_term.specs.Steps.{StepList, unfolded}
+use Rattle.ua_term.specs.Steps.{StepList, WriteTerm}
 use Rattle.ua_close.specs.declared.close.CloseError.{CloseError}
 use Rattle.ua_close.specs.declared.memberships.Answer.{Answer}
 use Rattle.ua_close.specs.declared.memberships.Answer.TheVariants.{Yes, No, Exceeds}
@@ -17,7 +17,7 @@ pub record WriteAgreeing (a : FiniteAlgebra) (k : ℕ) (kind : CloneKind) (ps : 
   pub operations : s.arities ≡ arities_of a
   pub generators : s.gens ≡ k + named_elements kind a.size
   pub polynomial : Tree
-  pub last : slice_get (unfolded s.arities s.items) (length s.items - 1) ≡ Some polynomial
+  pub last : WriteTerm s polynomial
   pub is_polynomial : IsPolynomial a k kind polynomial
   pub agrees : AgreesWith a ps polynomial
 

@@ -1,10 +1,10 @@
 -- For each budget there is a closed listing or an exceeding one.
-use Rattle.std.proofs.Common.{◌≡◌, ℕ, zero, suc, ◌*◌, ◌<◌, ◌≤◌, List, [], ◌∷◌, length, map, replicate, refl, ap, ◌∙◌, arith, ⊎_elim}
+use Rattle.std.proofs.Common.{◌≡◌, ℕ, ◌*◌, ◌<◌, ◌≤◌, List, [], ◌∷◌, length, map, refl, ap, ◌∙◌, arith, ⊎_elim}
 use Rattle.std.specs.Prelude.{Contains}
 use Rattle.std.specs.List.{AllByRecursion}
-use Rattle.std.proofs.lemmas.List.{length-map, length-replicate}
+use Rattle.std.proofs.lemmas.List.{length-map}
 use Rattle.std.proofs.lemmas.List.FromFn.{length-range_with_len}
-use Rattle.ua_table.specs.Algebras.{Vector, FiniteAlgebra, Product, IsAlgebra, IsProduct, IsVector, signature, apply}
+use Rattle.ua_table.specs.Algebras.{Vector, FiniteAlgebra, Product, IsProduct, IsVector, apply}
 use Rattle.ua_table.specs.Generated.{Sg, HasMoreThan}
 use Rattle.ua_table.specs.Listings.{Row, vectors_of, IsListing, IsClosedListing}
 use Rattle.ua_table.specs.Numbering.{choices}
@@ -12,7 +12,7 @@ use Rattle.ua_table.proofs.ApplyLemmas.{IsVector-apply}
 use Rattle.ua_table.proofs.Choices.{IsChoice, chosen, choice_from, range_low}
 use Rattle.ua_table.proofs.GeneratedLaws.{Sg-least}
 use Rattle.ua_table.proofs.ListingLaws.{vector_in, length-le_from_members, exceeding_has_more}
-use Rattle.ua_table.proofs.Lists.{all_at, all_weaker, all_replicate}
+use Rattle.ua_table.proofs.Lists.{all_at, all_weaker}
 use Rattle.ua_table.proofs.SpanLaws.{length_pieces}
 use Rattle.ua_work.specs.declared.goals.Goal.{Goal}
 use Rattle.ua_work.specs.declared.goals.Goal.TheVariants.{Whole}
@@ -36,17 +36,6 @@ module _ (p : Product) (gens : List Vector) (product : IsProduct p) (admitted : 
       (λ closed. record { closure = Closed l.rows; answers = closed.0; serial = l.serial })
       (λ ended. ⊎_elim (λ exceeding. record { closure = Exceeds l.rows; answers = exceeding.0; serial = l.serial }) (λ met. absurd met.met) ended)
       l.ends
-
--- ---- powers
-
--- a power of an algebra is a product
-pub power_product : (a : FiniteAlgebra) (n : ℕ) → IsAlgebra a → 0 < n → IsProduct (replicate n a)
-power_product a zero alg some = absurd (omega (arith, some))
-power_product a (suc n) alg some = record {
-  wide = (let l = length-replicate (suc n) a in omega (arith, l));
-  algebras = all_replicate IsAlgebra (suc n) a alg;
-  similar = all_replicate (λ (b : FiniteAlgebra). signature b ≡ signature a) (suc n) a refl;
-}
 
 -- ---- all vectors of a product
 

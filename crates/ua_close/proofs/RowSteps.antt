@@ -9,7 +9,7 @@ use Rattle.ua_table.specs.Counting.{EachOnceBelow}
 use Rattle.ua_table.specs.Listings.{Row, vectors_of, ranks_of, IsListing}
 use Rattle.ua_table.proofs.Lists.{Contains-head, Contains-tail, Contains-cases, Contains-none, all_at, all_weaker}
 use Rattle.ua_table.proofs.Members.{member_at}
-use Rattle.ua_table.proofs.Once.{once-some}
+use Rattle.ua_table.proofs.NumbersOnce.{once-some}
 use Rattle.ua_term.specs.Steps.{StepList}
 use Rattle.ua_listing.specs.inner.Searches.{IsMarked}
 use Rattle.ua_listing.proofs.MarkLaws.{marked_set}

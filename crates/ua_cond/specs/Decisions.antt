@@ -1,8 +1,8 @@
 -- What an answer says of the terms that meet a condition.
-use Rattle.std.specs.Prelude.{◌≡◌, ◌-◌, length, slice_get, Some, Result, Ok, Err}
+use Rattle.std.specs.Prelude.{Result, Ok, Err}
 use Rattle.ua_table.specs.Algebras.{FiniteAlgebra, arities_of}
 use Rattle.ua_table.specs.Terms.{Tree, IsTerm}
-use Rattle.ua_term.specs.Steps.{StepList, unfolded}
+use Rattle.ua_term.specs.Steps.{StepList, WriteTerm}
 use Rattle.ua_close.specs.declared.close.CloseError.{CloseError}
 use Rattle.ua_close.specs.declared.memberships.Answer.{Answer}
 use Rattle.ua_close.specs.declared.memberships.Answer.TheVariants.{Yes, No, Exceeds}
@@ -11,7 +11,7 @@ use Rattle.ua_identity.specs.Conditions.{TermCondition, Meets, IsMet}
 -- the last of the steps writes a term that meets the condition, at every assignment of elements
 pub record WriteMeeting (a : FiniteAlgebra) (c : TermCondition) (s : StepList) : Type 0 where
   pub term : Tree
-  pub last : slice_get (unfolded s.arities s.items) (length s.items - 1) ≡ Some term
+  pub last : WriteTerm s term
   pub is_term : IsTerm (arities_of a) c.arity term
   pub meets : Meets a term c
 

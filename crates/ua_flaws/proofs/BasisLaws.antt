@@ -1,31 +1,22 @@
 -- Rows that a complete basis closes under an operation lack no value of it.
-use Rattle.std.proofs.Common.{◌≡◌, ℕ, zero, suc, ◌-◌, ◌<◌, Bool, false, not, cond, Option, Some, None, List, [], ◌∷◌, length, take, sym, ap, ◌∙◌, subst, arith}
+use Rattle.std.proofs.Common.{◌≡◌, ℕ, ◌-◌, ◌<◌, Bool, false, not, cond, Option, Some, None, List, [], ◌∷◌, length, take, sym, ap, ◌∙◌, subst, arith}
 use Rattle.std.specs.Prelude.{Contains, slice_index, slice_index_or, find, replicate}
 use Rattle.std.specs.List.{range_with_len}
 use Rattle.std.specs.Option.{option_map}
 use Rattle.std.specs.Cmp.Lexicographic.{nat_list_eq_equiv}
 use Rattle.std.proofs.lemmas.Map.Views.{list_any-from_Contains}
 use Rattle.std.proofs.lemmas.List.Elements.{Contains-get_or}
-use Rattle.ua_table.specs.Algebras.{Vector, FiniteAlgebra, Product, IsAlgebra, IsProduct, arities, apply, signature}
+use Rattle.ua_table.specs.Algebras.{Vector, FiniteAlgebra, Product, IsAlgebra, arities, apply, power}
 use Rattle.ua_table.proofs.Lists.{all_replicate, Contains-head, Contains-tail}
 use Rattle.ua_table.proofs.Choices.{IsChoice, choice_from, range_low}
+use Rattle.ua_table.proofs.AlgebraLemmas.{power_product}
 use Rattle.ua_term.specs.Assignments.{assignments}
 use Rattle.ua_bases.specs.Associative.{IsAssociativeIn, IsAssociative}
 use Rattle.ua_bases.specs.Bases.{IsClosedUnder}
 use Rattle.ua_bases.proofs.ProductLaws.{associative_product}
 use Rattle.ua_flaws.specs.inner.Firsts.{first_behind}
-use Rattle.ua_flaws.specs.Shapes.{power}
 use Rattle.ua_flaws.specs.Closing.{Result, is_missing, missing_of}
 use Rattle.ua_flaws.proofs.ResultLaws.{of_operation}
-
--- the power of an algebra is a product
-pub power_product : (a : FiniteAlgebra) (width : ℕ) → IsAlgebra a → 0 < width → IsProduct (power a width)
-power_product a zero h some = absurd (omega (arith, some))
-power_product a (suc n) h some = record {
-  wide = omega arith;
-  algebras = all_replicate IsAlgebra (suc n) a h;
-  similar = all_replicate (λ (b : FiniteAlgebra). signature b ≡ signature a) (suc n) a (λ i. signature a);
-}
 
 find_nothing : (test : List ℕ → Bool) (xs : List (List ℕ)) → ((t : List ℕ) → Contains xs t → test t ≡ false) → find test xs ≡ None
 find_nothing test [] h = λ i. None

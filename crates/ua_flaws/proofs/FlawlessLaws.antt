@@ -13,7 +13,7 @@ use Rattle.std.proofs.lemmas.Option.{slice_get_within, get_or_from_slice_get}
 use Rattle.ua_table.specs.declared.limits.TheConstants.{WIDTH}
 use Rattle.ua_table.specs.declared.origins.Origin.{Origin}
 use Rattle.ua_table.specs.declared.origins.Origin.TheVariants.{Gen, Op}
-use Rattle.ua_table.specs.Algebras.{Vector, Operation, FiniteAlgebra, IsVector, arities, arities_of, names_of, apply, IsIncreasing}
+use Rattle.ua_table.specs.Algebras.{Vector, Operation, FiniteAlgebra, IsVector, arities, arities_of, names_of, apply, IsIncreasing, power}
 use Rattle.ua_table.specs.Names.{is_reserved, is_variable}
 use Rattle.ua_table.specs.Tables.{IsTable, IsAlgebraTable}
 use Rattle.ua_table.specs.Counting.{one_if, times, EachOnceBelow}
@@ -41,7 +41,7 @@ use Rattle.ua_flaws.specs.declared.flaws.ListName.{ListName}
 use Rattle.ua_flaws.specs.declared.flaws.ListName.TheVariants.{Gens, Rows, Target}
 use Rattle.ua_flaws.specs.Firsts.{first_bad, unlike_lengths, is_same, is_among}
 use Rattle.ua_flaws.specs.Steps.{is_generator, arity_named, is_step, origin_of, origins_of, rows_named, last_term, written_step, written_steps, row_steps}
-use Rattle.ua_flaws.specs.Shapes.{power, is_vector}
+use Rattle.ua_flaws.specs.Shapes.{is_vector}
 use Rattle.ua_flaws.specs.Closing.{is_missing, missing_of, missing}
 use Rattle.ua_flaws.specs.Answers.{AreExact, IsPowerListing}
 use Rattle.ua_flaws.specs.Flaws.{vectors_flaw, steps_flaw, follows, order_flaw, is_rank, first_or_short, ranks_flaw, is_made, origins_flaw, generators_flaw, results_flaw, closed_flaw, outside_lines, gives_target, member_lines, member_flaw, not_member_lines, not_member_flaw, listing_lines, listing_flaw}

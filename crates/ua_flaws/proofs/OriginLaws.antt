@@ -4,7 +4,7 @@ use Rattle.std.specs.Prelude.{slice_index, slice_index_or, nat_lt}
 use Rattle.std.specs.List.{AllByRecursion, list_all}
 use Rattle.ua_table.specs.declared.origins.Origin.{Origin}
 use Rattle.ua_table.specs.declared.origins.Origin.TheVariants.{Gen, Op}
-use Rattle.ua_table.specs.Algebras.{Vector, FiniteAlgebra, Product, arities, arities_of, apply}
+use Rattle.ua_table.specs.Algebras.{Vector, FiniteAlgebra, Product, arities, arities_of, apply, power}
 use Rattle.ua_table.specs.Origins.{IsOrigin, arguments_of, origin_value}
 use Rattle.ua_table.proofs.FrameLemmas.{arities_of_power}
 use Rattle.ua_rows.specs.RowLists.{rows_at}
@@ -12,7 +12,6 @@ use Rattle.ua_term.specs.Meanings.{operation_number}
 use Rattle.ua_cert.specs.declared.certs.CertStep.{CertStep}
 use Rattle.ua_flaws.specs.Firsts.{is_same}
 use Rattle.ua_flaws.specs.Steps.{is_generator, is_step, origin_of, rows_named}
-use Rattle.ua_flaws.specs.Shapes.{power}
 use Rattle.ua_flaws.specs.Flaws.{is_made}
 use Rattle.ua_flaws.proofs.StepLaws.{Passed, passed, step_read}
 

@@ -5,13 +5,12 @@ use Rattle.std.specs.List.{range_with_len}
 use Rattle.std.specs.Option.{option_map}
 use Rattle.std.proofs.lemmas.List.{length-map}
 use Rattle.std.proofs.lemmas.Option.{get_or_from_slice_get}
-use Rattle.ua_table.specs.Algebras.{Vector, Operation, FiniteAlgebra, Product, arities}
+use Rattle.ua_table.specs.Algebras.{Vector, Operation, FiniteAlgebra, Product, arities, power}
 use Rattle.ua_table.specs.Refusals.{first_refusal}
 use Rattle.ua_table.proofs.Lists.{mapped_at}
 use Rattle.ua_table.proofs.FrameLemmas.{arities_of_power}
 use Rattle.ua_term.specs.Assignments.{assignments}
 use Rattle.ua_flaws.specs.inner.Firsts.{first_behind}
-use Rattle.ua_flaws.specs.Shapes.{power}
 use Rattle.ua_flaws.specs.Closing.{is_missing, missing_of, missing}
 use Rattle.ua_flaws.proofs.WalkLaws.{map-same}
 

@@ -2,7 +2,7 @@
 use Rattle.std.proofs.Common.{◌≡◌, ℕ, zero, suc, ◌<◌, ◌≤◌, true, false, Option, None, Result, Ok, Err, List, [], ◌∷◌, length, sym, ap, ◌∙◌, subst, arith}
 use Rattle.std.specs.Prelude.{IsOk}
 use Rattle.ua_table.specs.declared.limits.TheConstants.{SIZE, WIDTH}
-use Rattle.ua_table.specs.Algebras.{FiniteAlgebra, Product, IsVector}
+use Rattle.ua_table.specs.Algebras.{FiniteAlgebra, Product, IsVector, power}
 use Rattle.ua_table.specs.Refusals.{is_outside}
 use Rattle.ua_table.proofs.Lists.{all_weaker}
 use Rattle.ua_rows.specs.RowLists.{RowList}
@@ -24,7 +24,7 @@ use Rattle.std.proofs.lemmas.Bool.Decides.{nat_tests}
 use Rattle.std.proofs.lemmas.Bool.{or_parts}
 use Rattle.ua_table.specs.Algebras.{Vector}
 use Rattle.ua_table.proofs.FrameLemmas.{arities_of_power}
-use Rattle.ua_flaws.specs.Shapes.{power, is_vector, IsOver}
+use Rattle.ua_flaws.specs.Shapes.{is_vector, IsOver}
 use Rattle.ua_flaws.proofs.FirstLaws.{both, all_below, option_none}
 
 pub is_over : (size width : ℕ) (v : Vector) → is_vector size width v ≡ true → IsOver size width v

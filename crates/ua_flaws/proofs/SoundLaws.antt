@@ -8,7 +8,7 @@ use Rattle.std.proofs.lemmas.Map.Views.{list_any-from_Contains}
 use Rattle.std.specs.Cmp.Lexicographic.{nat_list_eq_equiv}
 use Rattle.std.proofs.lemmas.Bool.{or_parts}
 use Rattle.ua_table.specs.declared.limits.TheConstants.{WIDTH}
-use Rattle.ua_table.specs.Algebras.{Vector, FiniteAlgebra, arities_of, arities, IsIncreasing}
+use Rattle.ua_table.specs.Algebras.{Vector, FiniteAlgebra, arities_of, arities, IsIncreasing, power}
 use Rattle.ua_table.specs.Counting.{EachOnceBelow}
 use Rattle.ua_table.specs.Terms.{IsTerm, term_value}
 use Rattle.ua_table.specs.Generated.{Sg}
@@ -27,7 +27,6 @@ use Rattle.ua_flaws.specs.declared.flaws.ListName.TheVariants.{Gens, Rows, Targe
 use Rattle.ua_flaws.specs.declared.flaws.Flaw.TheVariants as flaw
 use Rattle.ua_flaws.specs.Firsts.{first_bad, unlike_lengths, is_same, is_among}
 use Rattle.ua_flaws.specs.Steps.{is_step, origin_of, origins_of, last_term, rows_named}
-use Rattle.ua_flaws.specs.Shapes.{power}
 use Rattle.ua_flaws.specs.Closing.{missing}
 use Rattle.ua_flaws.specs.Flaws.{vectors_flaw, steps_flaw, is_made, first_or_short, origins_flaw, order_flaw, generators_flaw, results_flaw, closed_flaw, outside_lines, gives_target, member_lines, member_flaw, not_member_flaw, listing_lines, listing_flaw}
 use Rattle.ua_flaws.specs.Properties.{WritesMember, IsNoMember, rows_from, ListsAll}

@@ -2,10 +2,9 @@
 use Rattle.std.specs.Prelude.{ℕ, List, Contains}
 use Rattle.std.specs.List.{AllByRecursion}
 use Rattle.ua_table.specs.Frames.{IsWidth}
-use Rattle.ua_table.specs.Algebras.{Vector, FiniteAlgebra, IsVector}
+use Rattle.ua_table.specs.Algebras.{Vector, FiniteAlgebra, IsVector, power}
 use Rattle.ua_table.specs.Generated.{Sg}
 use Rattle.ua_table.specs.Listings.{Row, vectors_of, IsListing}
-use Rattle.ua_flaws.specs.Shapes.{power}
 
 -- the rows are exactly what is generated in the power
 pub record AreExact (a : FiniteAlgebra) (width : ℕ) (gens rows : List Vector) : Type 0 where

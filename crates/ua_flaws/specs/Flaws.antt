@@ -5,7 +5,7 @@ use Rattle.std.specs.Option.{option_map}
 use Rattle.std.specs.Ordering.{nat_cmp, is_lt}
 use Rattle.std.specs.Cmp.Lexicographic.{slice_cmp}
 use Rattle.ua_table.specs.declared.limits.TheConstants.{WIDTH}
-use Rattle.ua_table.specs.Algebras.{Vector, FiniteAlgebra}
+use Rattle.ua_table.specs.Algebras.{Vector, FiniteAlgebra, power}
 use Rattle.ua_table.specs.Origins.{origin_value}
 use Rattle.ua_table.specs.Terms.{term_value}
 use Rattle.ua_table.specs.Refusals.{refusal_if, first_refusal, is_outside}
@@ -19,7 +19,7 @@ use Rattle.ua_flaws.specs.declared.flaws.CheckError.{CheckError}
 use Rattle.ua_flaws.specs.declared.flaws.CheckError.TheVariants as error
 use Rattle.ua_flaws.specs.Firsts.{first_bad, unlike_lengths, is_same, is_among}
 use Rattle.ua_flaws.specs.Steps.{is_step, origin_of, last_term, rows_named}
-use Rattle.ua_flaws.specs.Shapes.{power, is_vector}
+use Rattle.ua_flaws.specs.Shapes.{is_vector}
 use Rattle.ua_flaws.specs.Closing.{missing}
 
 -- a vector of another length, or with a number that is no element

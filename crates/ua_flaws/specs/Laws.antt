@@ -2,7 +2,7 @@
 use Rattle.std.specs.Prelude.{◌≡◌, ℕ, ◌<◌, Option, None, List, length, Contains}
 use Rattle.std.specs.List.{AllByRecursion}
 use Rattle.ua_table.specs.declared.origins.Origin.{Origin}
-use Rattle.ua_table.specs.Algebras.{Vector, FiniteAlgebra, IsVector, IsIncreasing, arities_of}
+use Rattle.ua_table.specs.Algebras.{Vector, FiniteAlgebra, IsVector, IsIncreasing, arities_of, power}
 use Rattle.ua_table.specs.Tables.{IsAlgebraTable}
 use Rattle.ua_table.specs.Terms.{IsTerm}
 use Rattle.ua_table.specs.Generated.{Sg}
@@ -11,7 +11,6 @@ use Rattle.ua_term.specs.Steps.{AreSteps}
 use Rattle.ua_cert.specs.declared.certs.CertStep.{CertStep}
 use Rattle.ua_flaws.specs.declared.flaws.ListName.{ListName}
 use Rattle.ua_flaws.specs.Steps.{origins_of, last_term, written_steps}
-use Rattle.ua_flaws.specs.Shapes.{power}
 use Rattle.ua_flaws.specs.Answers.{AreExact}
 use Rattle.ua_flaws.specs.Flaws.{vectors_flaw, steps_flaw, closed_flaw, outside_lines}
 

@@ -1,13 +1,12 @@
 -- What a certificate says of an algebra.
 use Rattle.std.specs.Prelude.{◌≡◌, ℕ, List, [], ◌∷◌, length}
-use Rattle.ua_table.specs.Algebras.{Vector, FiniteAlgebra, arities_of}
+use Rattle.ua_table.specs.Algebras.{Vector, FiniteAlgebra, arities_of, power}
 use Rattle.ua_table.specs.Terms.{IsTerm, term_value}
 use Rattle.ua_table.specs.Generated.{Sg}
 use Rattle.ua_table.specs.Listings.{Row, IsClosedListing}
 use Rattle.ua_term.specs.Steps.{AreSteps}
 use Rattle.ua_cert.specs.declared.certs.CertStep.{CertStep}
 use Rattle.ua_flaws.specs.Steps.{origin_of, origins_of, last_term}
-use Rattle.ua_flaws.specs.Shapes.{power}
 
 -- the steps are steps over the generators, and the term of the last has the target as its value
 pub record WritesMember (a : FiniteAlgebra) (gens : List Vector) (steps : List CertStep) (target : Vector) (width : ℕ) : Type 0 where

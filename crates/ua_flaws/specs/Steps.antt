@@ -9,7 +9,7 @@ use Rattle.ua_table.specs.Origins.{arguments_of}
 use Rattle.ua_table.specs.Listings.{Row}
 use Rattle.ua_table.specs.Terms.{Tree}
 use Rattle.ua_term.specs.Printing.{name_at}
-use Rattle.ua_term.specs.Steps.{step_term}
+use Rattle.ua_term.specs.Steps.{written_term}
 use Rattle.ua_term.specs.Meanings.{operation_number, has_operation}
 use Rattle.ua_cert.specs.declared.certs.CertStep.{CertStep}
 
@@ -48,10 +48,6 @@ written_steps a origins = map (written_step a) origins
 -- the origins of rows, as they are written
 abbrev pub row_steps : FiniteAlgebra → List Row → List CertStep
 row_steps a rows = map (λ (r : Row). written_step a r.origin) rows
-
--- the term that steps write: the one that the last of them unfolds to
-abbrev pub written_term : List ℕ → List Origin → Tree
-written_term ks steps = step_term ks steps (length steps - 1)
 
 -- the term that the steps of a certificate write
 abbrev pub last_term : FiniteAlgebra → List CertStep → Tree

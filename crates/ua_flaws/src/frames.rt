@@ -4,8 +4,8 @@ ghost use Rattle.std.specs.Prelude.{◌≡◌, IfOk};
 ghost use Rattle.std.specs.Result.{result_err};
 ghost use Rattle.ua_table.specs.declared.limits.TheConstants.{WIDTH};
 ghost use Rattle.ua_table.specs.Refusals.{refusal_if, is_outside};
+ghost use Rattle.ua_table.specs.Algebras.{power};
 ghost use Rattle.ua_flaws.specs.declared.flaws.Flaw.TheVariants as flaw;
-ghost use Rattle.ua_flaws.specs.Shapes.{power};
 
 use crate::flaws::Flaw;
 use ua_table::{Algebra, Frame};

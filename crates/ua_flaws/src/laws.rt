@@ -3,13 +3,12 @@
 ghost use Rattle.std.specs.Prelude.{◌≡◌, ℕ, ◌-◌, None, Some, List, length, slice_get, Contains};
 ghost use Rattle.std.specs.List.{AllByRecursion};
 ghost use Rattle.ua_table.specs.declared.origins.Origin.{Origin};
-ghost use Rattle.ua_table.specs.Algebras.{Vector, FiniteAlgebra, IsVector, arities_of};
+ghost use Rattle.ua_table.specs.Algebras.{Vector, FiniteAlgebra, IsVector, arities_of, power};
 ghost use Rattle.ua_table.specs.Tables.{IsAlgebraTable};
 ghost use Rattle.ua_table.specs.Frames.{IsWidth};
 ghost use Rattle.ua_table.specs.Listings.{Row, vectors_of, ranks_of};
 ghost use Rattle.ua_term.specs.Steps.{AreSteps, step_values};
 ghost use Rattle.ua_flaws.specs.Steps.{written_steps, row_steps};
-ghost use Rattle.ua_flaws.specs.Shapes.{power};
 ghost use Rattle.ua_flaws.specs.Answers.{IsPowerListing};
 ghost use Rattle.ua_flaws.specs.Flaws.{member_flaw, not_member_flaw, listing_flaw};
 ghost use Rattle.ua_flaws.specs.Laws as law;

@@ -4,9 +4,8 @@ ghost use Rattle.std.specs.Prelude.{◌≡◌, ◌<◌, ◌^◌, length, IsOk, I
 ghost use Rattle.std.specs.List.{AllByRecursion};
 ghost use Rattle.ua_table.specs.Algebras.{IsVector, arities};
 ghost use Rattle.ua_table.specs.Terms.{term_value};
-ghost use Rattle.ua_term.specs.Steps.{AreSteps};
+ghost use Rattle.ua_term.specs.Steps.{AreSteps, written_term};
 ghost use Rattle.ua_flaws.specs.declared.flaws.CheckError.{CheckError};
-ghost use Rattle.ua_flaws.specs.Steps.{written_term};
 ghost use Rattle.ua_flaws.specs.Properties.{WritesMember, IsNoMember};
 ghost use Rattle.ua_flaws.specs.Flaws.{member_flaw, not_member_flaw, Tells};
 

@@ -4,9 +4,10 @@ ghost use Rattle.std.specs.Prelude.{◌≡◌, ◌<◌, ◌^◌, length, IfOk};
 ghost use Rattle.std.specs.List.{AllByRecursion};
 ghost use Rattle.std.specs.Result.{result_err};
 ghost use Rattle.ua_table.specs.Refusals.{refusal_if, first_refusal};
+ghost use Rattle.ua_table.specs.Algebras.{power};
 ghost use Rattle.ua_flaws.specs.declared.flaws.Flaw.TheVariants as flaw;
 ghost use Rattle.ua_flaws.specs.Firsts.{is_among};
-ghost use Rattle.ua_flaws.specs.Shapes.{power, IsOver};
+ghost use Rattle.ua_flaws.specs.Shapes.{IsOver};
 ghost use Rattle.ua_flaws.specs.Flaws.{closed_flaw, outside_lines, Tells};
 
 use crate::closing::{Table, closed, is_row};

@@ -17,7 +17,7 @@ use Rattle.ua_identity.specs.Identities.{VariablePattern, TermIdentity, filled, 
 use Rattle.ua_identity.specs.Chains.{ChainKind, IsPlace, IsOwn, IsChain, chain_length, IsLeastChain}
 use Rattle.ua_identity.proofs.KindLaws.{apart_at}
 use Rattle.ua_identity.specs.Kinds.{IsKind, IsOwnIdentity, IsPatternOf}
-use Rattle.ua_identity.specs.Patterns.{fillings, all_fillings, vector_of, place_vector, power, generators}
+use Rattle.ua_identity.specs.Patterns.{fillings, all_fillings, vector_of, place_vector, pattern_power, generators}
 use Rattle.ua_identity.proofs.ConditionLaws.{filled_all}
 use Rattle.ua_identity.proofs.PatternLaws.{AreFilled, value_is_vector, agree_maps}
 
@@ -31,19 +31,19 @@ pub generator_count : (a : FiniteAlgebra) (ps : List VariablePattern) (places : 
 generator_count a ps places = length-map-range_with_len (place_vector (all_fillings a.size ps)) 0 places
 
 -- the vector of a term is a member, and each member is the vector of a term
-pub member_of_term : (a : FiniteAlgebra) (kind : ChainKind) (t : Tree) → IsKind kind → 0 < length (all_fillings a.size kind.patterns) → IsTerm (arities_of a) kind.places t → Sg (power a kind.patterns) (generators a kind.patterns kind.places) (vector_of a kind.patterns t)
+pub member_of_term : (a : FiniteAlgebra) (kind : ChainKind) (t : Tree) → IsKind kind → 0 < length (all_fillings a.size kind.patterns) → IsTerm (arities_of a) kind.places t → Sg (pattern_power a kind.patterns) (generators a kind.patterns kind.places) (vector_of a kind.patterns t)
 member_of_term a kind t k wide h =
     let fs = all_fillings a.size kind.patterns in
     record {
       term = t;
-      is_term = subst (λ n. IsTerm (arities (power a kind.patterns)) n t) (sym (generator_count a kind.patterns kind.places)) (subst (λ (ks : List ℕ). IsTerm ks kind.places t) (sym (arities_of_power a (length fs) wide)) h);
+      is_term = subst (λ n. IsTerm (arities (pattern_power a kind.patterns)) n t) (sym (generator_count a kind.patterns kind.places)) (subst (λ (ks : List ℕ). IsTerm ks kind.places t) (sym (arities_of_power a (length fs) wide)) h);
       value = value_is_vector a fs kind.places t (all_filled kind.places a.size kind.patterns k.patterns) h;
     }
 
-pub term_of_member : (a : FiniteAlgebra) (kind : ChainKind) (v : Vector) → IsKind kind → 0 < length (all_fillings a.size kind.patterns) → Sg (power a kind.patterns) (generators a kind.patterns kind.places) v → (t : Tree) × IsTerm (arities_of a) kind.places t × (vector_of a kind.patterns t ≡ v)
+pub term_of_member : (a : FiniteAlgebra) (kind : ChainKind) (v : Vector) → IsKind kind → 0 < length (all_fillings a.size kind.patterns) → Sg (pattern_power a kind.patterns) (generators a kind.patterns kind.places) v → (t : Tree) × IsTerm (arities_of a) kind.places t × (vector_of a kind.patterns t ≡ v)
 term_of_member a kind v k wide s =
     let fs = all_fillings a.size kind.patterns in
-    let is : IsTerm (arities_of a) kind.places s.term = subst (λ (ks : List ℕ). IsTerm ks kind.places s.term) (arities_of_power a (length fs) wide) (subst (λ n. IsTerm (arities (power a kind.patterns)) n s.term) (generator_count a kind.patterns kind.places) s.is_term) in
+    let is : IsTerm (arities_of a) kind.places s.term = subst (λ (ks : List ℕ). IsTerm ks kind.places s.term) (arities_of_power a (length fs) wide) (subst (λ n. IsTerm (arities (pattern_power a kind.patterns)) n s.term) (generator_count a kind.patterns kind.places) s.is_term) in
     (s.term, is, sym (value_is_vector a fs kind.places s.term (all_filled kind.places a.size kind.patterns k.patterns) is) ∙ s.value)
 
 -- ---- places

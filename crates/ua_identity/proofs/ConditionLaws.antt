@@ -16,7 +16,7 @@ use Rattle.ua_term.specs.Assignments.{assignments, projection}
 use Rattle.ua_term.proofs.AssignmentLaws.{length_assignments, assignment_from}
 use Rattle.ua_identity.specs.Identities.{VariablePattern, TermIdentity, filled, Satisfies}
 use Rattle.ua_identity.specs.Conditions.{TermCondition, IsPattern, IsIdentity, IsCondition, Meets, IsMet}
-use Rattle.ua_identity.specs.Patterns.{fillings, all_fillings, vector_of, place_vector, power, generators, patterns_of, condition_power, argument_vectors, value_vector}
+use Rattle.ua_identity.specs.Patterns.{fillings, all_fillings, vector_of, place_vector, pattern_power, generators, patterns_of, condition_power, argument_vectors, value_vector}
 use Rattle.ua_identity.proofs.PatternLaws.{AreFilled, value_is_vector, satisfied_from_part, part_from_satisfied}
 use Rattle.ua_identity.proofs.FillingLaws.{length_fillings}
 
@@ -34,7 +34,7 @@ filled_all places n [] h = tt
 filled_all places n (p ∷ ps) h = all_append (λ (xs : List ℕ). length xs ≡ places) (fillings n p) (all_fillings n ps) (filled_one places n p h.0) (filled_all places n ps h.1)
 
 -- a term's value in the power is its vector
-pub value_on_patterns : (a : FiniteAlgebra) (ps : List VariablePattern) (places : ℕ) (t : Tree) → FillPlaces places ps → IsTerm (arities_of a) places t → term_value (power a ps) (generators a ps places) t ≡ vector_of a ps t
+pub value_on_patterns : (a : FiniteAlgebra) (ps : List VariablePattern) (places : ℕ) (t : Tree) → FillPlaces places ps → IsTerm (arities_of a) places t → term_value (pattern_power a ps) (generators a ps places) t ≡ vector_of a ps t
 value_on_patterns a ps places t fill h = value_is_vector a (all_fillings a.size ps) places t (filled_all places a.size ps fill) h
 
 -- ---- the vectors are vectors of the power
@@ -64,10 +64,10 @@ place_below n j (p ∷ ps) h low =
     (all_append (λ x. x < n) (place_vector (fillings n p) j) (place_vector (all_fillings n ps) j) (place_one n j p h.0 low.0) (place_below n j ps h.1 low.1))
 
 -- the vectors of the places
-pub generators_admitted : (a : FiniteAlgebra) (ps : List VariablePattern) (places : ℕ) → AllByRecursion IsPattern ps → FillPlaces places ps → AllByRecursion (IsVector (power a ps)) (generators a ps places)
+pub generators_admitted : (a : FiniteAlgebra) (ps : List VariablePattern) (places : ℕ) → AllByRecursion IsPattern ps → FillPlaces places ps → AllByRecursion (IsVector (pattern_power a ps)) (generators a ps places)
 generators_admitted a ps places h fill =
-    all_map (IsVector (power a ps)) (place_vector (all_fillings a.size ps)) (range_with_len 0 places)
-    (all_from_contains (λ j. IsVector (power a ps) (place_vector (all_fillings a.size ps) j)) (range_with_len 0 places) (λ j c.
+    all_map (IsVector (pattern_power a ps)) (place_vector (all_fillings a.size ps)) (range_with_len 0 places)
+    (all_from_contains (λ j. IsVector (pattern_power a ps) (place_vector (all_fillings a.size ps) j)) (range_with_len 0 places) (λ j c.
     let r = range_low 0 places j c in
     let low = r.1 in
     in_power a (length (all_fillings a.size ps)) (place_vector (all_fillings a.size ps) j) (length-map (all_fillings a.size ps) (λ (xs : List ℕ). slice_index xs j))

@@ -11,7 +11,7 @@ use Rattle.ua_table.specs.Algebras.{FiniteAlgebra}
 use Rattle.ua_term.specs.Assignments.{assignments, projection}
 use Rattle.ua_term.proofs.AssignmentLaws.{length_assignments, maps_agree}
 use Rattle.ua_identity.specs.Identities.{VariablePattern, filled}
-use Rattle.ua_identity.specs.Patterns.{fillings, all_fillings, place_vector, power}
+use Rattle.ua_identity.specs.Patterns.{fillings, all_fillings, place_vector, pattern_power}
 
 -- one piece more
 pub pieces_more : {X Y : Type 0} (g : X → List Y) (xs : List X) (i : ℕ) (d : X) → i < length xs → flat_map g (take (i + 1) xs) ≡ flat_map g (take i xs) ++ g (get_or xs i d)
@@ -29,7 +29,7 @@ patterns_wide n (p ∷ ps) some l =
     let both = length-append (fillings n p) (all_fillings n ps) in
     omega (arith, one, low, both)
 
-pub power_wide : (a : FiniteAlgebra) (ps : List VariablePattern) → 0 < a.size → 0 < length ps → 0 < length (power a ps)
+pub power_wide : (a : FiniteAlgebra) (ps : List VariablePattern) → 0 < a.size → 0 < length ps → 0 < length (pattern_power a ps)
 power_wide a ps some l = let wide = patterns_wide a.size ps some l in let long = length-replicate (length (all_fillings a.size ps)) a in omega (arith, wide, long)
 
 -- as many fillings more as there are assignments

@@ -3,10 +3,10 @@ use Rattle.std.specs.Prelude.{◌≡◌, ◌↔◌, ℕ, ◌-◌, ◌<◌, ◌�
 use Rattle.std.specs.List.{AllByRecursion}
 use Rattle.ua_table.specs.Algebras.{Vector, FiniteAlgebra, Product, arities_of}
 use Rattle.ua_table.specs.Terms.{Tree, IsTerm, eval}
-use Rattle.ua_term.specs.Assignments.{IsAssignment}
+use Rattle.ua_term.specs.Assignments.{IsAssignment, projection}
 use Rattle.ua_table.specs.Sequences.{Alternates, BeginsWith, EndsWith, ends_even}
-use Rattle.ua_identity.specs.Identities.{VariablePattern, TermIdentity, at_pattern, Satisfies}
-use Rattle.ua_identity.specs.Patterns.{vector_of, power, generators}
+use Rattle.ua_identity.specs.Identities.{VariablePattern, TermIdentity, at_pattern, SatisfiesAll}
+use Rattle.ua_identity.specs.Patterns.{vector_of, pattern_power, generators}
 
 -- the term is always what stands at place j of so many
 abbrev pub IsPlace : FiniteAlgebra → ℕ → ℕ → Tree → Type 0
@@ -38,7 +38,11 @@ pub record ChainKind : Type 0 where
 
 -- the term satisfies what each term of a chain does
 abbrev pub IsOwn : FiniteAlgebra → ChainKind → Tree → Type 0
-IsOwn a kind t = AllByRecursion (Satisfies a t) kind.own
+IsOwn a kind t = SatisfiesAll a t kind.own
+
+-- these are the values, at all assignments, that each term of a chain has at the patterns of these identities
+abbrev pub AreOwnValues : ℕ → ChainKind → List ℕ → Type 0
+AreOwnValues size kind values = AllByRecursion (λ (i : TermIdentity). values ≡ projection size i.pattern.variables i.value) kind.own
 
 -- a beginning of a chain: terms of which the first is place 0, and which meet each identity of the chain that speaks of them alone
 pub record IsBeginning (a : FiniteAlgebra) (kind : ChainKind) (terms : List Tree) : Type 0 where
@@ -67,7 +71,7 @@ is_among_even kind terms = ends_even terms || not kind.by_parity
 
 -- the power in which the vectors of the terms lie, on the patterns of the kind
 abbrev pub power_of : FiniteAlgebra → ChainKind → Product
-power_of a kind = power a kind.patterns
+power_of a kind = pattern_power a kind.patterns
 
 -- the vectors of its places, which generate those of the terms
 abbrev pub generators_of : FiniteAlgebra → ChainKind → List Vector

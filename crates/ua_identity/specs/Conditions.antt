@@ -4,7 +4,7 @@ use Rattle.std.specs.List.{AllByRecursion, range_with_len}
 use Rattle.ua_table.specs.Algebras.{FiniteAlgebra, arities_of}
 use Rattle.ua_table.specs.Terms.{Tree, IsTerm}
 use Rattle.ua_identity.specs.declared.limits.TheConstants.{PLACES, LETTERS}
-use Rattle.ua_identity.specs.Identities.{VariablePattern, TermIdentity, Satisfies, over_two, xxy, xyx, xyy, yxx}
+use Rattle.ua_identity.specs.Identities.{VariablePattern, TermIdentity, over_two, xxy, xyx, xyy, yxx, SatisfiesAll}
 
 -- a condition on a term of so many places: the identities that it is to satisfy
 pub record TermCondition : Type 0 where
@@ -13,7 +13,7 @@ pub record TermCondition : Type 0 where
 
 -- the term satisfies each identity, at every assignment
 abbrev pub Meets : FiniteAlgebra → Tree → TermCondition → Type 0
-Meets a t c = AllByRecursion (Satisfies a t) c.identities
+Meets a t c = SatisfiesAll a t c.identities
 
 -- some term meets the condition
 pub record IsMet (a : FiniteAlgebra) (c : TermCondition) : Type 0 where

@@ -1,7 +1,7 @@
 -- The vectors of terms on patterns, and of the variables of identities.
-use Rattle.std.specs.Prelude.{ℕ, List, length, map, take, drop, replicate, slice_index}
+use Rattle.std.specs.Prelude.{ℕ, List, length, map, take, drop, slice_index}
 use Rattle.std.specs.List.{flat_map, range_with_len}
-use Rattle.ua_table.specs.Algebras.{Vector, FiniteAlgebra, Product}
+use Rattle.ua_table.specs.Algebras.{Vector, FiniteAlgebra, Product, power}
 use Rattle.ua_table.specs.Terms.{Tree, eval}
 use Rattle.ua_term.specs.Assignments.{assignments, projection}
 use Rattle.ua_identity.specs.Identities.{VariablePattern, TermIdentity, filled}
@@ -24,8 +24,8 @@ abbrev pub place_vector : List (List ℕ) → ℕ → Vector
 place_vector fs j = map (λ (xs : List ℕ). slice_index xs j) fs
 
 -- the power in which the vectors lie
-abbrev pub power : FiniteAlgebra → List VariablePattern → Product
-power a ps = replicate (length (all_fillings a.size ps)) a
+abbrev pub pattern_power : FiniteAlgebra → List VariablePattern → Product
+pattern_power a ps = power a (length (all_fillings a.size ps))
 
 -- and the places as its generators
 abbrev pub generators : FiniteAlgebra → List VariablePattern → ℕ → List Vector
@@ -47,7 +47,7 @@ patterns_of c = map (λ (i : TermIdentity). i.pattern) c.identities
 
 -- the power with a coordinate for each identity and each assignment of its variables, identity first
 abbrev pub condition_power : FiniteAlgebra → TermCondition → Product
-condition_power a c = power a (patterns_of c)
+condition_power a c = pattern_power a (patterns_of c)
 
 -- for each place, what stands there
 abbrev pub argument_vectors : FiniteAlgebra → TermCondition → List Vector

@@ -3,11 +3,10 @@
 ghost use Rattle.std.specs.Prelude.{◌≡◌, ◌-◌, ◌<◌, ◌≤◌, ℕ, length, IfOk, IfSome};
 ghost use Rattle.std.specs.List.{AllByRecursion};
 ghost use Rattle.ua_table.specs.declared.limits.TheConstants.{SIZE, WIDTH};
-ghost use Rattle.ua_term.specs.Assignments.{projection};
-ghost use Rattle.ua_identity.specs.Identities.{TermIdentity};
 ghost use Rattle.ua_identity.specs.Patterns.{all_fillings};
 ghost use Rattle.ua_identity.specs.Kinds as kinds;
 ghost use Rattle.ua_identity.specs.KindTables.{pattern_at, number_of, own_of, link_of, IsPartOf};
+ghost use Rattle.ua_identity.specs.Chains.{AreOwnValues};
 
 use crate::fillings::start_of;
 use crate::patterns::Pattern;
@@ -182,7 +181,7 @@ impl Kind {
         requires some { 0 < size }
         requires small { size ≤ SIZE }
         requires narrow { length (all_fillings size self.now.patterns) ≤ WIDTH }
-        ensures { IfOk result (λ values. AllByRecursion (λ (i : TermIdentity). values.items ≡ projection size i.pattern.variables i.value) self.now.own) }
+        ensures { IfOk result (λ values. AreOwnValues size self.now values.items) }
     {
         let mut values = Vec::new(alloc);
         if let Some(m) = self.own {

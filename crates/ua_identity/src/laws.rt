@@ -8,14 +8,14 @@ ghost use Rattle.ua_table.specs.Generated.{Sg};
 ghost use Rattle.ua_identity.specs.Identities.{VariablePattern};
 ghost use Rattle.ua_identity.specs.declared.limits.TheConstants.{PLACES};
 ghost use Rattle.ua_identity.specs.Conditions.{TermCondition, IsPattern, IsCondition, Meets, IsMet, maltsev, majority, minority, pixley, near_unanimity};
-ghost use Rattle.ua_identity.specs.Patterns.{vector_of, power, generators, condition_power, argument_vectors, value_vector, patterns_of};
+ghost use Rattle.ua_identity.specs.Patterns.{vector_of, pattern_power, generators, condition_power, argument_vectors, value_vector, patterns_of};
 
 /// In the power with a coordinate for each pattern and each assignment, a term at the vectors of the places
 /// has as its value the term's values on the patterns.
 pub fn patterns()
-    ensures values { (a : FiniteAlgebra) (ps : List VariablePattern) (places : ℕ) (t : Tree) → AllByRecursion (λ (p : VariablePattern). length p.places ≡ places) ps → IsTerm (arities_of a) places t → term_value (power a ps) (generators a ps places) t ≡ vector_of a ps t }
-    ensures wide { (a : FiniteAlgebra) (ps : List VariablePattern) → 0 < a.size → 0 < length ps → 0 < length (power a ps) }
-    ensures places { (a : FiniteAlgebra) (ps : List VariablePattern) (places : ℕ) → AllByRecursion IsPattern ps → AllByRecursion (λ (p : VariablePattern). length p.places ≡ places) ps → AllByRecursion (IsVector (power a ps)) (generators a ps places) }
+    ensures values { (a : FiniteAlgebra) (ps : List VariablePattern) (places : ℕ) (t : Tree) → AllByRecursion (λ (p : VariablePattern). length p.places ≡ places) ps → IsTerm (arities_of a) places t → term_value (pattern_power a ps) (generators a ps places) t ≡ vector_of a ps t }
+    ensures wide { (a : FiniteAlgebra) (ps : List VariablePattern) → 0 < a.size → 0 < length ps → 0 < length (pattern_power a ps) }
+    ensures places { (a : FiniteAlgebra) (ps : List VariablePattern) (places : ℕ) → AllByRecursion IsPattern ps → AllByRecursion (λ (p : VariablePattern). length p.places ≡ places) ps → AllByRecursion (IsVector (pattern_power a ps)) (generators a ps places) }
 {}
 
 /// A term meets a condition exactly where its values on the patterns are what the identities say, which is

@@ -18,7 +18,7 @@ use Rattle.ua_rows.specs.RowLists.{rows_at}
 use Rattle.ua_listing.specs.Rankings.{IsRanking, ArePositions}
 use Rattle.ua_listing.specs.Arrangements.{origins_of, listed, IsIndex, by_position, IsOriginOver, IsArranged}
 use Rattle.ua_listing.specs.inner.Arrangements.{origins_at}
-use Rattle.ua_table.proofs.Once.{once-below, once-some}
+use Rattle.ua_table.proofs.NumbersOnce.{once-below, once-some}
 
 -- ---- the columns of a listing
 

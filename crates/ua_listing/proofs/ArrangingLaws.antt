@@ -19,7 +19,7 @@ use Rattle.ua_listing.specs.Rankings.{IsRanking, ArePositions}
 use Rattle.ua_listing.specs.Arrangements.{listed, IsOriginOver, IsArranged}
 use Rattle.ua_listing.specs.inner.Arrangements.{origins_at}
 use Rattle.ua_listing.proofs.ArrangementLaws.{arranged}
-use Rattle.ua_table.proofs.Once.{once-below, once-differ}
+use Rattle.ua_table.proofs.NumbersOnce.{once-below, once-differ}
 use Rattle.ua_listing.proofs.RankingLaws.{Ranked, ranked_cmp, ranks, numbered, ranking}
 
 -- ---- a list in order

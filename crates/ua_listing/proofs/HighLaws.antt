@@ -14,7 +14,7 @@ use Rattle.ua_table.proofs.Lists.{Contains-map_from}
 use Rattle.ua_listing.specs.declared.sorting.HighRow.{HighRow}
 use Rattle.ua_listing.specs.inner.Leasts.{ComesBefore, AreByHeight}
 use Rattle.ua_listing.specs.inner.Rankings.{places_of}
-use Rattle.ua_table.proofs.Once.{once-differ}
+use Rattle.ua_table.proofs.NumbersOnce.{once-differ}
 
 -- a height and a position
 abbrev pub High : Type 0

@@ -18,7 +18,7 @@ use Rattle.ua_rows.specs.RowLists.{rows_at}
 use Rattle.ua_listing.specs.declared.sorting.RankedRow.{RankedRow}
 use Rattle.ua_listing.specs.Rankings.{IsRanking}
 use Rattle.ua_listing.specs.inner.Rankings.{ranks_of_rows}
-use Rattle.ua_table.proofs.Once.{once-differ}
+use Rattle.ua_table.proofs.NumbersOnce.{once-differ}
 
 -- a vector and its rank
 abbrev pub Ranked : Type 0

@@ -17,7 +17,7 @@ use Rattle.ua_table.proofs.Lists.{Contains-map_from}
 use Rattle.ua_rows.specs.RowLists.{rows_at}
 use Rattle.ua_listing.specs.Rankings.{ArePositions}
 use Rattle.ua_listing.specs.Arrangements.{IsIndex}
-use Rattle.ua_table.proofs.Once.{once-below, once-some, once-differ}
+use Rattle.ua_table.proofs.NumbersOnce.{once-below, once-some, once-differ}
 
 -- ---- increasing vectors differ
 

@@ -5,7 +5,7 @@ use Rattle.ua_text.specs.declared.readers.Miss.{Miss}
 use Rattle.ua_text.specs.Pieces.{Placed}
 use Rattle.ua_text.specs.Signs.{Spelled, Wanted, IsSign, IsAt, Front}
 use Rattle.ua_text.specs.Reading.{Gives}
-use Rattle.ua_text.proofs.Back.{place_of}
+use Rattle.ua_text.proofs.ReadBack.{place_of}
 use Rattle.ua_operands.specs.Reading.{begins_item}
 use Rattle.ua_script.specs.declared.script.Command.{Command}
 use Rattle.ua_script.specs.declared.forms.CommandForm.{CommandForm}

@@ -10,7 +10,7 @@ use Rattle.ua_text.specs.declared.tokens.Place.{Place}
 use Rattle.ua_text.specs.Bytes.{is_number}
 use Rattle.ua_text.specs.Pieces.{Placed}
 use Rattle.ua_text.specs.Signs.{IsAt}
-use Rattle.ua_text.proofs.Back.{place_of}
+use Rattle.ua_text.proofs.ReadBack.{place_of}
 use Rattle.ua_text.specs.Words.{same}
 use Rattle.ua_text.specs.Machine.{Row, lookup, either}
 use Rattle.ua_text.proofs.WordLemmas.{same-true}

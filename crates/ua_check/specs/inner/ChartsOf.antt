@@ -3,10 +3,9 @@ use Rattle.std.specs.Prelude.{◌≡◌, ℕ, ◌<◌, ◌≤◌, Bool, true, fa
 use Rattle.std.specs.List.{AllByRecursion}
 use Rattle.ua_table.specs.declared.limits.TheConstants.{SIZE, WIDTH}
 use Rattle.ua_table.specs.Algebras.{Vector}
-use Rattle.ua_term.specs.Assignments.{projection}
 use Rattle.ua_rows.specs.RowLists.{RowList}
-use Rattle.ua_identity.specs.Identities.{VariablePattern, TermIdentity}
-use Rattle.ua_identity.specs.Chains.{Link}
+use Rattle.ua_identity.specs.Identities.{VariablePattern}
+use Rattle.ua_identity.specs.Chains.{Link, AreOwnValues}
 use Rattle.ua_identity.specs.Patterns.{fillings, all_fillings}
 use Rattle.ua_check.specs.declared.charts.Chart.{Chart}
 use Rattle.ua_check.specs.declared.positions.Positions.{Positions}
@@ -16,7 +15,7 @@ use Rattle.ua_check.specs.Reached.{part, holds_position}
 pub record IsChartOf (c : Chart) : Type 0 where
   pub some : 0 < c.size
   pub small : c.size ≤ SIZE
-  pub own : AllByRecursion (λ (i : TermIdentity). c.own.now ≡ projection c.size i.pattern.variables i.value) c.kind.now.own
+  pub own : AreOwnValues c.size c.kind.now c.own.now
   pub width : c.rows.now.width ≡ length (all_fillings c.size c.kind.now.patterns)
   pub narrow : c.rows.now.width ≤ WIDTH
 

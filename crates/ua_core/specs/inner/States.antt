@@ -1,6 +1,5 @@
 -- The parts of a state, and what they hold on the way.
-use Rattle.std.specs.Prelude.{◌≡◌, ℕ, ◌<◌, false, List, [], Contains, slice_index, map, vec_capacity, vec_len, Some, slice_get}
-use Rattle.ua_table.specs.Algebras.{Vector, Product, arities, apply}
+use Rattle.std.specs.Prelude.{◌≡◌, ℕ, ◌<◌, false, map, vec_capacity, vec_len, Some, slice_get}
 use Rattle.ua_core.specs.declared.hands.Hand.{Hand}
 use Rattle.ua_core.specs.declared.parts.Parts.{Parts}
 use Rattle.ua_core.specs.Machines.{Task, Worker}
@@ -32,7 +31,3 @@ pub record SameFrame (a new : Parts) : Type 0 where
   pub shape : new.shape ≡ a.shape
   pub budget : new.budget ≡ a.budget
   pub scratch : HasScratch a → HasScratch new
-
--- the vectors of the constants among the first n operations are rows
-abbrev pub HasConstants : Product → List Vector → ℕ → Type 0
-HasConstants p rows n = (f : ℕ) → f < n → slice_index (arities p) f ≡ 0 → Contains rows (apply p f [])

@@ -1,9 +1,8 @@
 -- Rows with the operations of their power.
 use Rattle.std.specs.Prelude.{◌≡◌, ◌<◌}
 use Rattle.std.specs.List.{AllByRecursion}
-use Rattle.ua_table.specs.Algebras.{FiniteAlgebra, Product, IsVector}
+use Rattle.ua_table.specs.Algebras.{FiniteAlgebra, Product, IsVector, power}
 use Rattle.ua_rows.specs.RowLists.{RowList}
-use Rattle.ua_flaws.specs.Shapes.{power}
 
 -- rows of a power of the algebra, with the operations of that power
 pub record IsTableOver (a : FiniteAlgebra) (operations : Product) (rows : RowList) : Type 0 where

@@ -1,7 +1,7 @@
 use Rattle.std.proofs.Common.{◌≡◌, ap, ◌∙◌, subst}
+use Rattle.ua_table.specs.Algebras.{power}
 use Rattle.ua_close.specs.declared.close.Closure.TheVariants as closures
 use Rattle.ua_close.specs.Answers.{Answers}
-use Rattle.ua_flaws.specs.Shapes.{power}
 use Rattle.ua_check.specs.Checking.{flaw_of}
 use Rattle.ua_certify.proofs.Flawless.{closed_power}
 use Rattle.ua_certify.proofs.answers.certify_closure.Goals as goal

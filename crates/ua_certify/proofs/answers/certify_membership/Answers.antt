@@ -1,7 +1,7 @@
 use Rattle.std.proofs.Common.{◌≡◌, ap, ◌∙◌, subst}
+use Rattle.ua_table.specs.Algebras.{power}
 use Rattle.ua_close.specs.declared.memberships.Answer.TheVariants as answers
 use Rattle.ua_close.specs.Memberships.{Tells}
-use Rattle.ua_flaws.specs.Shapes.{power}
 use Rattle.ua_flaws.specs.Steps.{written_steps}
 use Rattle.ua_flaws.specs.Flaws.{member_flaw, not_member_flaw}
 use Rattle.ua_certify.proofs.Flawless.{steps_flawless, absent_flawless}

@@ -3,8 +3,8 @@ use Rattle.std.specs.Option.{option_map}
 use Rattle.std.proofs.lemmas.List.{length-map, get_or-map}
 use Rattle.ua_table.specs.Algebras.{arities_of}
 use Rattle.ua_table.specs.Terms.{Generator}
+use Rattle.ua_term.specs.Steps.{written_term}
 use Rattle.ua_flaws.specs.declared.flaws.Flaw.TheVariants as flaw
-use Rattle.ua_flaws.specs.Steps.{written_term}
 use Rattle.ua_check.specs.Chains.{is_in_chain}
 use Rattle.ua_flaws.proofs.FirstLaws.{bad_here, bad_later}
 use Rattle.ua_check.proofs.chains.links.Goals as goal

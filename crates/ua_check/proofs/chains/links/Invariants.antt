@@ -1,7 +1,7 @@
 use Rattle.std.proofs.Common.{◌≡◌, map, drop, length}
 use Rattle.ua_table.specs.Algebras.{arities_of}
+use Rattle.ua_term.specs.Steps.{written_term}
 use Rattle.ua_flaws.specs.Firsts.{first_bad}
-use Rattle.ua_flaws.specs.Steps.{written_term}
 use Rattle.ua_check.specs.Chains.{is_in_chain}
 use Rattle.ua_check.proofs.chains.links.Given as goal
 

@@ -1,6 +1,6 @@
 use Rattle.std.proofs.Common.{◌≡◌, length}
 use Rattle.ua_table.specs.Algebras.{arities_of}
-use Rattle.ua_flaws.specs.Steps.{written_term}
+use Rattle.ua_term.specs.Steps.{written_term}
 use Rattle.ua_check.specs.Conditions.{identities_flaw, failure_flaw}
 use Rattle.ua_check.proofs.EnumLaws.{left}
 use Rattle.ua_check.proofs.conditions.identities.Given as goal

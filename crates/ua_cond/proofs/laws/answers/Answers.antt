@@ -1,9 +1,9 @@
 use Rattle.std.proofs.Common.{arith}
 use Rattle.std.proofs.lemmas.List.{length-map}
+use Rattle.ua_table.proofs.AlgebraLemmas.{power_product}
 use Rattle.ua_identity.specs.Identities.{TermIdentity}
 use Rattle.ua_identity.specs.Patterns.{condition_power, argument_vectors, value_vector, patterns_of}
 use Rattle.ua_close.proofs.AnswerLaws.{may_member}
-use Rattle.ua_close.proofs.KindLaws.{power_product}
 use Rattle.ua_cond.proofs.DecisionLaws.{decides}
 use Rattle.ua_cond.proofs.FrameLaws.{coordinates, width_is}
 use Rattle.ua_cond.proofs.laws.answers.Goals as goal

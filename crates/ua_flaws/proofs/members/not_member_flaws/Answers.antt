@@ -2,8 +2,9 @@ use Rattle.std.proofs.Common.{◌≡◌, ◌<◌, false, refl, sym, ◌∙◌, a
 use Rattle.std.specs.List.{AllByRecursion}
 use Rattle.ua_table.specs.declared.limits.TheConstants.{SIZE, WIDTH}
 use Rattle.ua_table.specs.Refusals.{is_outside}
+use Rattle.ua_table.specs.Algebras.{power}
 use Rattle.ua_flaws.specs.declared.flaws.Flaw.TheVariants as flaw
-use Rattle.ua_flaws.specs.Shapes.{power, IsOver}
+use Rattle.ua_flaws.specs.Shapes.{IsOver}
 use Rattle.ua_flaws.proofs.FirstLaws.{refusal_none}
 use Rattle.ua_flaws.proofs.ShapeLaws.{all_elements, wide}
 use Rattle.ua_flaws.proofs.members.not_member_flaws.Goals as goal

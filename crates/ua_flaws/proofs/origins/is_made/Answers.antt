@@ -3,10 +3,9 @@ use Rattle.std.specs.Prelude.{slice_index, nat_lt}
 use Rattle.std.specs.List.{AllByRecursion, list_all}
 use Rattle.std.proofs.lemmas.Option.{get_or_from_slice_get}
 use Rattle.ua_table.specs.declared.origins.Origin.TheVariants.{Gen, Op}
-use Rattle.ua_table.specs.Algebras.{apply}
+use Rattle.ua_table.specs.Algebras.{apply, power}
 use Rattle.ua_rows.specs.RowLists.{rows_at}
 use Rattle.ua_flaws.specs.Firsts.{is_same}
-use Rattle.ua_flaws.specs.Shapes.{power}
 use Rattle.ua_flaws.proofs.OriginLaws.{passed_at, all_named, arity_in, made_generator, made_high, made_operation}
 use Rattle.ua_flaws.proofs.origins.is_made.Goals as goal
 

@@ -1,7 +1,7 @@
 use Rattle.std.proofs.Common.{◌^◌}
+use Rattle.ua_table.proofs.AlgebraLemmas.{power_product}
 use Rattle.ua_term.specs.Assignments.{projections, power_of_assignments}
 use Rattle.ua_close.proofs.AnswerLaws.{may_close}
-use Rattle.ua_close.proofs.KindLaws.{power_product}
 use Rattle.ua_free.proofs.MemberLaws.{power_some, projections_admitted}
 use Rattle.ua_free.proofs.laws.free_algebras.Goals as goal
 

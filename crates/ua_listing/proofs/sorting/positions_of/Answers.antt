@@ -1,6 +1,6 @@
 use Rattle.std.proofs.Common.{◌<◌, length, get_or, arith, below_more, ◌∙◌}
 use Rattle.std.proofs.lemmas.List.{length-set, get_or-set_same, get_or-set_other}
-use Rattle.ua_table.proofs.Once.{once-below, once-differ}
+use Rattle.ua_table.proofs.NumbersOnce.{once-below, once-differ}
 use Rattle.ua_listing.proofs.sorting.positions_of.Goals as goal
 
 pub index_mut-requires : goal.index_mut-requires

@@ -6,7 +6,7 @@ use Rattle.ua_table.specs.Algebras.{Vector}
 use Rattle.ua_table.specs.Counting.{EachOnceBelow}
 use Rattle.ua_table.specs.Listings.{Row, vectors_of}
 use Rattle.ua_table.proofs.Lists.{All-slice_get}
-use Rattle.ua_table.proofs.Once.{once-below}
+use Rattle.ua_table.proofs.NumbersOnce.{once-below}
 use Rattle.ua_listing.proofs.RearrangeLaws.{rows_more, row_new}
 use Rattle.ua_listing.proofs.listing.Listing.rows_at.Goals as goal
 
