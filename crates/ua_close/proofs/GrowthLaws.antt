@@ -22,7 +22,7 @@ use Rattle.ua_work.proofs.RowValues.{either_way}
 use Rattle.ua_listing.specs.Arrangements.{IsArranged}
 use Rattle.ua_close.specs.Reaches.{vectors_but_last}
 use Rattle.ua_close.proofs.Closing.{listing_from, members_to, closed_from, exceeding_from}
-use Rattle.ua_close.proofs.Firsts.{IsFirstOf, first_of}
+use Rattle.ua_table.proofs.Firsts.{IsFirstOf, first_of}
 use Rattle.ua_close.proofs.MetLaws.{IsTest, from_rows, first_rows}
 use Rattle.ua_close.proofs.OriginLists.{all_origins, all_of_them, only_origins, result_origin}
 use Rattle.ua_close.proofs.ReachLaws.{serial_listing}

@@ -29,7 +29,7 @@ use Rattle.ua_listing.proofs.HighLaws.{High, high_cmp, highs, by_height}
 use Rattle.ua_listing.proofs.LeastLaws.{least_from}
 use Rattle.ua_work.proofs.RowValues.{either_way}
 use Rattle.ua_close.specs.Kinds.{HasLeast}
-use Rattle.ua_close.proofs.Firsts.{IsFirstOf, first_of}
+use Rattle.ua_table.proofs.Firsts.{IsFirstOf, first_of}
 use Rattle.ua_close.proofs.MetLaws.{vector_or}
 use Rattle.ua_close.proofs.OriginLists.{application, is_application, all_origins, all_of_them, only_origins, result_origin}
 

@@ -11,7 +11,7 @@ use Rattle.ua_table.specs.Terms.{Tree, eval}
 use Rattle.ua_term.specs.Assignments.{assignments}
 use Rattle.ua_term.proofs.AssignmentLaws.{assignment_in, assignment_from}
 use Rattle.ua_close.specs.Permitted.{IsAnswerable}
-use Rattle.ua_close.proofs.Firsts.{IsFirstOf, first_of}
+use Rattle.ua_table.proofs.Firsts.{IsFirstOf, first_of}
 use Rattle.ua_free.specs.Identities.{variables_in, AgreeAt}
 use Rattle.ua_free.specs.Permitted.{assignments_of, MayHold}
 use Rattle.ua_free.specs.declared.identities.HoldsError.{HoldsError}

@@ -20,7 +20,7 @@ use Rattle.ua_close.specs.Answers.{cells}
 use Rattle.ua_close.specs.Needed.{rank_at}
 use Rattle.ua_close.specs.Permitted.{IsAnswerable}
 use Rattle.ua_close.proofs.AnswerLaws.{wide_or}
-use Rattle.ua_close.proofs.Firsts.{IsFirstOf, first_of}
+use Rattle.ua_table.proofs.Firsts.{IsFirstOf, first_of}
 use Rattle.ua_close.proofs.GrowthLaws.{HasSerialListing, IsJustMetBy, serial_listing_exists}
 use Rattle.ua_close.proofs.KindLaws.{members_vectors}
 use Rattle.ua_close.proofs.MetLaws.{true_or, vector_or, goal_test}
