@@ -62,7 +62,7 @@ part_ends (parts.Identities i) q ps v ws e b = absurd (false≢true e)
 part_ends (parts.Pick table) q ps v ws e b = absurd (false≢true e)
 part_ends p q ps v ws e b = tt
 
-ends_well : (p : Part) (ps : List Part) (v : Values ps) (ws : List Wanted) → ends p ps ≡ true → begins_item ws → Ends p (values_text ps v ++ ws)
+pub ends_well : (p : Part) (ps : List Part) (v : Values ps) (ws : List Wanted) → ends p ps ≡ true → begins_item ws → Ends p (values_text ps v ++ ws)
 ends_well p [] v ws e b = item_ends p ws b
 ends_well p (q ∷ ps) v ws e b = part_ends p q ps v ws e b
 
