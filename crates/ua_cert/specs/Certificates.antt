@@ -1,5 +1,5 @@
 -- The certificate that a JSON value is, or the first field that is none.
-use Rattle.std.specs.Prelude.{◌≡◌, ℕ, Option, Some, None, Result, Ok, Err, List, [], ◌∷◌, map, codes}
+use Rattle.std.specs.Prelude.{◌≡◌, ◌≢◌, ℕ, Option, Some, None, Result, Ok, Err, List, [], ◌∷◌, map, codes}
 use Rattle.serde_json.specs.Data.{Data, Members}
 use Rattle.std.specs.Str.{IsUtf8}
 use Rattle.serde_json.specs.Find.{as_object}
@@ -143,3 +143,9 @@ TellsCert bytes (Err error.Json) = IsUtf8 bytes → read_text bytes ≡ None
 TellsCert bytes (Err (error.Shape path)) = IsReadAs bytes (Err (fault.Shape path))
 TellsCert bytes (Err (error.Range path)) = IsReadAs bytes (Err (fault.Range path))
 TellsCert bytes (Err error.OutOfMemory) = Unit {0}
+
+-- something is told of the text, and not that there is no memory
+pub record IsTold (bytes : List ℕ) : Type 0 where
+  pub result : Result Cert CertError
+  pub tells : TellsCert bytes result
+  pub told : result ≢ Err error.OutOfMemory

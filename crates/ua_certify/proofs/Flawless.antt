@@ -86,7 +86,7 @@ absent_flawless a width b gens target rows law absent table wide admitted one cl
 -- ---- conditions
 
 -- what is not too wide is no wider than a power may be
-narrow : (p : Product) (gens : List Vector) (b : ℕ) → 1 ≤ b → ¬ IsWide p gens b → length p ≤ WIDTH
+pub narrow : (p : Product) (gens : List Vector) (b : ℕ) → 1 ≤ b → ¬ IsWide p gens b → length p ≤ WIDTH
 narrow p gens b some h = ⊎_elim (λ over. absurd (h (inr over))) (λ within. (let more = mul-le-mul_right (length p) some in omega (arith, within, more))) (cases_lt CELLS (b * length p))
 
 -- the conditions with names are conditions

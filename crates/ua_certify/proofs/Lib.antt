@@ -1,3 +1,4 @@
 mod Flawless
 mod Loops
 mod Words
+mod FlawlessAnswers

@@ -7,3 +7,4 @@ pub mod AnswerLaws
 pub mod SerialLaws
 pub mod ClimbInLaws
 pub mod CallLaws
+pub mod ChainsExist

@@ -1,10 +1,10 @@
 -- That there is a commutator: the least congruence with which each matrix goes.
-use Rattle.std.proofs.Common.{◌≡◌, ◌⊎◌, inl, inr, ⊎_elim, ℕ, ◌<◌, List, length, replicate, refl, arith}
+use Rattle.std.proofs.Common.{◌≡◌, ◌⊎◌, inl, inr, ⊎_elim, ℕ, ◌<◌, List, length, replicate, arith}
 use Rattle.std.specs.Prelude.{Contains, slice_index}
 use Rattle.std.specs.List.{AllByRecursion}
 use Rattle.std.proofs.lemmas.Bool.{cases_eq}
 use Rattle.std.proofs.lemmas.List.Elements.{All-from_recursion}
-use Rattle.ua_table.specs.Algebras.{Vector, FiniteAlgebra, IsAlgebra, IsProduct}
+use Rattle.ua_table.specs.Algebras.{Vector, FiniteAlgebra, IsAlgebra}
 use Rattle.ua_table.specs.Listings.{vectors_of}
 use Rattle.ua_table.proofs.Lists.{all_at}
 use Rattle.ua_close.specs.Kinds.{cardinality}
@@ -13,7 +13,7 @@ use Rattle.ua_part.specs.Partitions.{Partition}
 use Rattle.ua_prod.specs.Congruences.{IsCongruence}
 use Rattle.ua_cong.proofs.LeastLaws.{all_or, same_or, IsLow, Asked, least_meeting}
 use Rattle.ua_matrix.specs.Matrices.{AreFour, Goes, matrix_generators}
-use Rattle.ua_matrix.proofs.MatrixLaws.{generators_vectors, rows_four}
+use Rattle.ua_matrix.proofs.MatrixLaws.{fourth_product, generators_vectors, rows_four}
 use Rattle.ua_comm.specs.Commutators.{HasCommutator}
 use Rattle.ua_comm.specs.Growths.{IsLeastGoing}
 use Rattle.ua_comm.proofs.CommutatorLaws.{commutator_grown}
@@ -51,7 +51,7 @@ pub commutator_exists : (a : FiniteAlgebra) (alpha beta : Partition) → IsAlgeb
 commutator_exists a alpha beta alg ca cb =
     let p = replicate 4 a in
     let gens = matrix_generators alpha beta in
-    let product : IsProduct p = record { wide = omega arith; algebras = (alg, (alg, (alg, (alg, tt)))); similar = (refl, (refl, (refl, (refl, tt)))) } in
+    let product = fourth_product a alg in
     let admitted = generators_vectors a alpha beta ca cb in
     let listed = closed_exists p gens product admitted (cardinality p) (omega arith) in
     let ms = vectors_of listed.rows in

@@ -3,3 +3,4 @@ pub mod GrowthLaws
 pub mod SeriesLaws
 pub mod MemberLaws
 pub mod ExistenceLaws
+pub mod AnswersExist

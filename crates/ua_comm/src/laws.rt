@@ -10,6 +10,12 @@ ghost use Rattle.ua_comm.specs.Commutators.{IsCommutator, HasCommutator};
 ghost use Rattle.ua_comm.specs.Growths.{IsLeastGoing};
 ghost use Rattle.ua_comm.specs.declared.members.Kind.{Kind};
 ghost use Rattle.ua_comm.specs.Series.{IsSuccessor, IsSuccessorWithin, IsBeginning, last_member};
+ghost use Rattle.ua_comm.specs.Permitted.{MayCommute, MayDescend};
+ghost use Rattle.ua_close.specs.declared.close.CloseError.{CloseError};
+ghost use Rattle.ua_close.specs.Permitted.{IsAnswerable};
+ghost use Rattle.ua_table.specs.declared.limits.TheConstants.{SIZE};
+
+use std::alloc::Global;
 
 /// The least congruence with which each of the generated matrices goes is the commutator. Two congruences
 /// have exactly one, and it lies below both (R. Freese and R. McKenzie, Commutator Theory for Congruence
@@ -28,4 +34,11 @@ pub fn descents()
     ensures congruence { (a : FiniteAlgebra) (kind : Kind) (budget : ℕ) (members : List Partition) → IsBeginning a (IsSuccessorWithin a kind budget) members → IsAlgebra a → IsCongruence a (last_member members) }
     ensures rises { (a : FiniteAlgebra) (kind : Kind) (d e : Partition) → IsAlgebra a → IsCongruence a d → IsSuccessor a kind d e → d ≢ e → total (λ x. x) d < total (λ x. x) e }
     ensures bounded { (a : FiniteAlgebra) (d : Partition) → IsCongruence a d → total (λ x. x) d ≤ total (λ x. x) (identity_on a.size) }
+{}
+
+/// A commutator and a series can be told otherwise than by want of memory. The allocator serves to speak of an
+/// answer in memory.
+pub fn answers(_alloc: Global)
+    ensures commutator { (a : FiniteAlgebra) (alpha beta : Partition) (b : ℕ) → IsAlgebra a → IsCongruence a alpha → IsCongruence a beta → IsAnswerable (MayCommute a alpha beta b) CloseError.OutOfMemory }
+    ensures series { (a : FiniteAlgebra) (kind : Kind) (b : ℕ) → IsAlgebra a → a.size ≤ SIZE → IsAnswerable (MayDescend a kind b) CloseError.OutOfMemory }
 {}

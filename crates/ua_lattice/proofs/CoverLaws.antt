@@ -78,7 +78,7 @@ places_moved list generators i old new down up h = record {
 
 -- ---- one partition lies below another, or it does not
 
-search_below : (P : ℕ → Type 0) → ((k : ℕ) → P k ⊎ (¬ P k)) → (n : ℕ) → ((k : ℕ) → k < n → P k) ⊎ ((k : ℕ) × (k < n) × (¬ P k))
+pub search_below : (P : ℕ → Type 0) → ((k : ℕ) → P k ⊎ (¬ P k)) → (n : ℕ) → ((k : ℕ) → k < n → P k) ⊎ ((k : ℕ) × (k < n) × (¬ P k))
 search_below P test zero = inl (λ k w. absurd (omega (arith, w)))
 search_below P test (suc n) =
     ⊎_elim
@@ -89,7 +89,7 @@ search_below P test (suc n) =
     (λ one. inr (one.0, let w = one.1 in omega (arith, w), one.2))
     (search_below P test n)
 
-below_or_not : (p q : Partition) → IsPartition p → length p ≡ length q → LiesBelow p q ⊎ (¬ LiesBelow p q)
+pub below_or_not : (p q : Partition) → IsPartition p → length p ≡ length q → LiesBelow p q ⊎ (¬ LiesBelow p q)
 below_or_not p q hp same =
     ⊎_elim
     (λ all. inl (below_from_leaders p q same all))

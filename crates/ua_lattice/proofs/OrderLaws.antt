@@ -34,6 +34,10 @@ then_equal Less rest e = cc
 then_equal Equal rest e = e
 then_equal Greater rest e = cc
 
+-- partitions that tie are the same
+pub same_from_tie : (p q : Partition) → by_blocks p q ≡ Equal → p ≡ q
+same_from_tie p q e = exact_bytes p q (then_equal (nat_cmp (block_count q) (block_count p)) (slice_cmp nat_cmp p q) e)
+
 less_from : (o : Ordering) → is_lt (ordering_reverse o) ≡ false → o ≢ Equal → o ≡ Less
 less_from Less h n = refl
 less_from Equal h n = absurd (n refl)
@@ -44,7 +48,7 @@ rises : (p q : Partition) → is_lt (by_blocks q p) ≡ false → p ≢ q → by
 rises p q h n =
     less_from (by_blocks p q)
     (ap is_lt (sym (by_blocks_total.antisymm q p)) ∙ h)
-    (λ e. n (exact_bytes p q (then_equal (nat_cmp (block_count q) (block_count p)) (slice_cmp nat_cmp p q) e)))
+    (λ e. n (same_from_tie p q e))
 
 -- different partitions that are sorted rise
 pub strictly_sorted : (ps : List Partition) → IsDistinct (pointwise nat_eq) ps → IsSorted by_blocks ps → IsStrictlySortedBy by_blocks ps
@@ -63,7 +67,7 @@ same = eq_by_cmp by_blocks
 
 same_Decides : (p q : Partition) → Decides (same p q) (p ≡ q)
 same_Decides p q = (
-  (λ t. exact_bytes p q (then_equal (nat_cmp (block_count q) (block_count p)) (slice_cmp nat_cmp p q) ((Equal-is (by_blocks p q)).0 t))),
+  (λ t. same_from_tie p q ((Equal-is (by_blocks p q)).0 t)),
   (λ e. subst (λ (r : Partition). same p r ≡ true) e (ap is_eq (tied_itself by_blocks_total p))),
 )
 

@@ -5,7 +5,11 @@ ghost use Rattle.ua_table.specs.Algebras.{FiniteAlgebra, IsAlgebra};
 ghost use Rattle.ua_part.specs.Partitions.{Partition, IsPartition, IsJoin, identity_on};
 ghost use Rattle.ua_prod.specs.Congruences.{IsCongruence};
 ghost use Rattle.ua_cong.specs.Principals.{HasPrincipals};
+ghost use Rattle.ua_lattice.specs.Answers.{HasLattice};
 ghost use Rattle.ua_lattice.specs.Lattices.{IsJoinClosed, IsJoinedWith, IsCongruenceList, IsExceedingList};
+ghost use Rattle.ua_table.specs.declared.limits.TheConstants.{BUDGET};
+
+use std::alloc::Global;
 
 /// The join of congruences, as partitions, is a congruence; and a list of congruences that holds the
 /// identity and all principal congruences, and is closed under joins, holds every congruence (S. Burris
@@ -25,4 +29,10 @@ pub fn joined_with()
 /// budget comes exactly where there are more.
 pub fn whole_or_exceeding()
     ensures { (a : FiniteAlgebra) (budget : ℕ) (list more : List Partition) → IsCongruenceList a list → length list ≤ budget → ¬ IsExceedingList a budget more }
+{}
+
+/// All congruences of an algebra can be told, or one more than the budget. The allocator serves to speak of an
+/// answer in memory.
+pub fn answers(_alloc: Global)
+    ensures { (a : FiniteAlgebra) (budget : ℕ) → IsAlgebra a → budget ≤ BUDGET → HasLattice a budget }
 {}

@@ -1,8 +1,8 @@
 -- All matrices of two congruences, and matrices that decide centrality.
-use Rattle.std.proofs.Common.{◌≡◌, ℕ, ◌≤◌, List, length, replicate, refl, sym, subst, arith}
+use Rattle.std.proofs.Common.{◌≡◌, ℕ, ◌≤◌, List, length, replicate, sym, subst, arith}
 use Rattle.std.specs.Prelude.{Contains, ◌↔◌}
 use Rattle.std.specs.List.{AllByRecursion}
-use Rattle.ua_table.specs.Algebras.{Vector, FiniteAlgebra, IsAlgebra, IsProduct}
+use Rattle.ua_table.specs.Algebras.{Vector, FiniteAlgebra, IsAlgebra}
 use Rattle.ua_table.specs.Listings.{vectors_of}
 use Rattle.ua_close.specs.Answers.{IsWide}
 use Rattle.ua_close.specs.Kinds.{cardinality}
@@ -15,15 +15,14 @@ use Rattle.ua_matrix.specs.Matrices.{matrix_generators, IsMatrix, Goes, AreFour}
 use Rattle.ua_matrix.specs.inner.Deltas.{leading_matrices}
 use Rattle.ua_matrix.specs.Squares.{number_of, AreDeciding}
 use Rattle.ua_matrix.specs.inner.Squares.{left_of, right_of, IsDeltaOf}
-use Rattle.ua_matrix.proofs.MatrixLaws.{generators_vectors}
+use Rattle.ua_matrix.proofs.MatrixLaws.{fourth_product, generators_vectors}
 use Rattle.ua_matrix.proofs.DeltaDecides.{condition_from_blocks, blocks_from_condition, leading_from_blocks, blocks_from_leading, leading_four, few_matrices}
 
 module _ (a : FiniteAlgebra) (alpha beta : Partition) (alg : IsAlgebra a) (ca : IsCongruence a alpha) (cb : IsCongruence a beta) where
   pub all_matrices : (matrices : List Vector) × ((m : Vector) → Contains matrices m ↔ IsMatrix a alpha beta m)
   all_matrices =
       let p = replicate 4 a in
-      let product : IsProduct (replicate 4 a) = record { wide = omega arith; algebras = (alg, (alg, (alg, (alg, tt)))); similar = (refl, (refl, (refl, (refl, tt)))) } in
-      let listed = closed_exists p (matrix_generators alpha beta) product (generators_vectors a alpha beta ca cb) (cardinality p) (omega arith) in
+      let listed = closed_exists p (matrix_generators alpha beta) (fourth_product a alg) (generators_vectors a alpha beta ca cb) (cardinality p) (omega arith) in
       (vectors_of listed.rows, λ m. listed.closed.exact m)
 
   -- the leading matrices decide centrality

@@ -1,8 +1,8 @@
 -- Matrices are vectors of the fourth power, and what a listing of all of them tells.
-use Rattle.std.proofs.Common.{◌≡◌, ℕ, ◌<◌, Bool, true, false, cond, List, [], ◌∷◌, replicate, refl, Ok, Err}
+use Rattle.std.proofs.Common.{◌≡◌, ℕ, ◌<◌, Bool, true, false, cond, List, [], ◌∷◌, replicate, refl, Ok, Err, arith}
 use Rattle.std.specs.Prelude.{Result, IfOk}
 use Rattle.std.specs.List.{AllByRecursion}
-use Rattle.ua_table.specs.Algebras.{Vector, FiniteAlgebra, IsVector}
+use Rattle.ua_table.specs.Algebras.{Vector, FiniteAlgebra, IsAlgebra, IsProduct, IsVector}
 use Rattle.ua_table.specs.Listings.{Row, vectors_of, IsListing, IsClosedListing}
 use Rattle.ua_table.specs.Orders.{IsSerialListing}
 use Rattle.ua_table.proofs.ListingLaws.{vector_in, closed_has_no_more}
@@ -24,6 +24,9 @@ use Rattle.ua_matrix.proofs.Deciding.{variables_related}
 use Rattle.ua_matrix.proofs.CentralLaws.{first_in, second_in}
 
 -- ---- the fourth power
+
+pub fourth_product : (a : FiniteAlgebra) → IsAlgebra a → IsProduct (replicate 4 a)
+fourth_product a alg = record { wide = omega arith; algebras = (alg, (alg, (alg, (alg, tt)))); similar = (refl, (refl, (refl, (refl, tt)))) }
 
 four_from_vector : (a : FiniteAlgebra) (m : Vector) → IsVector (replicate 4 a) m → AreFour a.size m
 four_from_vector a [] h = absurd h

@@ -2,7 +2,7 @@
 
 ghost use Rattle.std.specs.Prelude.{ℕ, ◌<◌, ◌↔◌, List, length, Contains};
 ghost use Rattle.std.specs.List.{AllByRecursion};
-ghost use Rattle.ua_table.specs.Algebras.{Vector, FiniteAlgebra};
+ghost use Rattle.ua_table.specs.Algebras.{Vector, FiniteAlgebra, IsAlgebra};
 ghost use Rattle.ua_part.specs.Partitions.{Partition, LiesBelow};
 ghost use Rattle.ua_part.specs.Pairs.{related_pairs};
 ghost use Rattle.ua_prod.specs.Congruences.{IsCongruence};
@@ -10,6 +10,9 @@ ghost use Rattle.ua_matrix.specs.Centrality.{Centralizes};
 ghost use Rattle.ua_matrix.specs.Matrices.{IsMatrix, MatricesCentralize, Goes, Fails};
 ghost use Rattle.ua_matrix.specs.Answers.{HasMoreMatrices};
 ghost use Rattle.ua_matrix.specs.Deltas.{IsDeltaIn, HasRelatedRows, RelatesRows, AreUniform};
+ghost use Rattle.ua_close.specs.declared.close.CloseError.{CloseError};
+ghost use Rattle.ua_close.specs.Permitted.{IsAnswerable};
+ghost use Rattle.ua_matrix.specs.Permitted.{MayBeCentral};
 ghost use Rattle.ua_matrix.specs.Worked.{MeetIsNotAbelian};
 
 /// The generated matrices decide the term condition, over all terms and all markings of their variables
@@ -33,6 +36,11 @@ pub fn deltas()
     ensures least { (a : FiniteAlgebra) (alpha beta : Partition) (left right : ℕ → ℕ) (number : ℕ → ℕ → ℕ) (b : FiniteAlgebra) (delta q : Partition) → IsDeltaIn a alpha beta left right number b delta → RelatesRows a alpha beta left right b q → LiesBelow delta q }
     ensures decides { (a : FiniteAlgebra) (alpha beta : Partition) (left right : ℕ → ℕ) (number : ℕ → ℕ → ℕ) (b : FiniteAlgebra) (delta theta : Partition) → IsDeltaIn a alpha beta left right number b delta → IsCongruence a theta → Centralizes a alpha beta theta ↔ AreUniform left right delta theta }
     ensures few { (a : FiniteAlgebra) (alpha beta : Partition) (left right : ℕ → ℕ) (number : ℕ → ℕ → ℕ) (b : FiniteAlgebra) (delta : Partition) (n : ℕ) → IsDeltaIn a alpha beta left right number b delta → HasMoreMatrices a alpha beta n → n < length (related_pairs delta) }
+{}
+
+/// It can be told otherwise than by want of memory whether a congruence centralizes another modulo a third.
+pub fn answers()
+    ensures { (a : FiniteAlgebra) (alpha beta delta : Partition) (b w : ℕ) → IsAlgebra a → IsCongruence a alpha → IsCongruence a beta → IsCongruence a delta → IsAnswerable (MayBeCentral a alpha beta delta b w) CloseError.OutOfMemory }
 {}
 
 /// Worked examples of the term condition.

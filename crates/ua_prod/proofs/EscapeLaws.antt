@@ -103,11 +103,11 @@ sorted_tuples set (suc k) h = sorted_flat set (tuples_among set k) (sorted_from_
 
 -- ---- which tuples these are
 
-record AreMembers (set : List ℕ) (k : ℕ) (t : List ℕ) : Type 0 where
-  count : length t ≡ k
-  members : AllByRecursion (Contains set) t
+pub record AreMembers (set : List ℕ) (k : ℕ) (t : List ℕ) : Type 0 where
+  pub count : length t ≡ k
+  pub members : AllByRecursion (Contains set) t
 
-tuple_from : (set : List ℕ) (k : ℕ) (t : List ℕ) → Contains (tuples_among set k) t → AreMembers set k t
+pub tuple_from : (set : List ℕ) (k : ℕ) (t : List ℕ) → Contains (tuples_among set k) t → AreMembers set k t
 tuple_from set k t c = by k t (choice_from (replicate k set) t c)
   where
     by : (k : ℕ) (t : List ℕ) → AllZip (λ (xs : List ℕ) x. Contains xs x) (replicate k set) t → AreMembers set k t
@@ -116,7 +116,7 @@ tuple_from set k t c = by k t (choice_from (replicate k set) t c)
     by (suc k) [] h = absurd h
     by (suc k) (x ∷ t) h = let rest = by k t h.1 in record { count = ap suc rest.count; members = (h.0, rest.members) }
 
-tuple_of_members : (set : List ℕ) (k : ℕ) (t : List ℕ) → length t ≡ k → AllByRecursion (Contains set) t → Contains (tuples_among set k) t
+pub tuple_of_members : (set : List ℕ) (k : ℕ) (t : List ℕ) → length t ≡ k → AllByRecursion (Contains set) t → Contains (tuples_among set k) t
 tuple_of_members set k t count h = chosen (replicate k set) t (by k t count h)
   where
     by : (k : ℕ) (t : List ℕ) → length t ≡ k → AllByRecursion (Contains set) t → AllZip (λ (xs : List ℕ) x. Contains xs x) (replicate k set) t

@@ -13,3 +13,4 @@ pub mod EscapeLaws
 pub mod ProductLaws
 pub mod DrawLaws
 pub mod ValueLaws
+pub mod FirstsExist

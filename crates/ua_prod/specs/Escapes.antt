@@ -25,3 +25,9 @@ pub record IsEscape (a : FiniteAlgebra) (set : List ℕ) (op : ℕ) (args : List
 pub record IsFirstEscape (a : FiniteAlgebra) (set : List ℕ) (op : ℕ) (args : List ℕ) : Type 0 where
   pub escape : IsEscape a set op args
   pub first : (g : ℕ) (xs : List ℕ) → IsEscape a set g xs → slice_cmp nat_cmp (op ∷ args) (g ∷ xs) ≢ Greater
+
+-- there is a first escape
+pub record HasFirstEscape (a : FiniteAlgebra) (set : List ℕ) : Type 0 where
+  pub op : ℕ
+  pub args : List ℕ
+  pub is : IsFirstEscape a set op args

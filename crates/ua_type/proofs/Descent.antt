@@ -109,11 +109,15 @@ module _ (b : FiniteAlgebra) (theta : Partition) (cb : IsCongruence b theta) (de
           (λ r. rest c d r g n)
           (Contains-cases p (c, d) ps h)
 
-  decided : (x y : ℕ) → SameBlock theta x y → x ≢ y → HasSubtrace b theta ⊎ IsRefuted b x y
-  decided x y s differ =
-      ⊎_elim (λ r. inr r)
-      (λ all. inl (record { low = x; high = y; subtrace = record { related = s; differ = differ; minimal = λ c d g n. all c d (related_in theta c d (generates_related b theta cb x y s c d g)) g n } }))
+  -- (x,y) is refuted, or each pair of different elements that it generates generates it
+  pub refuted_or : (x y : ℕ) → SameBlock theta x y → IsRefuted b x y ⊎ ((c d : ℕ) → Generates b x y c d → c ≢ d → Generates b c d x y)
+  refuted_or x y s =
+      ⊎_elim (λ r. inl r)
+      (λ all. inr (λ c d g n. all c d (related_in theta c d (generates_related b theta cb x y s c d g)) g n))
       (search_in x y s (related_pairs theta))
+
+  decided : (x y : ℕ) → SameBlock theta x y → x ≢ y → HasSubtrace b theta ⊎ IsRefuted b x y
+  decided x y s differ = ⊎_elim (λ r. inr r) (λ minimal. inl (record { low = x; high = y; subtrace = record { related = s; differ = differ; minimal = minimal } })) (refuted_or x y s)
 
   pub subtrace_exists : RelatesTwo theta → HasSubtrace b theta
   subtrace_exists two = descended b theta cb (HasSubtrace b theta) decided two.first two.second two.related two.differ

@@ -12,3 +12,4 @@ pub mod CoverLaws
 pub mod SquareLaws
 pub mod TypingLaws
 pub mod MarkLaws
+pub mod TypesExist

@@ -3,7 +3,8 @@ use Rattle.std.proofs.Common.{◌≡◌, ◌⊎◌, inl, inr, ⊎_elim, ℕ, ◌
 use Rattle.std.specs.Prelude.{Contains, slice_index}
 use Rattle.std.specs.List.{AllByRecursion, range_with_len}
 use Rattle.std.proofs.lemmas.Bool.{cases_lt, cases_eq}
-use Rattle.ua_table.specs.Algebras.{Vector, FiniteAlgebra, IsAlgebra, IsProduct, IsVector}
+use Rattle.ua_table.specs.Algebras.{Vector, FiniteAlgebra, Product, IsAlgebra, IsProduct, IsVector}
+use Rattle.ua_table.specs.Generated.{Sg}
 use Rattle.ua_table.specs.Listings.{vectors_of}
 use Rattle.ua_table.proofs.Lists.{all_append, all_map, all_from_contains, Contains-head, Contains-tail, Contains-cases, Contains-none}
 use Rattle.ua_table.proofs.Choices.{range_low}
@@ -61,7 +62,7 @@ pair_cases c d x y =
         (λ high. ⊎_elim (λ e. inr (inl (same, e))) (λ apart. inr (inr (inr (sym same, strict d y high apart)))) equal)
         order
 
--- ---- what pairs generate is decided, and so a cover has a subtrace
+-- ---- what is generated is decided, and so a cover has a subtrace
 
 same_or : (v w : Vector) → (v ≡ w) ⊎ (v ≡ w → ⊥)
 same_or [] [] = inl refl
@@ -85,15 +86,16 @@ contains_or (w ∷ vs) v =
     (λ apart. ⊎_elim (λ c. inl (Contains-tail w v vs c)) (λ n. inr (λ c. ⊎_elim (λ e. apart e) (λ r. n r) (Contains-cases w v vs c))) (contains_or vs v))
     (same_or w v)
 
-generates_or : (b : FiniteAlgebra) → IsAlgebra b → (c d e f : ℕ) → c < b.size → d < b.size → Generates b c d e f ⊎ ¬ Generates b c d e f
-generates_or b alg c d e f cw dw =
-    let p = replicate 2 b in
-    let gens = pair_generators b c d in
-    let listed = closed_exists p gens (square-IsProduct b alg) (pair_vectors b c d cw dw) (cardinality p) (omega arith) in
+pub member_or : (p : Product) (gens : List Vector) → IsProduct p → AllByRecursion (IsVector p) gens → (v : Vector) → Sg p gens v ⊎ ¬ Sg p gens v
+member_or p gens product admitted v =
+    let listed = closed_exists p gens product admitted (cardinality p) (omega arith) in
     ⊎_elim
-    (λ there. inl ((listed.closed.exact (e ∷ f ∷ [])).0 there))
-    (λ absent. inr (λ g. absent ((listed.closed.exact (e ∷ f ∷ [])).1 g)))
-    (contains_or (vectors_of listed.rows) (e ∷ f ∷ []))
+    (λ there. inl ((listed.closed.exact v).0 there))
+    (λ absent. inr (λ g. absent ((listed.closed.exact v).1 g)))
+    (contains_or (vectors_of listed.rows) v)
+
+pub generates_or : (b : FiniteAlgebra) → IsAlgebra b → (c d e f : ℕ) → c < b.size → d < b.size → Generates b c d e f ⊎ ¬ Generates b c d e f
+generates_or b alg c d e f cw dw = member_or (replicate 2 b) (pair_generators b c d) (square-IsProduct b alg) (pair_vectors b c d cw dw) (e ∷ f ∷ [])
 
 pub cover_congruence : (a : FiniteAlgebra) (alpha beta : Partition) → IsAlgebra a → IsCover a alpha beta → IsCongruence (quotient_by a alpha) (image_of alpha beta)
 cover_congruence a alpha beta alg h = image-IsCongruence a alpha beta alg h.lower h.upper h.below

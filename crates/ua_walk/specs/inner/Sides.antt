@@ -1,5 +1,5 @@
 -- How states are numbered, and the groups that classes make.
-use Rattle.std.specs.Prelude.{◌≡◌, ◌↔◌, ℕ, ◌+◌, ◌-◌, ◌<◌, Bool, not, List, [], ◌∷◌, length, slice_index, slice_index_or, Contains}
+use Rattle.std.specs.Prelude.{◌≡◌, ◌↔◌, ℕ, ◌+◌, ◌<◌, Bool, not, List, [], ◌∷◌, length, slice_index, slice_index_or, Contains}
 use Rattle.ua_walk.specs.Networks.{Network, members_of}
 use Rattle.ua_walk.specs.Ladders.{LinkLists, IsAllowed}
 use Rattle.ua_walk.specs.Sides.{state}
