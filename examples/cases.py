@@ -210,9 +210,18 @@ def tables():
         yield post, f"clone P 1 term total [{' '.join(map(str, values))}]", "yes ..\n"
 
 
+def too_many():
+    """Faults of texts that are too long for a file: a 65th parenthesis, and a 65th operation."""
+    section = Section("one too many", "faults", {"version": "1"}, [])
+    yield section, f"eval M {'f(' * 65}x0{')' * 65} []", "1:137 term\n"
+    operations = "".join(f"\nop f{number:02} 0 = 1" for number in range(65))
+    yield section, f"algebra M size 2{operations}", "66:1 word\n"
+
+
 def trials():
     """Each question of each file, and of those made here: its section, the question and its reply."""
     yield from tables()
+    yield from too_many()
     for file in sorted(FOLDER.glob("*.cases")):
         for section in sections(file):
             has_replies = section.kind not in ("refused words", "certificates")
@@ -258,6 +267,11 @@ def made():
     block = f"version 2 algebra L size 1000 names ({' '.join(names)}) end "
     for name in (names[0], names[500], names[999]):
         yield name, f"{block}eval L x0 [{name}]", [[]], f"value {name}\n"
+    zeros = [f"algebra Z{size} size {size} op f 4 ={' 0' * size**4} end\n" for size in (4, 5, 8, 9)]
+    product = f"algebra P size 20\nop f 4 ={' 0' * 20**4}\nend\n"
+    yield "a product with many values", f"{''.join(zeros)}make P product Z5 Z4", [[]], product
+    yield "a product with too many values", f"{''.join(zeros)}make P product Z9 Z8", [[]], "error size 5:1\n"
+    yield "other blanks", "close\tM\r\n2\r\n", [[]], "error unknown 1:7\n"
     yield "the longest script", " " * 2**24, [[]], ""
 
 

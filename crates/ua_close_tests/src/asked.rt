@@ -3,14 +3,12 @@
 ghost use Rattle.std.specs.List.{AllByRecursion};
 ghost use Rattle.ua_table.specs.Algebras.{IsVector};
 
-use crate::closures::{put_closure, put_least, put_size};
+use crate::closures::put_listings;
 use crate::given::{algebras, frame_of, generators};
 use crate::meeting::{put_meeting, put_often};
-use crate::memberships::{put_member, put_steps_for};
 use crate::reaches::{put_clash, put_target};
 use crate::runs::{put_end, put_halt};
-use crate::texts::put_vectors_of;
-use std::alloc::{AllocError, Global};
+use std::alloc::Global;
 use std::process::Abort;
 use std::test::Fail;
 use std::thread::Threads;
@@ -25,13 +23,9 @@ pub(crate) const SEVERAL: &[u32] = &[2, 16];
 
 /// Which call is made.
 pub(crate) enum Call {
-    Closure,
-    Size,
-    Least,
+    Listings,
     Target,
     Clash,
-    Member,
-    Steps,
     End,
     Halt,
     Meeting,
@@ -82,13 +76,9 @@ fn put_answer<R: Threads + Abort + Sync>(
     requires { AllByRecursion (IsVector frame.now) gens.now.items }
 {
     match call {
-        Call::Closure => put_closure(rt, alloc, frame, gens, run, text),
-        Call::Size => put_size(rt, alloc, frame, gens, run, text),
-        Call::Least => put_least(rt, alloc, frame, gens, run, text),
+        Call::Listings => put_listings(rt, alloc, frame, gens, run, text),
         Call::Target => put_target(rt, alloc, frame, gens, run, vector, text),
         Call::Clash => put_clash(rt, alloc, frame, gens, run, text),
-        Call::Member => put_member(rt, alloc, frame, gens, run, vector, text),
-        Call::Steps => put_steps_for(rt, alloc, frame, gens, run, vector, text),
         Call::End => put_end(rt, alloc, frame, gens, run, vector, text),
         Call::Halt => put_halt(rt, alloc, frame, gens, run, text),
         Call::Meeting => put_meeting(rt, alloc, frame, gens, run, text),
@@ -124,50 +114,14 @@ fn told<R: Threads + Abort + Sync>(
     Ok(text)
 }
 
-/// How much of an answer is compared.
-#[derive(Drop)]
-enum Part {
-    All,
-    Vectors,
-    Head,
-}
-
-/// What several workers answer alike: all but the ranks and the origins of closed listings, and the rows of
-/// others. The rows of one are compared where they are given.
-fn part_of(call: &Call, workers: u32, wanted: &str) -> Part {
-    match call {
-        Call::Closure if workers > 1 && !wanted.starts_with("exceeds") => Part::Vectors,
-        Call::Closure | Call::Target | Call::Clash if workers > 1 || !wanted.contains(", ") => {
-            Part::Head
-        }
-        Call::Size => Part::Head,
-        _ => Part::All,
+/// What several workers answer alike, of an answer or of what is wanted: the rows of one are compared where they are
+/// given.
+fn alike<'t>(workers: u32, wanted: &str, text: &'t str) -> &'t str {
+    if workers > 1 || !wanted.contains(", ") {
+        text.split(", ").next().unwrap_or("")
+    } else {
+        text
     }
-}
-
-/// This part of an answer.
-fn cut(alloc: Global, part: &Part, text: &str) -> Result<String, AllocError> {
-    match part {
-        Part::All => String::from_str(alloc, text),
-        Part::Head => String::from_str(alloc, text.split(", ").next().unwrap_or("")),
-        Part::Vectors => {
-            let mut vectors = String::new(alloc);
-            put_vectors_of(&mut vectors, text)?;
-            Ok(vectors)
-        }
-    }
-}
-
-/// This part of the answer to a call.
-fn told_part<R: Threads + Abort + Sync>(
-    rt: &R,
-    alloc: Global,
-    call: &Call,
-    asked: &Asked,
-    part: &Part,
-) -> Result<String, Fail> {
-    let text = told(rt, alloc, call, asked)?;
-    Ok(cut(alloc, part, text.as_str())?)
 }
 
 fn compare(rt: &impl Abort, text: &str, workers: u32, found: &str, wanted: &str) {
@@ -183,10 +137,9 @@ fn expect_of<R: Threads + Abort + Sync>(
     (text, wanted): (&str, &str),
 ) -> Result<(), Fail> {
     let asked = asked_by(text, workers)?;
-    let part = part_of(call, workers, wanted);
-    let found = told_part(rt, alloc, call, &asked, &part)?;
-    let wanted = cut(alloc, &part, wanted)?;
-    compare(rt, text, workers, found.as_str(), wanted.as_str());
+    let found = told(rt, alloc, call, &asked)?;
+    let found = alike(workers, wanted, found.as_str());
+    compare(rt, text, workers, found, alike(workers, wanted, wanted));
     Ok(())
 }
 

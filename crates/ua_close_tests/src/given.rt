@@ -9,31 +9,25 @@ use std::process::Abort;
 use std::test::Fail;
 use ua_table::{Algebra, Elem, Frame, Name, OpTable, Vectors};
 
-/// The algebras with this name. Each line has a size, and the name, the arity and the values of each operation.
+/// Names of algebras. Behind each stand one algebra or two: a size, and the name, the arity and the values of each
+/// operation. `sums` are those modulo 2 and modulo 3, `groups` those modulo 2 and modulo 4, and `cycles` three cycles of 7,
+/// 11 and 13 elements, each moved by an operation of its own.
+const TABLES: &str = "
+    meet = 2: meet 2 0001
+    sums = 2: plus 2 0110; 3: plus 2 012120201
+    groups = 2: plus 2 0110; 4: plus 2 0123123023013012
+    cycles = 31: a 1 1234560789abcdefghijklmnopqrstu, b 1 012345689abcdefgh7ijklmnopqrstu, c 1 0123456789abcdefghjklmnopqrstui";
+
+/// The text of the algebras with this name.
 fn tables(name: &str) -> &'static str {
-    match name {
-        "one" => "1: f 4 0",
-        "pointed" => "2: c 0 1",
-        "meet" => "2: meet 2 0001",
-        "lattice" => "2: meet 2 0001, join 2 0111",
-        "chain" => "3: meet 2 000011012, join 2 012112222",
-        // The products of the permutations of three letters.
-        "letters" => "6: times 2 012345103254240513351402425031534120",
-        "differences" => "3: minus 2 021102210",
-        "both" => "3: plus 2 012120201, minus 2 021102210",
-        // The sums modulo 2 and modulo 3, and those modulo 2 and modulo 4.
-        "sums" => "2: plus 2 0110\n3: plus 2 012120201",
-        "groups" => "2: plus 2 0110\n4: plus 2 0123123023013012",
-        // One operation of each arity: a + 2bc + d, 2, the swap of 0 and 1, and ab, modulo 3.
-        "arities" => {
-            "3: f 4 012012012012201120012120201120120120120012201120201012201201201201120012201012120, two 0 2, swap 1 102, times 2 000012021"
+    for line in TABLES.lines() {
+        if let Some((key, text)) = line.trim().split_once(" = ") {
+            if key == name {
+                return text;
+            }
         }
-        // Three cycles of 7, 11 and 13 elements, each moved by an operation of its own.
-        "cycles" => {
-            "31: a 1 1234560789abcdefghijklmnopqrstu, b 1 012345689abcdefgh7ijklmnopqrstu, c 1 0123456789abcdefghjklmnopqrstui"
-        }
-        _ => "",
     }
+    ""
 }
 
 /// The element of a digit, or of a letter for 10 and more.
@@ -67,8 +61,8 @@ fn operations(alloc: Global, size: u32, text: &str) -> Result<Vec<OpTable>, Fail
     Ok(ops)
 }
 
-fn algebra(alloc: Global, line: &str) -> Result<Algebra, Fail> {
-    let (size, ops) = line.split_once(": ").ok_or("no size")?;
+fn algebra(alloc: Global, text: &str) -> Result<Algebra, Fail> {
+    let (size, ops) = text.split_once(": ").ok_or("no size")?;
     let size = size.parse()?;
     let ops = operations(alloc, size, ops)?;
     Ok(Algebra::new(Name::new(alloc, b"A")?, size, ops)?)
@@ -77,8 +71,8 @@ fn algebra(alloc: Global, line: &str) -> Result<Algebra, Fail> {
 /// The algebras with this name.
 pub(crate) fn algebras(alloc: Global, name: &str) -> Result<Vec<Algebra>, Fail> {
     let mut algebras = Vec::new(alloc);
-    for line in tables(name).lines() {
-        algebras.push(algebra(alloc, line)?)?;
+    for text in tables(name).split("; ") {
+        algebras.push(algebra(alloc, text)?)?;
     }
     Ok(algebras)
 }

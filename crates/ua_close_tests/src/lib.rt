@@ -4,15 +4,11 @@
 #[cfg(test)]
 mod asked;
 #[cfg(test)]
-mod bases;
-#[cfg(test)]
 mod closures;
 #[cfg(test)]
 mod given;
 #[cfg(test)]
 mod meeting;
-#[cfg(test)]
-mod memberships;
 #[cfg(test)]
 mod reaches;
 #[cfg(test)]

@@ -5,8 +5,8 @@ ghost use Rattle.ua_table.specs.Algebras.{IsVector};
 ghost use Rattle.ua_work.specs.Goals.{IsGoal};
 
 use crate::asked::{ANY, Call, expect};
-use crate::closures::put_list;
 use crate::given::elements;
+use crate::texts::put_rows;
 use std::alloc::Global;
 use std::process::Abort;
 use std::test::Fail;
@@ -37,7 +37,9 @@ fn put_reached<R: Threads + Sync>(
     requires goal { IsGoal frame.now goal.now }
 {
     let (word, list) = answered(reach(rt, alloc, frame, gens, goal, run)?);
-    put_list(text, word, &list)
+    text.push_str(word)?;
+    put_rows(text, &list)?;
+    Ok(())
 }
 
 /// The answer to the goal of the vector.

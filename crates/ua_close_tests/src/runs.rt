@@ -134,6 +134,11 @@ fn halted(
     Ok((claim, told(harvest)))
 }
 
+fn put_claim(text: &mut String, claim: Claim) -> Result<(), Fail> {
+    write!(text, "{claim:?} ")?;
+    Ok(())
+}
+
 /// What a second seat claims, and how the first one's worker ends after it is halted.
 pub(crate) fn put_halt(
     rt: &impl Abort,
@@ -146,7 +151,7 @@ pub(crate) fn put_halt(
     requires { AllByRecursion (IsVector frame.now) gens.now.items }
 {
     let (claim, (end, count)) = halted(rt, alloc, frame, gens, run.budget)?;
-    write!(text, "{claim:?} ")?;
+    put_claim(text, claim)?;
     put_ended(text, end, count)
 }
 

@@ -1,10 +1,15 @@
-//! Generated and principal congruences of the symmetric group on three letters.
+//! Principal congruences of the symmetric group on three letters, and rows that are entered.
 
-use std::alloc::Global;
+ghost use Rattle.std.specs.Prelude.{◌≤◌};
+ghost use Rattle.ua_table.specs.declared.limits.TheConstants.{WORKERS};
+
+use std::alloc::{AllocError, Global};
 use std::test::Fail;
-use ua_cong::{cg, distinct_principals, is_congruence, principals};
+use std::thread::Threads;
+use ua_cong::{distinct_principals, principals};
+use ua_part::Part;
 use ua_rows::Rows;
-use ua_table::{Algebra, Name, OpTable};
+use ua_table::{Algebra, Elem, Name, OpTable};
 
 /// The symmetric group on three letters: the rotations are 0, 1, 2.
 fn group(alloc: Global) -> Result<Algebra, Fail> {
@@ -18,78 +23,94 @@ fn group(alloc: Global) -> Result<Algebra, Fail> {
     Ok(Algebra::new(Name::new(alloc, b"S")?, 6, ops)?)
 }
 
-#[test]
-fn generated(rt: HostRuntime) -> Result<(), Fail> {
-    let alloc = rt.alloc();
-    let algebra = group(alloc)?;
-    assert_eq!(rt; algebra.size(), 6);
-    let rotations = cg(alloc, &algebra, &[(0, 1)])?;
-    assert_eq!(rt;
-        rotations.print(alloc)?.as_slice(),
-        b"|0 1 2|3 4 5|".as_slice()
-    );
-    assert_eq!(rt; is_congruence(&algebra, &rotations), None);
-    let all = cg(alloc, &algebra, &[(0, 3)])?;
-    assert_eq!(rt; all.print(alloc)?.as_slice(), b"|0 1 2 3 4 5|".as_slice());
-    let none = cg(alloc, &algebra, &[])?;
-    assert_eq!(rt; none.print(alloc)?.as_slice(), b"|0|1|2|3|4|5|".as_slice());
-    Ok(())
+/// The congruence that a pair of elements of the group generates.
+fn blocks(x: Elem, y: Elem) -> &'static [u8] {
+    if (x < 3) == (y < 3) {
+        b"|0 1 2|3 4 5|"
+    } else {
+        b"|0 1 2 3 4 5|"
+    }
+}
+
+fn is_printed(alloc: Global, part: &Part, text: &[u8]) -> Result<bool, AllocError> {
+    let printed = part.print(alloc)?;
+    Ok(printed.as_slice() == text)
+}
+
+/// How many pairs are listed, and how many of them with the congruence that they generate.
+fn pairs_listed<R: Threads + Sync>(
+    rt: &R,
+    alloc: Global,
+    workers: u32,
+) -> Result<(usize, usize), Fail>
+    requires some { 1 ≤ workers }
+    requires few { workers ≤ WORKERS }
+{
+    let list = principals(rt, alloc, &group(alloc)?, workers)?;
+    let mut right: usize = 0;
+    for (x, y, part) in &list {
+        if is_printed(alloc, part, blocks(*x, *y))? {
+            right = right.saturating_add(1);
+        }
+    }
+    Ok((list.len(), right))
 }
 
 #[test]
 fn principal(rt: HostRuntime) -> Result<(), Fail> {
-    let alloc = rt.alloc();
-    let algebra = group(alloc)?;
     for workers in [1, 2, 16] {
-        let list = principals(&rt, alloc, &algebra, workers)?;
-        assert_eq!(rt; list.len(), 15);
-        for (x, y, part) in &list {
-            let text: &[u8] = if (*x < 3) == (*y < 3) {
-                b"|0 1 2|3 4 5|"
-            } else {
-                b"|0 1 2 3 4 5|"
-            };
-            assert_eq!(rt; part.print(alloc)?.as_slice(), text, "{x} {y}");
-        }
+        let told = pairs_listed(&rt, rt.alloc(), workers)?;
+        assert_eq!(rt; told, (15, 15));
     }
     Ok(())
 }
 
-/// Of the fifteen pairs there are two different principal congruences.
+fn is_found(rows: &Rows, v: &[Elem]) -> bool {
+    v.len() == rows.width() as usize && rows.find(v).is_some()
+}
+
+/// How many different congruences are listed with a bound, and whether the two of the group are among them.
+fn different<R: Threads + Sync>(
+    rt: &R,
+    alloc: Global,
+    workers: u32,
+    bound: u32,
+) -> Result<(u32, bool), Fail>
+    requires some { 1 ≤ workers }
+    requires few { workers ≤ WORKERS }
+{
+    let rows = distinct_principals(rt, alloc, &group(alloc)?, workers, bound)?;
+    let both = is_found(&rows, &[0, 0, 0, 3, 3, 3]) && is_found(&rows, &[0; 6]);
+    Ok((rows.len(), both))
+}
+
+/// Of the fifteen pairs there are two different principal congruences. With a bound of none the first is one more than
+/// the bound.
 #[test]
 fn different_ones(rt: HostRuntime) -> Result<(), Fail> {
-    let alloc = rt.alloc();
-    let algebra = group(alloc)?;
     for workers in [1, 2, 16] {
-        let rows = distinct_principals(&rt, alloc, &algebra, workers, 2)?;
-        assert_eq!(rt; rows.len(), 2);
-        assert_eq!(rt; rows.width(), 6);
-        assert!(rt; rows.find(&[0, 0, 0, 3, 3, 3]).is_some());
-        assert!(rt; rows.find(&[0; 6]).is_some());
+        let all = different(&rt, rt.alloc(), workers, 2)?;
+        let first = different(&rt, rt.alloc(), workers, 0)?;
+        assert_eq!(rt; (all, first), ((2, true), (1, false)));
     }
     Ok(())
 }
 
-/// With a bound of none the first is one more than the bound.
-#[test]
-fn one_beyond(rt: HostRuntime) -> Result<(), Fail> {
-    let alloc = rt.alloc();
-    let algebra = group(alloc)?;
-    for workers in [1, 2, 16] {
-        let rows = distinct_principals(&rt, alloc, &algebra, workers, 0)?;
-        assert_eq!(rt; rows.len(), 1);
+/// The place of a vector that is entered, and how many rows there are then.
+fn enter(rows: &mut Rows, v: &[Elem]) -> Result<(u32, u32), Fail> {
+    if v.len() != rows.width() as usize || rows.len() >= 100 {
+        return Err("no vector, or too many".into());
     }
-    Ok(())
+    let place = rows.enter(v)?;
+    Ok((place, rows.len()))
 }
 
 #[test]
 fn entered(rt: HostRuntime) -> Result<(), Fail> {
     let mut rows = Rows::new(rt.alloc(), 3);
-    assert_eq!(rt; rows.enter(&[0, 0, 2])?, 0);
-    assert_eq!(rt; rows.len(), 1);
-    assert_eq!(rt; rows.enter(&[0, 1, 1])?, 1);
-    assert_eq!(rt; rows.len(), 2);
-    assert_eq!(rt; rows.enter(&[0, 0, 2])?, 0);
-    assert_eq!(rt; rows.len(), 2);
+    let first = enter(&mut rows, &[0, 0, 2])?;
+    let second = enter(&mut rows, &[0, 1, 1])?;
+    let again = enter(&mut rows, &[0, 0, 2])?;
+    assert_eq!(rt; [first, second, again], [(0, 1), (1, 2), (0, 2)]);
     Ok(())
 }

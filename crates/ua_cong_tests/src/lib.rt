@@ -1,8 +1,6 @@
-//! Tests of partitions, of congruences and their clashes, and of algebras made from others.
+//! Tests of partitions, of principal congruences, and of algebras made from others.
 #![tactic(auto)]
 
-#[cfg(test)]
-mod clashes;
 #[cfg(test)]
 mod congruences;
 #[cfg(test)]

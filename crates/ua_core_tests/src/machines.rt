@@ -10,6 +10,7 @@ ghost use Rattle.ua_core.specs.States.{task_of, IsStateOf};
 use std::alloc::Global;
 use std::process::Abort;
 use std::test::Fail;
+use ua_cases::{part, put_value_of, same};
 use ua_core::EventKind::{Claim, Finish, Halt, Idle, Join, Know, Look, Put, Split};
 use ua_core::{Event, EventKind, State, is_still, replay};
 use ua_table::{Algebra, Elem, Frame, Name, OpTable, Origin, Vectors};
@@ -88,6 +89,17 @@ fn events(alloc: Global, text: &str) -> Result<Vec<Event>, Fail> {
     Ok(events)
 }
 
+fn put_numbers(
+    text: &mut String,
+    rows: u32,
+    claims: u64,
+    halted: bool,
+    still: bool,
+) -> Result<(), Fail> {
+    write!(text, "{rows} {claims} {halted} {still}")?;
+    Ok(())
+}
+
 /// How many rows and claims a run has, whether it was halted, and whether its state is still.
 fn put_state(
     alloc: Global,
@@ -99,9 +111,13 @@ fn put_state(
     requires { IsStateOf (task_of frame.now gens.now.items state.now.budget) state.now }
 {
     let still = is_still(alloc, state, frame, gens)?;
-    let (rows, claims, halted) = (state.rows().len(), state.claims(), state.halted());
-    write!(text, "{rows} {claims} {halted} {still}")?;
-    Ok(())
+    put_numbers(
+        text,
+        state.rows().len(),
+        state.claims(),
+        state.halted(),
+        still,
+    )
 }
 
 /// What a replay ends with.
@@ -121,10 +137,7 @@ fn put_replay(
 {
     match replay(alloc, frame, gens, budget, events) {
         Ok(state) => put_state(alloc, frame, gens, &state, text),
-        Err(error) => {
-            write!(text, "{error:?}")?;
-            Ok(())
-        }
+        Err(error) => put_value_of(text, &error),
     }
 }
 
@@ -161,11 +174,6 @@ fn put_outcome(
     put_replay(alloc, frame, gens, budget, events, text)
 }
 
-/// The part of a text at this place; parts stand between commas.
-fn part(text: &str, place: usize) -> &str {
-    text.split(", ").nth(place).unwrap_or("")
-}
-
 /// What a run ends with that is given by a text as `2, pairs, 10, 0fsc`: the width of the power, the generators, the
 /// budget and the events.
 fn put_run(
@@ -190,13 +198,6 @@ fn told(rt: &impl Abort, alloc: Global, asked: &str) -> Result<String, Fail> {
     Ok(text)
 }
 
-/// Compares what a run ends with.
-fn expect(rt: &impl Abort, alloc: Global, (asked, wanted): (&str, &str)) -> Result<(), Fail> {
-    let found = told(rt, alloc, asked)?;
-    assert_eq!(rt; found.as_str(), wanted, "{asked}");
-    Ok(())
-}
-
 #[test]
 fn runs_of_workers(rt: HostRuntime) -> Result<(), Fail> {
     let cases = "
@@ -207,8 +208,9 @@ fn runs_of_workers(rt: HostRuntime) -> Result<(), Fail> {
         1, both, 5, 0pp1f2ls1c2kh1d0ab => 2 1 true false
         1, both, 5, 0pp1f2ls1c => 2 1 false false";
     for line in cases.trim().lines() {
-        let case = line.trim().split_once(" => ").ok_or("no answer")?;
-        expect(&rt, rt.alloc(), case)?;
+        let (asked, wanted) = line.trim().split_once(" => ").ok_or("no answer")?;
+        let found = told(&rt, rt.alloc(), asked)?;
+        same(asked, found.as_str(), wanted)?;
     }
     Ok(())
 }

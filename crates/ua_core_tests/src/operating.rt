@@ -158,7 +158,7 @@ fn expect(
     requires { 0 < size }
 {
     let sums = sums_of(alloc, frame, size, args)?;
-    assert_eq!(rt; found, sums.as_slice());
+    assert!(rt; found == sums.as_slice());
     Ok(())
 }
 

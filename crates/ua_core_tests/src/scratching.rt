@@ -46,6 +46,6 @@ fn a_scratch_is_entered_and_found(rt: HostRuntime) -> Result<(), Fail> {
     let v = [9, 8, 7, 6, 5, 4, 3, 2, 1, 0];
     let other = [9, 8, 7, 6, 5, 4, 3, 2, 1, 1];
     let found = found(rt.alloc(), &v, &other)?;
-    assert_eq!(rt; found, [Some(0), Some(0), None]);
+    assert!(rt; found == [Some(0), Some(0), None]);
     Ok(())
 }

@@ -4,19 +4,28 @@ use crate::asked::{Call, digits, elements};
 use crate::tables::operation;
 use std::alloc::Global;
 use std::test::Fail;
-use ua_cases::{expect, number, part, put_flag};
+use ua_cases::{expect, number, part, put_flag, put_value_of};
 use ua_table::{Algebra, Frame, FrameError, Name, OpTable};
 
-/// The operation of the algebra with this letter: unary on two and on five elements, binary on two, unary with
-/// another name, and binary on three.
+/// Letters of algebras, each with its operation: unary on two and on five elements, binary on two, unary with another
+/// name, and binary on three.
+const TABLES: &str = "
+    a = f, 2, 1, 0 0
+    b = f, 5, 1, 0 0 0 0 0
+    c = f, 2, 2, 0 0 0 0
+    d = g, 2, 1, 0 0
+    e = f, 3, 2, 0 0 0 0 0 0 0 0 0";
+
+/// The operation of the algebra with this letter.
 fn table(letter: u8) -> &'static str {
-    match letter {
-        b'a' => "f, 2, 1, 0 0",
-        b'b' => "f, 5, 1, 0 0 0 0 0",
-        b'c' => "f, 2, 2, 0 0 0 0",
-        b'd' => "g, 2, 1, 0 0",
-        _ => "f, 3, 2, 0 0 0 0 0 0 0 0 0",
+    for line in TABLES.lines() {
+        if let Some((key, text)) = line.trim().split_once(" = ") {
+            if key.as_bytes() == [letter].as_slice() {
+                return text;
+            }
+        }
     }
+    ""
 }
 
 /// The algebra with one operation.
@@ -44,10 +53,9 @@ fn algebras(alloc: Global, letters: &str) -> Result<Vec<Algebra>, Fail> {
 /// The width of a frame, or why there is none.
 fn put_frame(text: &mut String, made: Result<Frame, FrameError>) -> Result<(), Fail> {
     match made {
-        Ok(frame) => write!(text, "{}", frame.width())?,
-        Err(error) => write!(text, "{error:?}")?,
+        Ok(frame) => put_value_of(text, &frame.width()),
+        Err(error) => put_value_of(text, &error),
     }
-    Ok(())
 }
 
 /// The width of the power of an algebra, or why there is none.

@@ -1,8 +1,10 @@
-//! Tests of tables, of frames, and of the numbering of tuples.
+//! Tests of bytes in and out, of tables, of frames, and of the numbering of tuples.
 #![tactic(auto)]
 
 #[cfg(test)]
 mod asked;
+#[cfg(test)]
+mod bytes;
 #[cfg(test)]
 mod frames;
 #[cfg(test)]

@@ -90,11 +90,10 @@ fn place(alloc: Global, name: &str) -> Result<Option<u32>, Fail> {
 
 /// Puts the number of the constant with this name.
 pub(crate) fn put_place(alloc: Global, asked: &str, text: &mut String) -> Result<(), Fail> {
-    let Some(place) = place(alloc, part(asked, 0))? else {
-        return put_word(text, "none");
-    };
-    write!(text, "{place}")?;
-    Ok(())
+    match place(alloc, part(asked, 0))? {
+        Some(place) => put_value_of(text, &place),
+        None => put_word(text, "none"),
+    }
 }
 
 /// Whether the algebra has the signature of the one with its constants turned round.

@@ -1,4 +1,4 @@
-//! Tests of the text: tokens, blocks, terms and steps.
+//! Tests of texts: tokens, blocks, terms and steps, certificates, and whole scripts that are printed or migrated.
 #![tactic(auto)]
 
 #[cfg(test)]
@@ -8,12 +8,12 @@ mod blocks;
 #[cfg(test)]
 mod cases;
 #[cfg(test)]
+mod certificates;
+#[cfg(test)]
 mod printing;
+#[cfg(test)]
+mod scripts;
 #[cfg(test)]
 mod steps;
 #[cfg(test)]
-mod terms;
-#[cfg(test)]
 mod texts;
-#[cfg(test)]
-mod values;

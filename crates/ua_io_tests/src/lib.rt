@@ -1,5 +1,0 @@
-//! Tests of bytes in and out.
-#![tactic(auto)]
-
-#[cfg(test)]
-mod bytes;

@@ -1,5 +1,0 @@
-//! Tests of vectors in lanes.
-#![tactic(auto)]
-
-#[cfg(test)]
-mod sums;

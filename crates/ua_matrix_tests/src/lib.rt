@@ -1,5 +1,0 @@
-//! Tests of matrices of congruences.
-#![tactic(auto)]
-
-#[cfg(test)]
-mod matrices;
