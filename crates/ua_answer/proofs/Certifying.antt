@@ -116,13 +116,13 @@ chain_certified k b name a answer cert bytes algebra some may is flawless text =
     (subst (λ (x : FiniteAlgebra). cert ≡ chain_certificate x name answer) algebra is) text (flawless_k some may)
 
 -- the condition of a word has three places
-same_condition : (name : CondWord) → words.condition_of name ≡ condition_of (name_of name) 3
+pub same_condition : (name : CondWord) → words.condition_of name ≡ condition_of (name_of name) 3
 same_condition Maltsev = refl
 same_condition Majority = refl
 same_condition Minority = refl
 same_condition Pixley = refl
 
-three_places : (name : CondWord) → has_places (name_of name) 3 ≡ true
+pub three_places : (name : CondWord) → has_places (name_of name) 3 ≡ true
 three_places Maltsev = refl
 three_places Majority = refl
 three_places Minority = refl

@@ -1,4 +1,3 @@
-mod Refused
-mod Making
-mod Reducts
 mod Certifying
+mod CertExists
+mod RepliesExist

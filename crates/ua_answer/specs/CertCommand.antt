@@ -29,8 +29,8 @@ use Rattle.ua_reply.specs.Operands.{values_of, vectors_of, power_of}
 use Rattle.ua_reply.specs.Replies.{AnsweredOn}
 use Rattle.ua_reply.specs.Texts.{line, counted}
 use Rattle.ua_answer_conditions.specs.CondCommand.{condition_of, nu_checks}
-use Rattle.ua_answer.specs.CloseCommand.{close_checks}
-use Rattle.ua_answer.specs.MemberCommand.{member_checks}
+use Rattle.ua_answer_algebras.specs.CloseCommand.{close_checks}
+use Rattle.ua_answer_algebras.specs.MemberCommand.{member_checks}
 
 -- the certificate on a line, or that there are more members than the budget
 abbrev pub certificate_text : ℕ → Option Cert → List ℕ

@@ -1,16 +1,13 @@
 -- What a command may be answered: a case for each form that is built, in tables as those of the grammar.
-use Rattle.std.specs.Prelude.{◌≡◌, ℕ, ◌<◌, ◌≤◌, true, false, List, [], ◌∷◌, ◌++◌, length, Option, None, Some, IfSome}
+use Rattle.std.specs.Prelude.{◌≡◌, ℕ, ◌<◌, ◌≤◌, true, false, List, length}
 use Rattle.ua_table.specs.declared.limits.TheConstants.{SCRIPT}
 use Rattle.ua_operands.specs.declared.written.Mode.{Mode}
 use Rattle.ua_operands.specs.declared.written.Mode.TheVariants.{Plain}
 use Rattle.ua_script.specs.declared.script.Provable.{Provable}
 use Rattle.ua_script.specs.declared.script.Provable.TheVariants.{Close, Member, Cond, Nu, Jonsson, Hm}
-use Rattle.ua_script.specs.declared.script.MakeForm.{MakeForm}
-use Rattle.ua_script.specs.declared.script.MakeForm.TheVariants.{Sub}
 use Rattle.ua_script.specs.declared.script.Command.{Command}
 use Rattle.ua_script.specs.declared.script.Command.TheVariants as commands
 use Rattle.ua_text.specs.declared.named.Block.{Block}
-use Rattle.ua_text.specs.Blocks.{unnamed}
 use Rattle.ua_reply.specs.Sessions.{Bounds}
 use Rattle.ua_answer_congruences.specs.CgCommand.{CgReply}
 use Rattle.ua_answer_congruences.specs.ConCommand.{ConReply}
@@ -24,17 +21,16 @@ use Rattle.ua_answer_conditions.specs.CloneCommand.{IsShortTable, CloneReply}
 use Rattle.ua_answer_conditions.specs.declared.chains.ChainWord.TheVariants as chains
 use Rattle.ua_answer_conditions.specs.ChainCommand.{ChainReply}
 use Rattle.ua_answer_conditions.specs.HoldsCommand.{HoldsReply}
-use Rattle.ua_answer.specs.declared.answered.Made.{Made}
-use Rattle.ua_answer.specs.CloseCommand.{CloseReply}
-use Rattle.ua_answer.specs.MemberCommand.{MemberReply}
-use Rattle.ua_answer.specs.FreeCommand.{FreeReply}
-use Rattle.ua_answer.specs.SubCommand.{SubReply}
-use Rattle.ua_answer.specs.OnesCommand.{OnesReply}
-use Rattle.ua_answer.specs.EvalCommand.{EvalReply}
-use Rattle.ua_answer.specs.HomCommand.{HomReply}
+use Rattle.ua_answer_algebras.specs.CloseCommand.{CloseReply}
+use Rattle.ua_answer_algebras.specs.MemberCommand.{MemberReply}
+use Rattle.ua_answer_algebras.specs.FreeCommand.{FreeReply}
+use Rattle.ua_answer_algebras.specs.SubCommand.{SubReply}
+use Rattle.ua_answer_algebras.specs.OnesCommand.{OnesReply}
+use Rattle.ua_answer_algebras.specs.EvalCommand.{EvalReply}
+use Rattle.ua_answer_algebras.specs.HomCommand.{HomReply}
 use Rattle.ua_answer.specs.CertCommand.{CertReply}
-use Rattle.ua_answer.specs.CheckCommand.{CheckReply}
-use Rattle.ua_answer.specs.MakeCommand.{MakeReply}
+use Rattle.ua_answer_algebras.specs.CheckCommand.{CheckReply}
+use Rattle.ua_answer_algebras.specs.MakeCommand.{MakeReply, IsConstructionBuilt}
 
 -- the forms that can be certified and are built, with no more vectors than a script has bytes
 abbrev pub IsProvableBuilt : Provable → Mode → Type 0
@@ -67,11 +63,6 @@ IsPlainBuilt (commands.Comm w alpha beta) = Unit {0}
 IsPlainBuilt (commands.Series w kind) = Unit {0}
 IsPlainBuilt (commands.Check w json) = Unit {0}
 IsPlainBuilt _ = ⊥
-
--- the constructions, with no more elements than a script has bytes
-abbrev pub IsConstructionBuilt : MakeForm → Type 0
-IsConstructionBuilt (Sub w set) = length set.values ≤ SCRIPT
-IsConstructionBuilt _ = Unit {0}
 
 -- the commands that are built
 abbrev pub IsBuilt : Command → Type 0
@@ -113,12 +104,3 @@ PlainReply s b _ bytes = ⊥
 abbrev pub Reply : List Block → Bounds → Command → List ℕ → List Block → Type 0
 Reply s b (commands.Make place name what) bytes t = MakeReply s place name what bytes t
 Reply s b c bytes t = PlainReply s b c bytes × (t ≡ s)
-
--- the session with what a command made, if it made an algebra
-abbrev pub left_by : List Block → Option Made → List Block
-left_by s None = s
-left_by s (Some made) = s ++ unnamed made.algebra ∷ []
-
--- what a command made has the name that the command gives it
-abbrev pub IsNamedRight : Option Made → Type 0
-IsNamedRight made = IfSome made (λ m. m.name.now ≡ m.algebra.name)

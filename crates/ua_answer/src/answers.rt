@@ -4,21 +4,16 @@ ghost use Rattle.std.specs.Prelude.{IfOk};
 ghost use Rattle.ua_script.specs.declared.script.Command.{Command};
 ghost use Rattle.ua_script.specs.inner.Families.{IsOnCongruences, IsOnConditions};
 ghost use Rattle.ua_reply.specs.Sessions.{bounds_of};
-ghost use Rattle.ua_answer.specs.Replies.{IsProvableBuilt, IsPlainBuilt, IsBuilt, ProvableReply, PlainReply, Reply, left_by, IsNamedRight};
+ghost use Rattle.ua_answer.specs.Replies.{IsProvableBuilt, IsPlainBuilt, IsBuilt, ProvableReply, PlainReply, Reply};
+ghost use Rattle.ua_answer_algebras.specs.MakeCommand.{left_by, IsNamedRight};
 
-use crate::answered::{Answered, said};
 use crate::certificates::answer_cert;
-use crate::check::answer_check;
-use crate::close::answer_close;
-use crate::eval::answer_eval;
-use crate::free::answer_free;
-use crate::hom::answer_hom;
-use crate::make::answer_make;
-use crate::member::answer_member;
-use crate::ones::answer_ones;
-use crate::sub::answer_sub;
 use std::alloc::AllocError;
 use std::thread::Threads;
+use ua_answer_algebras::{
+    Answered, answer_check, answer_close, answer_eval, answer_free, answer_hom, answer_make,
+    answer_member, answer_ones, answer_sub, said,
+};
 use ua_answer_conditions::{
     ChainWord, answer_chain, answer_clone, answer_cond, answer_condition, answer_holds, answer_nu,
 };

@@ -1,21 +1,9 @@
-//! The reply to each command, one module each, but for those of `ua_answer_congruences` and
-//! `ua_answer_conditions`.
+//! The reply to each command: what `cert` is answered, and the table of all commands.
 #![tactic(auto)]
 
-mod answered;
 mod answers;
 mod certificates;
-mod check;
-mod close;
-mod closing;
-mod eval;
-mod free;
-mod hom;
-mod make;
-mod member;
-mod ones;
-mod reduct;
-mod sub;
+pub mod laws;
 
-pub use answered::{Answered, Made};
 pub use answers::{answer, answer_plain};
+pub use ua_answer_algebras::{Answered, Made};

@@ -1,2 +1,3 @@
 mod WrittenConditions
 mod WrittenTables
+pub mod RepliesExist

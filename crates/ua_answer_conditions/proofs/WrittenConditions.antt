@@ -5,9 +5,12 @@ use Rattle.std.specs.List.{AllByRecursion, flat_map}
 use Rattle.std.proofs.Math.Nat.{le-max_left, le-max_right}
 use Rattle.std.proofs.lemmas.Bool.{and_parts, leb-true, eqb-true}
 use Rattle.std.proofs.lemmas.List.{length-map}
+use Rattle.ua_table.proofs.Lists.{all_append}
 use Rattle.ua_identity.specs.Identities.{TermIdentity}
 use Rattle.ua_identity.specs.Conditions.{IsIdentity, IsCondition}
 use Rattle.ua_operands.specs.declared.written.Number.{Number}
+use Rattle.ua_operands.specs.declared.written.Variable.{Variable}
+use Rattle.ua_operands.specs.declared.written.Variable.TheVariants.{X, Y, Z, W}
 use Rattle.ua_operands.specs.declared.written.IdentityText.{IdentityText}
 use Rattle.ua_reply.specs.Checks.{Passes, all_in}
 use Rattle.ua_reply.proofs.CheckLaws.{parts_pass, each_passes, known_step}
@@ -45,6 +48,31 @@ are_identities n (i ∷ is) few h = (one_identity n i few h.0, are_identities n 
 are_filled : (k : Number) (n : ℕ) (is : List IdentityText) → AllByRecursion (λ i. Passes (identity_in k i)) is → AllByRecursion (λ (i : TermIdentity). length i.pattern.places ≡ k.value) (map (identity_of n) is)
 are_filled k n [] h = tt
 are_filled k n (i ∷ is) h = (length-map i.args number_of ∙ eqb-true (length i.args) k.value (known_step (length i.args == k.value) i.place h.0.shape), are_filled k n is h.1)
+
+-- ---- there are four variables
+
+number_low : (v : Variable) → number_of v < 4
+number_low X = omega arith
+number_low Y = omega arith
+number_low Z = omega arith
+number_low W = omega arith
+
+each_low : (vs : List Variable) → AllByRecursion (λ x. x < 4) (map number_of vs)
+each_low [] = tt
+each_low (v ∷ vs) = (number_low v, each_low vs)
+
+all_low : (is : List IdentityText) → AllByRecursion (λ x. x < 4) (flat_map numbers_in is)
+all_low [] = tt
+all_low (i ∷ is) = all_append (λ x. x < 4) (numbers_in i) (flat_map numbers_in is) (number_low i.value, each_low i.args) (all_low is)
+
+greatest_low : (n a : ℕ) (xs : List ℕ) → a < n → AllByRecursion (λ x. x < n) xs → fold max a xs < n
+greatest_low n a [] low h = low
+greatest_low n a (x ∷ xs) low h = greatest_low n (max a x) xs (let here = h.0 in omega (arith, low, here)) h.1
+
+pub few_letters : (is : List IdentityText) → variables_in is ≤ 4
+few_letters is = greatest_low 4 0 (flat_map numbers_in is) (omega arith) (all_low is)
+
+-- ---- conditions
 
 -- where nothing fails, it is a condition
 pub is_condition : (k : Number) (is : List IdentityText) → Passes (condition_checks k is) → 0 < length is → variables_in is ≤ 4 → IsCondition (condition_of k is)

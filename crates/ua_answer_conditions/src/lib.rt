@@ -7,6 +7,7 @@ mod clone;
 mod cond;
 mod condition;
 mod holds;
+pub mod laws;
 
 pub use chains::{ChainWord, answer_chain, chain};
 pub use clone::answer_clone;

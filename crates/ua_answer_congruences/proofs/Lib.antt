@@ -1,1 +1,2 @@
 mod OperandLaws
+mod RepliesExist

@@ -6,6 +6,7 @@ mod cg;
 mod comm;
 mod con;
 mod congruences;
+pub mod laws;
 mod series;
 mod texts;
 mod types;

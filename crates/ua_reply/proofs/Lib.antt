@@ -1,7 +1,7 @@
 pub mod CheckLaws
 pub mod OperandLaws
 pub mod Answering
-mod PartLaws
+pub mod PartLaws
 mod Rows
 mod SessionLaws
 pub mod ReplyExistence

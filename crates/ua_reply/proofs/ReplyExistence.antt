@@ -1,6 +1,11 @@
 -- That there is a reply: the first error, or an answer where no operand fails.
-use Rattle.std.proofs.Common.{◌≡◌, ℕ, List, [], ◌∷◌, ◌++◌, map, Option, Some, None, Result, Ok, Err, refl}
+use Rattle.std.proofs.Common.{◌≡◌, ℕ, Bool, true, false, cond, List, [], ◌∷◌, ◌++◌, map, Option, Some, None, Result, Ok, Err, refl, subst}
+use Rattle.std.specs.Prelude.{nat_eq, find}
+use Rattle.std.specs.List.{AllByRecursion}
 use Rattle.std.specs.Option.{MatchOption}
+use Rattle.std.specs.Cmp.Lexicographic.{pointwise}
+use Rattle.ua_table.specs.Algebras.{IsAlgebra}
+use Rattle.ua_table.specs.Tables.{IsAlgebraTable}
 use Rattle.ua_text.specs.declared.tokens.Place.{Place}
 use Rattle.ua_text.specs.declared.named.Block.{Block}
 use Rattle.ua_operands.specs.declared.written.Word.{Word}
@@ -9,19 +14,19 @@ use Rattle.ua_close.specs.declared.close.CloseError.TheVariants.{Wide, OutOfMemo
 use Rattle.ua_close.specs.Permitted.{IsAnswerable}
 use Rattle.ua_reply.specs.declared.refusals.Refusal.{Refusal}
 use Rattle.ua_reply.specs.declared.refusals.Refusal.TheVariants as refusals
-use Rattle.ua_reply.specs.Sessions.{lookup}
+use Rattle.ua_reply.specs.Sessions.{AreAlgebras, lookup}
 use Rattle.ua_reply.specs.Checks.{Checks, Passes, errors, first_refusal, first_error, checks_in}
 use Rattle.ua_reply.specs.Closures.{told}
 use Rattle.ua_reply.specs.Refusals.{refusal_text}
 use Rattle.ua_reply.proofs.CheckLaws.{none_left}
-use Rattle.ua_reply.specs.Replies.{Says, SaysOf, Answered, AnsweredOn, AnsweredOnBoth}
-
--- there are such bytes
-pub record HasBytes (Are : List ℕ → Type 0) : Type 0 where
-  pub bytes : List ℕ
-  pub are : Are bytes
+use Rattle.ua_reply.specs.Replies.{HasBytes, Says, SaysOf, Answered, AnsweredOn, AnsweredOnBoth}
 
 -- ---- an answer with a text
+
+-- some answer that is permitted is said, where each but the one error has a text
+pub some_said : {A E : Type 0} (May : Result A E → Type 0) (error : E) (text : Result A E → Option (List ℕ)) → IsAnswerable May error
+    → ((answer : Result A E) → (answer ≡ Err error → ⊥) → (bytes : List ℕ) × (text answer ≡ Some bytes)) → HasBytes (Says May text)
+some_said May error text h each = let t = each h.answer h.told in record { bytes = t.0; are = record { answer = h.answer; permitted = h.permitted; told = t.1 } }
 
 -- what is not want of memory has a text
 answer_told : {A : Type 0} (text : A → List ℕ) (answer : Result A CloseError) → (answer ≡ Err OutOfMemory → ⊥) → (bytes : List ℕ) × (told text answer ≡ Some bytes)
@@ -30,9 +35,7 @@ answer_told text (Err (Wide r c)) h = (refusal_text (refusals.Wide r c), refl)
 answer_told text (Err OutOfMemory) h = absurd (h refl)
 
 pub says_exists : {A : Type 0} (May : Result A CloseError → Type 0) (text : A → List ℕ) → IsAnswerable May OutOfMemory → HasBytes (Says May (told text))
-says_exists May text h =
-    let t = answer_told text h.answer h.told in
-    record { bytes = t.0; are = record { answer = h.answer; permitted = h.permitted; told = t.1 } }
+says_exists May text h = some_said May OutOfMemory (told text) h (answer_told text)
 
 -- ---- checks
 
@@ -45,12 +48,34 @@ unmapped : (f : Place → Refusal) (places : List Place) → map f places ≡ []
 unmapped f [] e = refl
 unmapped f (p ∷ ps) e = cc
 
-passes_from : (c : Checks) → first_error c ≡ None → Passes c
+pub passes_from : (c : Checks) → first_error c ≡ None → Passes c
 passes_from c e =
     let all = nothing_first (errors c) e in
     let u = none_left (map refusals.Unknown c.unknown ++ map refusals.Range c.range) (map refusals.Shape c.shape) all in
     let r = none_left (map refusals.Unknown c.unknown) (map refusals.Range c.range) u.0 in
     record { unknown = unmapped refusals.Unknown c.unknown r.0; range = unmapped refusals.Range c.range r.1; shape = unmapped refusals.Shape c.shape u.1 }
+
+-- ---- what a session knows
+
+found_among : {X : Type 0} (P : X → Type 0) (p : X → Bool) (xs : List X) (x : X) → AllByRecursion P xs → find p xs ≡ Some x → P x
+found_among P p [] x h e = cc
+found_among {X} P p (y ∷ ys) x h e = at (p y) e (found_among P p ys x h.1)
+  where
+    at : (b : Bool) → cond b (Some y) (find p ys) ≡ Some x → (find p ys ≡ Some x → P x) → P x
+    at true is rest = let same : y ≡ x = cc in subst P same h.0
+    at false is rest = rest is
+
+-- the algebra of a name that is known
+pub known_table : (s : List Block) (name : List ℕ) (k : Block) → AreAlgebras s → lookup s name ≡ Some k → IsAlgebraTable k.algebra
+known_table s name k h e = found_among (λ (k : Block). IsAlgebraTable k.algebra) (λ (k : Block). pointwise nat_eq k.algebra.name name) s k h e
+
+pub known_algebra : (s : List Block) (name : List ℕ) (k : Block) → AreAlgebras s → lookup s name ≡ Some k → IsAlgebra k.algebra
+known_algebra s name k h e = (known_table s name k h e).algebra
+
+-- where nothing fails, the name is known
+pub known_passes : (known : Option Block) (place : Place) (checks : Block → Checks) → Passes (checks_in known place checks) → (k : Block) × (known ≡ Some k) × Passes (checks k)
+known_passes None place checks h = absurd (let bad : (place ∷ []) ≡ [] = h.unknown in cc)
+known_passes (Some k) place checks h = (k, refl, h)
 
 -- ---- a reply
 

@@ -6,6 +6,11 @@ use Rattle.ua_reply.specs.Sessions.{lookup}
 use Rattle.ua_reply.specs.Checks.{Checks, checks_in, first_error}
 use Rattle.ua_reply.specs.Refusals.{refusal_text}
 
+-- there are such bytes
+pub record HasBytes (Are : List ℕ → Type 0) : Type 0 where
+  pub bytes : List ℕ
+  pub are : Are bytes
+
 -- the bytes are the text of some answer that is permitted
 pub record Says {A : Type 0} (May : A → Type 0) (text : A → Option (List ℕ)) (bytes : List ℕ) : Type 0 where
   pub answer : A

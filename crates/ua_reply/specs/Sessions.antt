@@ -1,6 +1,9 @@
 -- What a session knows of the names that a script has introduced, and the bounds of a run.
-use Rattle.std.specs.Prelude.{◌≡◌, ℕ, ◌<◌, nat_eq, List, length, take, find, slice_get, Option, None, MatchOption}
+use Rattle.std.specs.Prelude.{◌≡◌, ℕ, ◌<◌, nat_eq, List, length, take, find, slice_get, Option, None, MatchOption, ◌≤◌}
+use Rattle.std.specs.List.{AllByRecursion}
 use Rattle.std.specs.Cmp.Lexicographic.{pointwise}
+use Rattle.ua_table.specs.Tables.{IsAlgebraTable}
+use Rattle.ua_table.specs.declared.limits.TheConstants.{BUDGET}
 use Rattle.ua_text.specs.declared.named.Block.{Block}
 use Rattle.ua_reply.specs.declared.known.Holder.{Holder}
 use Rattle.ua_reply.specs.declared.known.Holder.TheVariants.{Written, Made}
@@ -9,6 +12,10 @@ use Rattle.ua_reply.specs.declared.known.Holder.TheVariants.{Written, Made}
 abbrev pub held : Holder → Block
 held (Written block) = block.now
 held (Made block) = block
+
+-- what stands in each block is an algebra within the limits
+abbrev pub AreAlgebras : List Block → Type 0
+AreAlgebras s = AllByRecursion (λ (k : Block). IsAlgebraTable k.algebra) s
 
 -- what the session knows of this name
 abbrev pub lookup : List Block → List ℕ → Option Block
@@ -29,3 +36,8 @@ pub record Bounds : Type 0 where
 
 abbrev pub bounds_of : ℕ → ℕ → Bounds
 bounds_of budget workers = record { budget = budget; workers = workers }
+
+-- a budget that a run may have
+pub record AreBounds (b : Bounds) : Type 0 where
+  pub some : 1 ≤ b.budget
+  pub few : b.budget ≤ BUDGET

@@ -112,8 +112,8 @@ generated_formed n =
 
 -- it is served as any script that is read
 pub generated_served : (n : ℕ) → AllByRecursion IsServed (generated n).items
-unfolding generated drawn_vectors
-generated_served n = (tt, (lit≤ tt, (tt, tt)))
+unfolding generated drawn_block drawn_vectors
+generated_served n = (tables n, (lit≤ tt, (tt, tt)))
 
 -- a script of these items
 pub generated_from : (n : ℕ) (b : Block) (c d : Command) (is : List Item) → b ≡ drawn_block n → c ≡ closing (drawn_vectors (state_after n values_drawn) 4) → d ≡ congruences

@@ -6,3 +6,4 @@ mod Sharing
 mod Built
 mod Generating
 mod Endings
+mod OutputsExist

@@ -2,7 +2,8 @@
 
 ghost use Rattle.std.specs.Prelude.{◌≡◌, IfOk, OnOk};
 ghost use Rattle.ua_reply.specs.Sessions.{bounds_of};
-ghost use Rattle.ua_answer.specs.Replies.{IsBuilt, IsNamedRight, Reply, left_by};
+ghost use Rattle.ua_answer.specs.Replies.{IsBuilt, Reply};
+ghost use Rattle.ua_answer_algebras.specs.MakeCommand.{IsNamedRight, left_by};
 ghost use Rattle.ua_shell.specs.inner.Hearing.{IsHeard, Hears};
 ghost use Rattle.ua_shell.specs.inner.Outputs.{IsServed};
 

@@ -1,0 +1,13 @@
+use Rattle.ua_answer.proofs.CertExists.{cert_replied}
+use Rattle.ua_answer.proofs.laws.certificates.Goals as goal
+
+pub returns : goal.returns
+returns c = cert_replied record {
+  closure = c.flawless.ensures.closure;
+  membership = c.flawless.ensures.membership;
+  condition = c.flawless.ensures.condition;
+  chain = c.flawless.ensures.chain;
+  can_decide = c.answers.ensures;
+  jonsson = c.answers-2.ensures.jonsson;
+  hm = c.answers-2.ensures.hagemann_mitschke;
+}

@@ -1,0 +1,6 @@
+mod Refused
+mod Making
+mod Reducts
+mod RepliesExist
+mod MakeExists
+mod MadeTables
