@@ -1,5 +1,5 @@
 -- The first token of a command.
-use Rattle.std.proofs.Common.{◌≡◌, ℕ, Bool, ◌||◌, true, false, List, [], ◌∷◌, ◌++◌, Option, codes, refl, sym, subst}
+use Rattle.std.proofs.Common.{◌≡◌, ℕ, Bool, ◌||◌, true, false, List, ◌∷◌, ◌++◌, Option, codes, refl, sym, subst}
 use Rattle.std.proofs.lemmas.Bool.{or_parts, not-true}
 use Rattle.ua_text.specs.declared.symbols.Role.TheVariants as roles
 use Rattle.ua_text.specs.declared.tokens.Place.{Place}

@@ -10,7 +10,7 @@ use Rattle.ua_text.specs.declared.symbols.Role.TheVariants as roles
 use Rattle.ua_text.specs.Pieces.{Placed}
 use Rattle.ua_text.specs.Words.{same}
 use Rattle.ua_text.specs.Signs.{Element, Wanted, IsSign, IsAt, sign, numeral, element, may_spell, Front}
-use Rattle.ua_text.specs.Blocks.{operation, naming, body, block}
+use Rattle.ua_text.specs.Blocks.{operation, naming, body}
 use Rattle.ua_text.specs.Reading.{IsReadable, IsReadableBlock, IsBlockAt}
 use Rattle.ua_text.specs.inner.Reading.{AreLabels}
 use Rattle.ua_text.proofs.FewTokens.{few_wanted}
@@ -152,7 +152,7 @@ one_body {v} b c ts us vs l r h k f g = at ts (body_then ts b us l f) (body_then
 
 -- a block at the front of few tokens can be read
 readable_at : (v : ℕ) (b : Block) (t : Placed) (ts rest : List Placed) → length ts < 16777216 → IsBlockAt v b (t ∷ ts) rest → IsReadableBlock v b
-readable_at v b t ts rest few h = readable v (codes "algebra" ∷ []) b h.formed h.spelled.1 (let n = few_wanted ts (body b) rest h.front.3 in omega (arith, n, few))
+readable_at v b t ts rest few h = readable v b h.formed h.spelled.1 (let n = few_wanted ts (body b) rest h.front.3 in omega (arith, n, few))
 
 -- nothing else is wanted
 alone : (v : ℕ) (b : Block) (t : Placed) (ts rest : List Placed) → IsBlockAt v b (t ∷ ts) rest → Front ts (body b ++ []) rest

@@ -14,10 +14,10 @@ use Rattle.ua_operands.specs.Reading.{begins_item}
 use Rattle.ua_script.specs.declared.script.Command.{Command}
 use Rattle.ua_script.specs.declared.script.Item.TheVariants as items
 use Rattle.ua_script.specs.declared.forms.CommandForm.{CommandForm}
-use Rattle.ua_script.specs.Operands.{Values, values_text}
-use Rattle.ua_script.specs.Forms.{word_of, parts_of, asked, made, certified}
+use Rattle.ua_script.specs.Operands.{values_text}
+use Rattle.ua_script.specs.Forms.{word_of, parts_of, asked, certified}
 use Rattle.ua_script.specs.inner.Forms.{finished}
-use Rattle.ua_script.specs.Grammar.{first_word, heading, command, MayAsk, forms_built}
+use Rattle.ua_script.specs.Grammar.{first_word, heading, command, MayAsk}
 use Rattle.ua_script.specs.Reading.{IsReadableItem}
 use Rattle.ua_script.specs.inner.Reading.{Beginning, IsMade, IsKept}
 use Rattle.ua_script.proofs.Table.{remade, no_cert}
@@ -40,8 +40,9 @@ pub by_certificate : {G : Type 0} (ts : List Placed) (ws : List Wanted) (c : Com
     → ((asked c).cert ≡ true → Front ts (sign roles.Begins (codes "cert") ∷ word_at roles.Form c ∷ (operands c ++ ws)) [] → G) → ((asked c).cert ≡ false → Front ts (word_at roles.Begins c ∷ (operands c ++ ws)) [] → G) → G
 by_certificate ts ws c h question other = let a = asked c in by_heading a.form a.cert a.place (operands c) ws ts h question other
 
-pub beginning : {v : ℕ} (role : Role) (ts : List Placed) (ws : List Wanted) (c : Command) → IsReadableItem v (items.Command c) → begins_item ws → Front ts (word_at role c ∷ (operands c ++ ws)) [] → Beginning (asked c).form (asked c).values (word_at role c) ts ws
-beginning {v} role ts ws c r b h = let a = asked c in record { named = refl; short = all_short v (parts_of a.form) a.values r.formed.1 (spelled_right forms_built (heading a.cert (word_of a.form) a.place) (operands c) r.spelled); begins = b; front = h }
+pub beginning : {v : ℕ} (role : Role) (ts : List Placed) (ws : List Wanted) (c : Command) → IsReadableItem v (items.Command c) → begins_item ws
+    → Front ts (word_at role c ∷ (operands c ++ ws)) [] → Beginning (asked c).form (asked c).values (word_at role c) ts ws
+beginning {v} role ts ws c r b h = let a = asked c in record { named = refl; short = all_short v (parts_of a.form) a.values r.formed.1 (spelled_right (heading a.cert (word_of a.form) a.place) (operands c) r.spelled); begins = b; front = h }
 
 -- no word of a form is `cert`
 pub no_certificate : (c : Command) (ws : List Wanted) → begins_with (codes "cert") (word_at roles.Begins c ∷ ws) ≡ false
@@ -61,6 +62,7 @@ certified_is c d h e m = subst (λ z. finished z d ≡ c) e (made_is c d h m)
 pub plain_is : (c d : Command) → MayAsk c → (asked c).cert ≡ false → IsMade (asked c).form (asked c).values (asked c).place d → d ≡ c
 plain_is c d h e m = subst (λ z. finished z d ≡ c) e (made_is c d h m)
 
-pub gives_plain : (c : Command) → MayAsk c → (asked c).cert ≡ false → (ts : List Placed) (ws : List Wanted) (r : Result Command Miss) → Gives r (λ d. IsMade (asked c).form (asked c).values (asked c).place d × Front ts ws []) → Gives r (λ d. (d ≡ c) × Front ts ws [])
+pub gives_plain : (c : Command) → MayAsk c → (asked c).cert ≡ false → (ts : List Placed) (ws : List Wanted) (r : Result Command Miss)
+    → Gives r (λ d. IsMade (asked c).form (asked c).values (asked c).place d × Front ts ws []) → Gives r (λ d. (d ≡ c) × Front ts ws [])
 gives_plain c h e ts ws (Ok d) g = (plain_is c d h e g.0, g.1)
 gives_plain c h e ts ws (Err m) g = g

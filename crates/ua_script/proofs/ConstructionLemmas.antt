@@ -1,17 +1,20 @@
 -- Constructions as they stand at the front of tokens.
-use Rattle.std.proofs.Common.{◌≡◌, ℕ, true, false, List, [], ◌∷◌, ◌++◌, codes, subst, append_assoc}
+use Rattle.std.proofs.Common.{◌≡◌, ℕ, true, false, List, [], ◌∷◌, ◌++◌, codes, refl, subst, append_assoc, append-nil}
 use Rattle.std.proofs.lemmas.Bool.{false≢true, true≢false}
 use Rattle.ua_text.specs.declared.symbols.Role.TheVariants as roles
+use Rattle.ua_text.specs.declared.symbols.Part.{Part}
+use Rattle.ua_text.specs.declared.symbols.Part.TheVariants as parts
 use Rattle.ua_text.specs.Words.{same}
 use Rattle.ua_text.specs.Pieces.{Placed}
 use Rattle.ua_text.specs.Signs.{Wanted, sign, Front}
 use Rattle.ua_operands.specs.declared.written.Word.{Word}
 use Rattle.ua_operands.specs.declared.written.Items.{Items}
 use Rattle.ua_operands.specs.declared.written.PartText.{PartText}
+use Rattle.ua_operands.specs.Reading.{begins_item}
 use Rattle.ua_script.specs.declared.script.MakeForm.{MakeForm}
 use Rattle.ua_script.specs.declared.script.MakeForm.TheVariants.{Product, Quotient, Sub, Reduct}
-use Rattle.ua_operands.specs.Written.{word, vector, part, names}
-use Rattle.ua_script.specs.Operands.{construction}
+use Rattle.ua_script.specs.Operands.{Values, values_text, construction}
+use Rattle.ua_script.specs.inner.Reading.{IsShortConstruction, Standing}
 
 -- the word of a construction
 abbrev pub first_of : MakeForm → List ℕ
@@ -20,18 +23,38 @@ first_of (Quotient a p) = codes "quotient"
 first_of (Sub a v) = codes "sub"
 first_of (Reduct a ops) = codes "reduct"
 
--- what is behind it, in front of other tokens
-abbrev pub behind : MakeForm → List Wanted → List Wanted
-behind (Product a b) ws = word a ∷ word b ∷ ws
-behind (Quotient a p) ws = word a ∷ (part p ++ ws)
-behind (Sub a v) ws = word a ∷ (vector v ++ ws)
-behind (Reduct a ops) ws = word a ∷ sign roles.Opens (codes "(") ∷ (names ops ++ sign roles.Closes (codes ")") ∷ ws)
+-- the parts behind it, and what stands for them
+abbrev pub parts_in : MakeForm → List Part
+parts_in (Product a b) = parts.Name ∷ parts.Name ∷ []
+parts_in (Quotient a p) = parts.Name ∷ parts.Partition ∷ []
+parts_in (Sub a v) = parts.Name ∷ parts.Vector ∷ []
+parts_in (Reduct a ops) = parts.Name ∷ parts.Names ∷ []
 
-pub construction_front : (m : MakeForm) (ts : List Placed) (ws : List Wanted) → Front ts (construction m ++ ws) [] → Front ts (sign roles.Exact (first_of m) ∷ behind m ws) []
-construction_front (Product a b) ts ws f = f
-construction_front (Quotient a p) ts ws f = f
-construction_front (Sub a v) ts ws f = f
-construction_front (Reduct a ops) ts ws f = subst (λ z. Front ts (sign roles.Exact (codes "reduct") ∷ word a ∷ sign roles.Opens (codes "(") ∷ z) []) (append_assoc (names ops) (sign roles.Closes (codes ")") ∷ []) ws) f
+abbrev pub values_in : (m : MakeForm) → Values (parts_in m)
+values_in (Product a b) = (a, (b, tt))
+values_in (Quotient a p) = (a, (p, tt))
+values_in (Sub a v) = (a, (v, tt))
+values_in (Reduct a ops) = (a, (ops, tt))
+
+-- what is written for them
+abbrev pub behind : MakeForm → List Wanted
+behind m = values_text (parts_in m) (values_in m)
+
+pub text_in : (m : MakeForm) → construction m ≡ sign roles.Exact (first_of m) ∷ behind m
+text_in (Product a b) = refl
+text_in (Quotient a p) = simp (append_assoc, append-nil)
+text_in (Sub a v) = simp (append_assoc, append-nil)
+text_in (Reduct a ops) = simp (append_assoc, append-nil)
+
+pub construction_front : (m : MakeForm) (ts : List Placed) (ws : List Wanted) → Front ts (construction m ++ ws) [] → Front ts (sign roles.Exact (first_of m) ∷ (behind m ++ ws)) []
+construction_front m ts ws f = subst (λ z. Front ts (z ++ ws) []) (text_in m) f
+
+-- they stand where the word was read
+pub stands : (m : MakeForm) (ts : List Placed) (ws : List Wanted) → IsShortConstruction m → begins_item ws → Front ts (behind m ++ ws) [] → Standing (parts_in m) (values_in m) ts ws
+stands (Product a b) ts ws s i f = record { short = (s.0, (s.1, tt)); end = refl; begins = i; front = f }
+stands (Quotient a p) ts ws s i f = record { short = (s.0, (s.1, tt)); end = refl; begins = i; front = f }
+stands (Sub a v) ts ws s i f = record { short = (s.0, (s.1, tt)); end = refl; begins = i; front = f }
+stands (Reduct a ops) ts ws s i f = record { short = (s.0, (s.1, tt)); end = refl; begins = i; front = f }
 
 -- the construction whose word was read
 module _ (G : MakeForm → Type 0) (t : List ℕ) where

@@ -79,5 +79,5 @@ later_at version (i ∷ is) zero d l h = later version i h.0
 later_at version (i ∷ is) (suc n) d l h = later_at version is n d (omega arith) h.1
 
 -- The law: a migrated script is well formed.
-pub well_formed_later : (built : List (List ℕ)) (s : Script) → IsWellFormed built s → IsWellFormed built (migrated s)
-well_formed_later built s h = record { known = inr refl; spelled = h.spelled; each = all_later s.version s.items h.each; names = h.names }
+pub well_formed_later : (s : Script) → IsWellFormed s → IsWellFormed (migrated s)
+well_formed_later s h = record { known = inr refl; spelled = h.spelled; each = all_later s.version s.items h.each; names = h.names }

@@ -1,5 +1,5 @@
 -- At the front of tokens stands at most one operand of a kind.
-use Rattle.std.proofs.Common.{◌≡◌, ℕ, ◌<◌, true, false, List, [], ◌∷◌, ◌++◌, map, Some, None, codes, refl, sym, ap, ◌∙◌, subst, append_assoc}
+use Rattle.std.proofs.Common.{◌≡◌, ℕ, ◌<◌, true, false, List, [], ◌∷◌, ◌++◌, map, Some, None, codes, refl, sym, ap, ◌∙◌, subst}
 use Rattle.std.specs.List.{AllByRecursion, flat_map}
 use Rattle.std.specs.Fmt.{decimal}
 use Rattle.std.proofs.lemmas.Bool.{false≢true}
@@ -33,7 +33,8 @@ use Rattle.ua_operands.specs.declared.written.PointsText.{PointsText}
 use Rattle.ua_operands.specs.declared.written.PointsText.TheVariants.{Total, Partial}
 use Rattle.ua_operands.specs.Written.{word, number, entry, vector, part, part_block, part_blocks, names, mode, cond_word, series_word, variable, variable_word, clone_word, identity, points}
 use Rattle.ua_operands.specs.Reading.{IsShort, IsShortEntry, IsShortVector, IsShortBlock, IsNamed, ArePointsShort, begins_number, begins_item}
-use Rattle.ua_operands.proofs.ReadLemmas.{number_is, word_is, part_is, identity_is, entry_apart, word_apart, inner_apart, variable_apart, names_front, block_front, blocks_front, blocks_flat, block_number, tail_number, behind_then, condition_is, series_is, variable_is}
+use Rattle.ua_operands.proofs.ReadLemmas.{number_is, word_is, part_is, identity_is, entry_apart, word_apart, inner_apart, variable_apart, names_front, block_front, blocks_front}
+use Rattle.ua_operands.proofs.ReadLemmas.{blocks_flat, block_number, tail_number, behind_then, condition_is, series_is, variable_is}
 use Rattle.ua_operands.proofs.CloneLemmas.{clone_is}
 use Rattle.ua_script.proofs.TokenReadings.{Same, apart, clash, closed, many}
 

@@ -1,5 +1,5 @@
 -- The operands of a command at the front of tokens, read one by one.
-use Rattle.std.proofs.Common.{◌≡◌, ◌==◌, ℕ, Bool, true, false, ◌&&◌, not, List, [], ◌∷◌, ◌++◌, Result, Ok, Err, refl, sym, subst, codes, append_assoc}
+use Rattle.std.proofs.Common.{◌≡◌, ◌==◌, ℕ, true, false, List, [], ◌∷◌, ◌++◌, Ok, Err, refl, sym, ap, ◌∙◌, subst, codes, append_assoc}
 use Rattle.std.proofs.lemmas.Bool.{false≢true, and_parts, not-true}
 use Rattle.ua_text.specs.declared.readers.Miss.{Miss}
 use Rattle.ua_text.specs.declared.readers.Miss.TheVariants as misses
@@ -8,25 +8,18 @@ use Rattle.ua_text.specs.declared.symbols.Part.TheVariants as parts
 use Rattle.ua_text.specs.Pieces.{Placed}
 use Rattle.ua_text.specs.Words.{same}
 use Rattle.ua_text.specs.Signs.{Wanted, Front}
-use Rattle.ua_text.specs.Reading.{Gives, begins_with}
+use Rattle.ua_text.specs.Reading.{begins_with}
 use Rattle.ua_term.specs.Reading.{IsEnd}
-use Rattle.ua_operands.specs.Reading.{begins_item, begins_number}
+use Rattle.ua_operands.specs.Reading.{begins_item}
 use Rattle.ua_operands.proofs.ReadLemmas.{begins_after}
 use Rattle.ua_script.specs.declared.forms.CommandForm.{CommandForm}
-use Rattle.ua_script.specs.Forms.{parts_of}
-use Rattle.ua_script.specs.Operands.{Value, Values, value_text, values_text}
+use Rattle.ua_script.specs.declared.script.Command.{Command}
+use Rattle.ua_text.specs.declared.tokens.Place.{Place}
+use Rattle.ua_script.specs.Forms.{parts_of, made}
+use Rattle.ua_script.specs.Operands.{Values, value_text, values_text}
 use Rattle.ua_script.specs.Reading.{ends}
-use Rattle.ua_script.specs.inner.Reading.{IsShortValue, all_end, Standing}
-
--- what the reader of a part wants of what stands behind it
-abbrev pub Ends : Part → List Wanted → Type 0
-Ends parts.Vectors ws = begins_with (codes "[") ws ≡ false
-Ends parts.Partition ws = begins_number ws ≡ false
-Ends parts.Term ws = IsEnd ws []
-Ends parts.Modes ws = begins_item ws
-Ends (parts.Identities i) ws = begins_with (codes "(") ws ≡ false
-Ends (parts.Pick table) ws = begins_item ws
-Ends p ws = Unit {0}
+use Rattle.ua_script.specs.inner.Reading.{all_end, Standing, IsCommandRead}
+use Rattle.ua_script.specs.inner.Parts.{ForPart, Ends, IsRead}
 
 -- what begins an item may stand behind a term
 term_ends : (ws : List Wanted) → begins_item ws → IsEnd ws []
@@ -66,27 +59,41 @@ pub ends_well : (p : Part) (ps : List Part) (v : Values ps) (ws : List Wanted) �
 ends_well p [] v ws e b = item_ends p ws b
 ends_well p (q ∷ ps) v ws e b = part_ends p q ps v ws e b
 
--- A reader of a part: what is written for a value is read as that value.
-abbrev pub ReadsPart : (p : Part) → List Placed → List Placed → Result (Value p) Miss → Type 0
-ReadsPart p old new result = (x : Value p) (ws : List Wanted) → IsShortValue p x → Ends p ws → Front old (value_text p x ++ ws) [] → Gives result (λ r. (r ≡ x) × Front new ws [])
-
 -- so the first value is read, and the others stand there
-pub took : {p : Part} {ps : List Part} {x : Values (p ∷ ps)} {old : List Placed} {ws : List Wanted} (new : List Placed) (r : Value p) → Standing (p ∷ ps) x old ws → ReadsPart p old new (Ok r) → (r ≡ x.0) × Standing ps x.1 new ws
-took {p} {ps} {x} {old} {ws} new r s f =
-    let e = and_parts (ends p ps) (all_end ps) s.end in
-    let g = f x.0 (values_text ps x.1 ++ ws) s.short.0 (ends_well p ps x.1 ws e.0 s.begins) (subst (λ z. Front old z []) (append_assoc (value_text p x.0) (values_text ps x.1) ws) s.front) in
+pub took : {A : Type 0} (a : ForPart A) {ps : List Part} {x : Values (a.part ∷ ps)} {old : List Placed} {ws : List Wanted} (new : List Placed) (r : A)
+    → Standing (a.part ∷ ps) x old ws → IsRead a old new (Ok r) → (a.value r ≡ x.0) × Standing ps x.1 new ws
+took a {ps} {x} {old} {ws} new r s f =
+    let e = and_parts (ends a.part ps) (all_end ps) s.end in
+    let g = f x.0 (values_text ps x.1 ++ ws) s.short.0 (ends_well a.part ps x.1 ws e.0 s.begins) (subst (λ z. Front old z []) (append_assoc (value_text a.part x.0) (values_text ps x.1) ws) s.front) in
     (g.0, record { short = s.short.1; end = e.1; begins = s.begins; front = g.1 })
 
-pub missed : {p : Part} {ps : List Part} {x : Values (p ∷ ps)} {old : List Placed} {ws : List Wanted} (new : List Placed) (m : Miss) → Standing (p ∷ ps) x old ws → ReadsPart p old new (Err m) → m ≡ misses.OutOfMemory
-missed {p} {ps} {x} {old} {ws} new m s f =
-    let e = and_parts (ends p ps) (all_end ps) s.end in
-    f x.0 (values_text ps x.1 ++ ws) s.short.0 (ends_well p ps x.1 ws e.0 s.begins) (subst (λ z. Front old z []) (append_assoc (value_text p x.0) (values_text ps x.1) ws) s.front)
+pub missed : {A : Type 0} (a : ForPart A) {ps : List Part} {x : Values (a.part ∷ ps)} {old : List Placed} {ws : List Wanted} (new : List Placed)
+    (m : Miss)
+    → Standing (a.part ∷ ps) x old ws → IsRead a old new (Err m) → m ≡ misses.OutOfMemory
+missed a {ps} {x} {old} {ws} new m s f =
+    let e = and_parts (ends a.part ps) (all_end ps) s.end in
+    f x.0 (values_text ps x.1 ++ ws) s.short.0 (ends_well a.part ps x.1 ws e.0 s.begins) (subst (λ z. Front old z []) (append_assoc (value_text a.part x.0) (values_text ps x.1) ws) s.front)
 
--- nothing is left
-pub done : {x : Values []} {old : List Placed} {ws : List Wanted} → Standing [] x old ws → Front old ws []
-done s = s.front
+-- a new name is written as any other
+pub fresh_name : {q : Part} {ps : List Part} {x : Values (parts.Fresh ∷ q ∷ ps)} {ts : List Placed} {ws : List Wanted} → Standing (parts.Fresh ∷ q ∷ ps) x ts ws → Standing (parts.Name ∷ q ∷ ps) x ts ws
+fresh_name s = record { short = s.short; end = s.end; begins = s.begins; front = s.front }
+
+-- both parts of a pair
+pub pair_is : {A B : Type 0} {x : A × B} (a : A) (b : B) → a ≡ x.0 → b ≡ x.1 → (a, b) ≡ x
+pair_is {A} {B} {x} a b e f = subst (λ z. (a, z) ≡ x) (sym f) (subst (λ z. (z, x.1) ≡ x) (sym e) refl)
 
 -- what holds of operands of the form that was read
-pub at_form : (g : CommandForm) (P : (f : CommandForm) → Values (parts_of f) → List Wanted → Type 0) (ts : List Placed) (f : CommandForm) → f ≡ g → ((x : Values (parts_of g)) (ws : List Wanted) → Standing (parts_of g) x ts ws → P g x ws)
+at_form : {f g : CommandForm} (P : (f : CommandForm) → Values (parts_of f) → List Wanted → Type 0) (ts : List Placed) → f ≡ g → ((x : Values (parts_of g)) (ws : List Wanted) → Standing (parts_of g) x ts ws → P g x ws)
     → (x : Values (parts_of f)) (ws : List Wanted) → Standing (parts_of f) x ts ws → P f x ws
-at_form g P ts f e h = subst (λ z. (x : Values (parts_of z)) (ws : List Wanted) → Standing (parts_of z) x ts ws → P z x ws) (sym e) h
+at_form {f} {g} P ts e h = subst (λ z. (x : Values (parts_of z)) (ws : List Wanted) → Standing (parts_of z) x ts ws → P z x ws) (sym e) h
+
+-- a command that is made of what was read
+pub read_at : {f g : CommandForm} (place : Place) {c : Command} {v : Values (parts_of g)} (old new : List Placed) → f ≡ g → c ≡ made g place v
+    → ((x : Values (parts_of g)) (ws : List Wanted) → Standing (parts_of g) x old ws → (v ≡ x) × Front new ws []) → IsCommandRead f place old new (Ok c)
+read_at {f} {g} place {c} {v} old new e made_is only =
+    at_form (λ f x ws. (c ≡ made f place x) × Front new ws []) old e (λ x ws s. let t = only x ws s in (made_is ∙ ap (made g place) t.0, t.1))
+
+-- or memory has run out
+pub missed_at : {f g : CommandForm} (place : Place) (m : Miss) (old new : List Placed) → f ≡ g
+    → ((x : Values (parts_of g)) (ws : List Wanted) → Standing (parts_of g) x old ws → m ≡ misses.OutOfMemory) → IsCommandRead f place old new (Err m)
+missed_at place m old new e only = at_form (λ f x ws. m ≡ misses.OutOfMemory) old e only

@@ -1,5 +1,5 @@
 -- Questions behind `cert`: no part of theirs asks for another answer.
-use Rattle.std.proofs.Common.{◌≡◌, ℕ, List, [], ◌∷◌, ◌++◌, refl, sym, ap, ◌∙◌}
+use Rattle.std.proofs.Common.{◌≡◌, List, [], ◌∷◌, ◌++◌, refl, sym, ap, ◌∙◌}
 use Rattle.ua_text.specs.declared.symbols.Part.{Part}
 use Rattle.ua_text.specs.declared.symbols.Part.TheVariants as parts
 use Rattle.ua_text.specs.Machine.{Taken}

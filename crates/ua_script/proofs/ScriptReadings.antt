@@ -1,5 +1,5 @@
 -- A text is at most one script.
-use Rattle.std.proofs.Common.{◌≡◌, inl, inr, ℕ, zero, suc, ◌≤◌, ◌<◌, Bool, true, false, not, List, [], ◌∷◌, ◌++◌, length, Some, codes, refl, sym, ap, ◌∙◌, subst, append_assoc, append-nil, arith}
+use Rattle.std.proofs.Common.{◌≡◌, inl, inr, ℕ, zero, suc, ◌≤◌, ◌<◌, Bool, true, false, List, [], ◌∷◌, ◌++◌, length, Some, codes, refl, sym, ap, ◌∙◌, subst, append-nil, arith}
 use Rattle.std.specs.List.{AllByRecursion, flat_map}
 use Rattle.std.proofs.lemmas.Bool.{false≢true, and_parts, not-true}
 use Rattle.std.proofs.lemmas.List.{length-append}
@@ -13,15 +13,13 @@ use Rattle.ua_text.specs.declared.symbols.Part.TheVariants as parts
 use Rattle.ua_text.specs.Pieces.{Placed, tokens_of}
 use Rattle.ua_text.specs.Words.{same}
 use Rattle.ua_text.specs.Signs.{Wanted, sign, AreSpelled, Front}
-use Rattle.ua_text.specs.Blocks.{block}
 use Rattle.ua_text.specs.Versions.{IsVersion}
 use Rattle.ua_text.specs.Reading.{begins_with, IsReadableBlock}
 use Rattle.ua_text.proofs.Readable.{readable}
 use Rattle.ua_text.proofs.ReadBack.{place_of}
 use Rattle.ua_text.proofs.WordLemmas.{same_itself}
 use Rattle.ua_text.proofs.SpelledLemmas.{spelled_left, spelled_right}
-use Rattle.ua_operands.specs.declared.written.Word.{Word}
-use Rattle.ua_operands.specs.Written.{word, part, names}
+use Rattle.ua_operands.specs.Written.{vector, part, names}
 use Rattle.ua_operands.specs.Reading.{begins_item}
 use Rattle.ua_script.specs.declared.script.MakeForm.{MakeForm}
 use Rattle.ua_script.specs.declared.script.MakeForm.TheVariants.{Product, Quotient, Sub, Reduct}
@@ -33,14 +31,15 @@ use Rattle.ua_script.specs.declared.forms.CommandForm.{CommandForm}
 use Rattle.ua_script.specs.Operands.{Choice, choice_text, Value, Values, construction, value_text, values_text, IsValue, AreValues}
 use Rattle.ua_script.specs.Forms.{word_of, parts_of, all_forms, asked, made}
 use Rattle.ua_script.specs.inner.Forms.{found_form, finished}
-use Rattle.ua_script.specs.Grammar.{heading, command, item, written, version_line, IsOpening, forms_built, IsScript}
+use Rattle.ua_script.specs.Grammar.{heading, command, item, written, version_line, IsOpening, IsScript}
 use Rattle.ua_script.specs.Reading.{ends, IsReadableItem, IsReadableScript}
 use Rattle.ua_script.specs.inner.Reading.{IsShortConstruction, IsShortValue, all_end}
 use Rattle.ua_script.proofs.Beginnings.{begun, no_block}
 use Rattle.ua_script.proofs.Certificates.{operands, word_at, by_certificate, kept_at}
 use Rattle.ua_script.proofs.ConstructionLemmas.{first_of, behind, construction_front}
 use Rattle.ua_script.proofs.ItemLemmas.{items_begin, item_some, no_version}
-use Rattle.ua_script.proofs.Operands.{Ends, ends_well}
+use Rattle.ua_script.specs.inner.Parts.{Ends}
+use Rattle.ua_script.proofs.Operands.{ends_well}
 use Rattle.ua_script.proofs.Shortness.{short_value}
 use Rattle.ua_script.proofs.Table.{found, no_cert, end, remade}
 use Rattle.ua_script.proofs.ScriptReading.{script_readable}
@@ -63,23 +62,26 @@ other_words : {G : Type 0} (m n : MakeForm) (t : List ℕ) → t ≡ first_of m 
 other_words m n t e f h = absurd (false≢true (sym h ∙ subst (λ z. same z (first_of n) ≡ true) (sym f ∙ e) (same_itself (first_of n))))
 
 one_behind : (m n : MakeForm) (t : List ℕ) (ts : List Placed) (us vs : List Wanted) → IsShortConstruction m → IsShortConstruction n → begins_item us → begins_item vs → t ≡ first_of m → t ≡ first_of n
-    → Front ts (behind m us) [] → Front ts (behind n vs) [] → Same m n us vs [] []
+    → Front ts (behind m ++ us) [] → Front ts (behind n ++ vs) [] → Same m n us vs [] []
 one_behind (Product a b) (Product c d) t [] us vs p q k l e h f g = absurd f
 one_behind (Product a b) (Product c d) t (t0 ∷ []) us vs p q k l e h f g = absurd f.3
 one_behind (Product a b) (Product c d) t (t0 ∷ t1 ∷ ts) us vs p q k l e h f g =
     (ap (λ z. Product z b) (same_word a c t0 f.1 f.2 g.1 g.2) ∙ ap (λ z. Product c z) (same_word b d t1 f.3.1 f.3.2 g.3.1 g.3.2), record { left = ts; first = f.3.3; second = g.3.3 })
 one_behind (Quotient a x) (Quotient c y) t [] us vs p q k l e h f g = absurd f
 one_behind (Quotient a x) (Quotient c y) t (t0 ∷ ts) us vs p q k l e h f g =
-    let r = one_part x y ts us vs p.1 q.1 k.3 l.3 f.3 g.3 in
+    let r = one_part x y ts us vs p.1 q.1 k.3 l.3 (apart (part x) [] us ts [] f.3) (apart (part y) [] vs ts [] g.3) in
     (ap (λ z. Quotient z x) (same_word a c t0 f.1 f.2 g.1 g.2) ∙ ap (λ z. Quotient c z) r.0, r.1)
 one_behind (Sub a v) (Sub c w) t [] us vs p q k l e h f g = absurd f
 one_behind (Sub a v) (Sub c w) t (t0 ∷ ts) us vs p q k l e h f g =
-    let r = one_vector v w ts us vs p.1 q.1 f.3 g.3 in
+    let r = one_vector v w ts us vs p.1 q.1 (apart (vector v) [] us ts [] f.3) (apart (vector w) [] vs ts [] g.3) in
     (ap (λ z. Sub z v) (same_word a c t0 f.1 f.2 g.1 g.2) ∙ ap (λ z. Sub c z) r.0, r.1)
 one_behind (Reduct a xs) (Reduct c ys) t [] us vs p q k l e h f g = absurd f
 one_behind (Reduct a xs) (Reduct c ys) t (t0 ∷ []) us vs p q k l e h f g = absurd f.3
 one_behind (Reduct a xs) (Reduct c ys) t (t0 ∷ t1 ∷ ts) us vs p q k l e h f g =
-    let r = one_names xs ys ts us vs p.1 q.1 f.3.3 g.3.3 in
+    let close = sign roles.Closes (codes ")") ∷ [] in
+    let first = apart (names xs) close us ts [] (apart (names xs ++ close) [] us ts [] f.3.3) in
+    let second = apart (names ys) close vs ts [] (apart (names ys ++ close) [] vs ts [] g.3.3) in
+    let r = one_names xs ys ts us vs p.1 q.1 first second in
     (ap (λ z. Reduct z xs) (same_word a c t0 f.1 f.2 g.1 g.2) ∙ ap (λ z. Reduct c z) r.0, r.1)
 one_behind (Product a b) (Quotient c y) t ts us vs p q k l e h f g = other_words (Product a b) (Quotient c y) t e h refl
 one_behind (Product a b) (Sub c w) t ts us vs p q k l e h f g = other_words (Product a b) (Sub c w) t e h refl
@@ -98,13 +100,13 @@ one_construction : (m n : MakeForm) (ts : List Placed) (us vs : List Wanted) →
     → Front ts (construction n ++ vs) [] → Same m n us vs [] []
 one_construction m n ts us vs p q k l f g = at ts (construction_front m ts us f) (construction_front n ts vs g)
   where
-    at : (ts : List Placed) → Front ts (sign roles.Exact (first_of m) ∷ behind m us) [] → Front ts (sign roles.Exact (first_of n) ∷ behind n vs) [] → Same m n us vs [] []
+    at : (ts : List Placed) → Front ts (sign roles.Exact (first_of m) ∷ (behind m ++ us)) [] → Front ts (sign roles.Exact (first_of n) ∷ (behind n ++ vs)) [] → Same m n us vs [] []
     at [] f g = absurd f
     at (t ∷ ts) f g = one_behind m n t.text ts us vs p q k l f.1 g.1 f.3 g.3
 
 -- what may stand for a part, in a script of this version
 abbrev Fit : ℕ → (p : Part) → Value p → Type 0
-Fit v p x = IsValue v p x × AreSpelled forms_built (value_text p x) × (length (value_text p x) ≤ 16777216)
+Fit v p x = IsValue v p x × AreSpelled (value_text p x) × (length (value_text p x) ≤ 16777216)
 
 one_value : (v : ℕ) (p : Part) (x y : Value p) (ts : List Placed) (us vs : List Wanted) → Fit v p x → Fit v p y → IsShortValue p x → IsShortValue p y → Ends p us → Ends p vs
     → Front ts (value_text p x ++ us) [] → Front ts (value_text p y ++ vs) [] → Same x y us vs [] []
@@ -127,7 +129,7 @@ one_value v parts.Term x y ts us vs h k p q d e f g = one_term x y ts us vs [] [
 one_value v parts.Json x y [] us vs h k p q d e f g = absurd f
 one_value v parts.Json x y (t ∷ ts) us vs h k p q d e f g = (sym f.1 ∙ g.1, record { left = ts; first = f.3; second = g.3 })
 one_value v parts.Modes x y ts us vs h k p q d e f g = one_mode x y ts us vs d e f g
-one_value v parts.Body x y ts us vs h k p q d e f g = one_body x y ts us vs [] [] (readable v forms_built x h.0 h.1 h.2) (readable v forms_built y k.0 k.1 k.2) f g
+one_value v parts.Body x y ts us vs h k p q d e f g = one_body x y ts us vs [] [] (readable v x h.0 h.1 h.2) (readable v y k.0 k.1 k.2) f g
 one_value v (parts.OneOf i) x y [] us vs h k p q d e f g = absurd f
 one_value v (parts.OneOf i) x y (t ∷ ts) us vs h k p q d e f g = (same_choice i x y t.text f.1 g.1, record { left = ts; first = f.3; second = g.3 })
 one_value v (parts.Identities i) x y ts us vs h k p q d e f g = one_identities x y ts us vs d e f g
@@ -136,13 +138,13 @@ one_value v (parts.Pick Points) x y ts us vs h k p q d e f g = one_points x y ts
 one_value v (parts.Pick table) x y ts us vs h k p q d e f g = absurd x
 
 abbrev AllFit : ℕ → (ps : List Part) → Values ps → Type 0
-AllFit v ps x = AreValues v ps x × AreSpelled forms_built (values_text ps x) × (length (values_text ps x) ≤ 16777216)
+AllFit v ps x = AreValues v ps x × AreSpelled (values_text ps x) × (length (values_text ps x) ≤ 16777216)
 
 fit_first : (v : ℕ) (p : Part) (ps : List Part) (x : Values (p ∷ ps)) → AllFit v (p ∷ ps) x → Fit v p x.0
-fit_first v p ps x h = let n = length-append (value_text p x.0) (values_text ps x.1) in (h.0.0, spelled_left forms_built (value_text p x.0) (values_text ps x.1) h.1, (let few = h.2 in omega (arith, n, few)))
+fit_first v p ps x h = let n = length-append (value_text p x.0) (values_text ps x.1) in (h.0.0, spelled_left (value_text p x.0) (values_text ps x.1) h.1, (let few = h.2 in omega (arith, n, few)))
 
 fit_rest : (v : ℕ) (p : Part) (ps : List Part) (x : Values (p ∷ ps)) → AllFit v (p ∷ ps) x → AllFit v ps x.1
-fit_rest v p ps x h = let n = length-append (value_text p x.0) (values_text ps x.1) in (h.0.1, spelled_right forms_built (value_text p x.0) (values_text ps x.1) h.1, (let few = h.2 in omega (arith, n, few)))
+fit_rest v p ps x h = let n = length-append (value_text p x.0) (values_text ps x.1) in (h.0.1, spelled_right (value_text p x.0) (values_text ps x.1) h.1, (let few = h.2 in omega (arith, n, few)))
 
 one_values : (v : ℕ) (ps : List Part) (x y : Values ps) (ts : List Placed) (us vs : List Wanted) → AllFit v ps x → AllFit v ps y → all_end ps ≡ true → begins_item us → begins_item vs
     → Front ts (values_text ps x ++ us) [] → Front ts (values_text ps y ++ vs) [] → Same x y us vs [] []
@@ -188,7 +190,7 @@ command_fit : {v : ℕ} (c : Command) → IsReadableItem v (items.Command c) →
 command_fit {v} c h =
     let a = asked c in let first = heading a.cert (word_of a.form) a.place in
     let n = length-append first (operands c) in let few = h.few in
-    (h.formed.1, spelled_right forms_built first (operands c) h.spelled, omega (arith, n, few))
+    (h.formed.1, spelled_right first (operands c) h.spelled, omega (arith, n, few))
 
 -- the words of two commands of which both have a certificate, or neither has
 one_asked : {v : ℕ} (role : Role) (c d : Command) (cert : Bool) (ts : List Placed) (us vs : List Wanted) → IsReadableItem v (items.Command c) → IsReadableItem v (items.Command d) → begins_item us
@@ -225,7 +227,7 @@ not_block c t ts ws f e =
     clash b.first t.text (codes "algebra") g.1 m e
 
 block_fit : {v : ℕ} (b : Block) → IsReadableItem v (items.Block b) → IsReadableBlock v b
-block_fit {v} b h = let few = h.few in readable v forms_built b h.formed h.spelled.1 (omega (arith, few))
+block_fit {v} b h = let few = h.few in readable v b h.formed h.spelled.1 (omega (arith, few))
 
 one_item : {v : ℕ} (i j : Item) (ts : List Placed) (us vs : List Wanted) → IsReadableItem v i → IsReadableItem v j → begins_item us → begins_item vs → Front ts (item i ++ us) []
     → Front ts (item j ++ vs) [] → Same i j us vs [] []
@@ -297,5 +299,5 @@ one_opened s t ts us vs h k (inr e) (inl d) f g = line ts (subst (λ z. Front ts
 one_opened s t ts us vs h k (inr e) (inr d) f g =
     one_written s t ts h k (e.0 ∙ sym d.0) (subst (λ z. Front ts (z ++ written s) []) e.1 f) (subst (λ z. Front ts (z ++ written t) []) d.1 g)
 
-pub one_script : (bytes : List ℕ) (s t : Script) → length bytes ≤ 16777216 → IsScript forms_built bytes s → IsScript forms_built bytes t → s ≡ t
+pub one_script : (bytes : List ℕ) (s t : Script) → length bytes ≤ 16777216 → IsScript bytes s → IsScript bytes t → s ≡ t
 one_script bytes s t few h k = one_opened s t (tokens_of bytes) h.front k.front (script_readable bytes s few h) (script_readable bytes t few k) h.opens k.opens h.spells k.spells

@@ -91,4 +91,55 @@ command_sync =
     let vectors_sync : IsSync (as_row (lists.the_field items.the_row)) = search (list_shared.the_sync, sendable, as_row_sync, crosses, items_shared.the_sync) in
     let identities_sync : IsSync (as_row (lists.the_field identity.the_row)) = search (list_shared.the_sync, sendable, as_row_sync, crosses, identity_shared.the_sync) in
     let bytes_sync : IsSync (as_row (lists.the_field u8)) = search (list_shared.the_sync, sendable, as_row_sync, crosses) in
-    variants_sync command.enum (three provable_sync mode_sync flag_sync, (three word_sync number_sync mode_sync, (two word_sync items_sync, (one word_sync, (three word_sync written_sync items_sync, (two word_sync vectors_sync, (one word_sync, (one word_sync, (one word_sync, (three word_sync number_sync identities_sync, (four word_sync number_sync clone_sync points_sync, (four word_sync part_sync part_sync part_sync, (three word_sync part_sync part_sync, (two word_sync series_sync, (three word_sync written_sync written_sync, (four word_sync word_sync items_sync items_sync, (two word_sync bytes_sync, (three place_sync word_sync making_sync, tt))))))))))))))))))
+    variants_sync command.enum (
+      three provable_sync mode_sync flag_sync,
+      (
+        three word_sync number_sync mode_sync,
+        (
+          two word_sync items_sync,
+          (
+            one word_sync,
+            (
+              three word_sync written_sync items_sync,
+              (
+                two word_sync vectors_sync,
+                (
+                  one word_sync,
+                  (
+                    one word_sync,
+                    (
+                      one word_sync,
+                      (
+                        three word_sync number_sync identities_sync,
+                        (
+                          four word_sync number_sync clone_sync points_sync,
+                          (
+                            four word_sync part_sync part_sync part_sync,
+                            (
+                              three word_sync part_sync part_sync,
+                              (
+                                two word_sync series_sync,
+                                (
+                                  three word_sync written_sync written_sync,
+                                  (
+                                    four word_sync word_sync items_sync items_sync,
+                                    (
+                                      two word_sync bytes_sync,
+                                      (three place_sync word_sync making_sync, tt),
+                                    ),
+                                  ),
+                                ),
+                              ),
+                            ),
+                          ),
+                        ),
+                      ),
+                    ),
+                  ),
+                ),
+              ),
+            ),
+          ),
+        ),
+      ),
+    )

@@ -1,12 +1,13 @@
 -- What holds of every row of the table, and of the commands that are made by it. A further form is a further line here.
 use Rattle.std.proofs.Common.{◌≡◌, ℕ, Bool, true, false, ◌&&◌, ◌||◌, not, if◌then◌else◌, List, [], ◌∷◌, map, Option, Some, None, refl, sym, ap, ◌∙◌, subst, codes}
 use Rattle.std.specs.List.{list_all}
-use Rattle.std.proofs.lemmas.Bool.{false≢true, and_parts, not-true}
+use Rattle.std.proofs.lemmas.Bool.{false≢true, and_parts}
 use Rattle.ua_text.specs.declared.symbols.Part.{Part}
 use Rattle.ua_text.specs.declared.symbols.Part.TheVariants as parts
 use Rattle.ua_text.specs.declared.symbols.Symbol.TheVariants.{Items}
 use Rattle.ua_text.specs.declared.symbols.Table.TheVariants.{Provables}
 use Rattle.ua_text.specs.declared.tokens.Place.{Place}
+use Rattle.ua_table.specs.Names.{is_name}
 use Rattle.ua_text.specs.Bytes.{is_number}
 use Rattle.ua_text.specs.Pieces.{Placed}
 use Rattle.ua_text.specs.Signs.{IsAt}
@@ -26,10 +27,10 @@ use Rattle.ua_script.specs.declared.script.Command.TheVariants as commands
 use Rattle.ua_script.specs.declared.forms.CommandForm.{CommandForm}
 use Rattle.ua_script.specs.declared.forms.CommandForm.TheVariants as forms
 use Rattle.ua_script.specs.Operands.{Values}
-use Rattle.ua_script.specs.Forms.{form_row, word_of, parts_of, all_forms, question_forms, Asked, question, asked, made, certified}
+use Rattle.ua_script.specs.Forms.{form_row, word_of, parts_of, all_forms, question, asked, made, certified}
 use Rattle.ua_script.specs.inner.Forms.{found_form, finished}
 use Rattle.ua_script.specs.Grammar.{HasMode, MayAsk}
-use Rattle.ua_script.specs.Tables.{script_forms, without_modes, question_row, commands as command_rows, provables as question_rows}
+use Rattle.ua_script.specs.Tables.{script_forms, without_modes, commands as command_rows, provables as question_rows}
 use Rattle.ua_script.specs.inner.Reading.{IsKept, all_end}
 use Rattle.ua_script.proofs.Parts.{all_stop, all_ok, all_simple}
 
@@ -243,6 +244,9 @@ begins_other text = same text (codes "[") || (same text (codes "least") || (same
 pub no_other : (f : CommandForm) → not (begins_other (word_of f)) ≡ true
 no_other f = each_form (λ f. not (begins_other (word_of f))) refl f
 
+pub named : (f : CommandForm) → is_name (word_of f) ≡ true
+named f = each_form (λ f. is_name (word_of f)) refl f
+
 pub no_cert : (f : CommandForm) → not (same (word_of f) (codes "cert")) ≡ true
 no_cert f = each_form (λ f. not (same (word_of f) (codes "cert"))) refl f
 
@@ -252,29 +256,31 @@ end f = each_form (λ f. all_end (parts_of f)) refl f
 pub ok : (f : CommandForm) → all_ok (parts_of f) ≡ true
 ok f = each_form (λ f. all_ok (parts_of f)) refl f
 
-pub stop : (built : List (List ℕ)) (f : CommandForm) → all_stop (script_forms built) (parts_of f) (Items ∷ []) ≡ true
-stop built f = each_form (λ f. all_stop (script_forms built) (parts_of f) (Items ∷ [])) refl f
+pub stop : (f : CommandForm) → all_stop script_forms (parts_of f) (Items ∷ []) ≡ true
+stop f = each_form (λ f. all_stop script_forms (parts_of f) (Items ∷ [])) refl f
 
 -- behind `cert`
-abbrev question_stops : List (List ℕ) → CommandForm → Bool
-question_stops built f = not (is_question f) || (all_simple (without_modes (parts_of f)) && all_stop (script_forms built) (without_modes (parts_of f)) (Items ∷ []))
+abbrev question_stops : CommandForm → Bool
+question_stops f = not (is_question f) || (all_simple (without_modes (parts_of f)) && all_stop script_forms (without_modes (parts_of f)) (Items ∷ []))
 
 or_right_of : (a b : Bool) → a ≡ true → (not a || b) ≡ true → b ≡ true
 or_right_of true b e h = h
 or_right_of false b e h = absurd (false≢true e)
 
-pub question_stop : (built : List (List ℕ)) (f : CommandForm) → is_question f ≡ true → (all_simple (without_modes (parts_of f)) && all_stop (script_forms built) (without_modes (parts_of f)) (Items ∷ [])) ≡ true
-question_stop built f q = or_right_of (is_question f) (all_simple (without_modes (parts_of f)) && all_stop (script_forms built) (without_modes (parts_of f)) (Items ∷ [])) q (each_form (question_stops built) refl f)
+pub question_stop : (f : CommandForm) → is_question f ≡ true → (all_simple (without_modes (parts_of f)) && all_stop script_forms (without_modes (parts_of f)) (Items ∷ [])) ≡ true
+question_stop f q = or_right_of (is_question f) (all_simple (without_modes (parts_of f)) && all_stop script_forms (without_modes (parts_of f)) (Items ∷ [])) q (each_form question_stops refl f)
 
 pub question_simple : (f : CommandForm) → is_question f ≡ true → all_simple (without_modes (parts_of f)) ≡ true
-question_simple f q = (and_parts (all_simple (without_modes (parts_of f))) (all_stop (script_forms []) (without_modes (parts_of f)) (Items ∷ [])) (question_stop [] f q)).0
+question_simple f q = (and_parts (all_simple (without_modes (parts_of f))) (all_stop script_forms (without_modes (parts_of f)) (Items ∷ [])) (question_stop f q)).0
 
 abbrev pub any_form : CommandForm → Bool
 any_form f = true
 
 -- A word looks up the row of its form.
 
-looked_up : (t : List ℕ) (f g : CommandForm) (fs : List CommandForm) (b : Bool) → (found_form t fs ≡ Some f → lookup t (map form_row fs) ≡ Some (parts_of f)) → (if b then Some g else found_form t fs) ≡ Some f → either b (Some (parts_of g)) (lookup t (map form_row fs)) ≡ Some (parts_of f)
+looked_up : (t : List ℕ) (f g : CommandForm) (fs : List CommandForm) (b : Bool)
+    → (found_form t fs ≡ Some f → lookup t (map form_row fs) ≡ Some (parts_of f)) → (if b then Some g else found_form t fs) ≡ Some f
+    → either b (Some (parts_of g)) (lookup t (map form_row fs)) ≡ Some (parts_of f)
 looked_up t f g fs true r e = let q : g ≡ f = cc in ap (λ z. Some (parts_of z)) q
 looked_up t f g fs false r e = r e
 
@@ -289,7 +295,8 @@ past false true x y z e f = absurd (false≢true f)
 
 pub found_row : (f : CommandForm) → lookup (word_of f) command_rows ≡ Some (parts_of f)
 found_row f =
-    past (same (word_of f) (codes "algebra")) (same (word_of f) (codes "cert")) (Some (parts.Body ∷ [])) (Some (parts.Pick Provables ∷ [])) (lookup (word_of f) (map form_row all_forms)) (each_form (λ f. not (same (word_of f) (codes "algebra"))) refl f) (no_cert f)
+    past (same (word_of f) (codes "algebra")) (same (word_of f) (codes "cert")) (Some (parts.Body ∷ [])) (Some (parts.Pick Provables ∷ []))
+    (lookup (word_of f) (map form_row all_forms)) (each_form (λ f. not (same (word_of f) (codes "algebra"))) refl f) (no_cert f)
     ∙ look_up (word_of f) f all_forms (found f)
 
 pub found_question : (f : CommandForm) → is_question f ≡ true → lookup (word_of f) question_rows ≡ Some (without_modes (parts_of f))

@@ -4,7 +4,6 @@ use Rattle.ua_text.specs.declared.symbols.Part.{Part}
 use Rattle.ua_text.specs.declared.symbols.Part.TheVariants as parts
 use Rattle.ua_text.specs.declared.symbols.Table.TheVariants.{Constructions, Points}
 use Rattle.ua_text.specs.declared.tokens.Place.{Place}
-use Rattle.ua_text.specs.Words.{same}
 use Rattle.ua_text.specs.Machine.{Row}
 use Rattle.ua_operands.specs.declared.written.Mode.{Mode}
 use Rattle.ua_operands.specs.declared.written.Mode.TheVariants.{Plain}
@@ -53,7 +52,10 @@ parts_of f = (form_row f).parts
 
 -- the forms
 abbrev pub all_forms : List CommandForm
-all_forms = forms.Close ∷ forms.Member ∷ forms.Cond ∷ forms.Nu ∷ forms.Jonsson ∷ forms.Hm ∷ forms.Free ∷ forms.Sub ∷ forms.Ones ∷ forms.Eval ∷ forms.Cg ∷ forms.Con ∷ forms.Types ∷ forms.Day ∷ forms.Condition ∷ forms.Clone ∷ forms.Central ∷ forms.Comm ∷ forms.Series ∷ forms.Holds ∷ forms.Hom ∷ forms.Make ∷ forms.Check ∷ []
+all_forms =
+    forms.Close ∷ forms.Member ∷ forms.Cond ∷ forms.Nu ∷ forms.Jonsson ∷ forms.Hm ∷ forms.Free ∷ forms.Sub ∷ forms.Ones ∷ forms.Eval ∷ forms.Cg
+    ∷ forms.Con ∷ forms.Types ∷ forms.Day ∷ forms.Condition ∷ forms.Clone ∷ forms.Central ∷ forms.Comm ∷ forms.Series ∷ forms.Holds ∷ forms.Hom
+    ∷ forms.Make ∷ forms.Check ∷ []
 
 -- those of questions, before which `cert` may stand
 abbrev pub question_forms : List CommandForm

@@ -1,62 +1,44 @@
-//! Readers of commands. What is written for a command is read as that command, with its places, unless
-//! memory runs out.
+//! Commands, read and printed. What is written for a command is read as that command, with its places, unless memory runs
+//! out. Both tables have a row for each form, with what stands for its parts.
 
-ghost use Rattle.std.specs.Prelude.{◌≡◌, ◌≤◌, ◌<◌, ◌∷◌, ◌++◌, ℕ, List, [], length, false, IfOk};
-ghost use Rattle.ua_text.specs.declared.symbols.Role.{Role};
+ghost use Rattle.std.specs.Prelude.{◌≡◌, ◌≤◌, ◌<◌, ◌++◌, ℕ, List, [], Option, false, length, IfOk, OnOk};
 ghost use Rattle.ua_text.specs.declared.tokens.Place.{Place};
-ghost use Rattle.ua_text.specs.Signs.{Wanted, sign, Front};
+ghost use Rattle.ua_text.specs.Signs.{Wanted, Front};
 ghost use Rattle.ua_text.specs.Tokens.{tokens_left, source_of};
 ghost use Rattle.ua_text.specs.Reading.{Gives};
+ghost use Rattle.ua_text.specs.Printing.{Shows};
 ghost use Rattle.ua_operands.specs.Reading.{begins_item};
 ghost use Rattle.ua_script.specs.declared.script.Command.{Command};
 ghost use Rattle.ua_script.specs.declared.script.Item.{Item};
 ghost use Rattle.ua_script.specs.declared.forms.CommandForm.{CommandForm};
-ghost use Rattle.ua_script.specs.Operands.{Values};
-ghost use Rattle.ua_script.specs.Forms.{parts_of, made, certified};
-ghost use Rattle.ua_script.specs.inner.Families.{IsQuestion, IsOfCongruences, IsOfConditions, IsOfAlgebras};
-ghost use Rattle.ua_script.specs.Grammar.{command};
+ghost use Rattle.ua_script.specs.Operands.{Values, values_text};
+ghost use Rattle.ua_script.specs.Forms.{word_of, parts_of, question, asked, certified};
+ghost use Rattle.ua_script.specs.Grammar.{heading, command};
 ghost use Rattle.ua_script.specs.Reading.{IsReadableItem};
-ghost use Rattle.ua_script.specs.inner.Reading.{Standing, Beginning, IsMade};
+ghost use Rattle.ua_script.specs.inner.Reading.{Beginning, IsMade, IsCommandRead};
 
-use crate::constructions::construction;
-use crate::forms::{CommandForm, found_form};
+use crate::forms::{CommandForm, form, found_form};
 use crate::script::{Command, Provable};
-use std::alloc::Global;
+use crate::values::{Equals, Operands, Printed};
+use std::alloc::{AllocError, Global};
 use ua_operands::Mode;
-use ua_operands::identities::identities;
-use ua_operands::points::{clone_word, points};
-use ua_operands::readers::{
-    amount, condition, mode, part, place_of, series, vector, vectors, word,
-};
-use ua_table::Listed;
-use ua_table::limits::NESTING;
-use ua_term::term;
-use ua_text::{Miss, Place, Tokens, exact, is_next, next};
+use ua_operands::readers::place_of;
+use ua_text::{Miss, Place, Printer, Role, Tokens, exact, is_next, next};
 
-/// The text of a certificate.
-fn json(alloc: Global, tokens: &mut Tokens<'_>) -> Result<Listed<u8>, Miss>
-    ensures only { (json : List ℕ) (ws : List Wanted) → Front (tokens_left tokens.old) (sign Role.Json json ∷ ws) [] → Gives result (λ x. (x ≡ json) × Front (tokens_left tokens.new) ws []) }
-    ensures progress { IfOk result (λ x. length (tokens_left tokens.new) < length (tokens_left tokens.old)) }
-    ensures source { source_of tokens.new ≡ source_of tokens.old }
-{
-    let token = next(tokens)?;
-    let json = Vec::from_slice(alloc, token.text)?;
-    Ok(Listed::new(json))
-}
-
-/// The question of a form behind its word.
-fn question(alloc: Global, form: CommandForm, tokens: &mut Tokens<'_>) -> Result<Command, Miss>
-    requires { IsQuestion form }
-    ensures only { (p : Place) (x : Values (parts_of form)) (ws : List Wanted) → Standing (parts_of form) x (tokens_left tokens.old) ws → Gives result (λ c. (c ≡ made form p x) × Front (tokens_left tokens.new) ws []) }
+/// The command of a form behind its word, which stands at this place.
+fn operands(
+    alloc: Global,
+    form: CommandForm,
+    place: Place,
+    tokens: &mut Tokens<'_>,
+) -> Result<Command, Miss>
+    ensures only { IsCommandRead form place (tokens_left tokens.old) (tokens_left tokens.new) result }
     ensures progress { IfOk result (λ x. length (tokens_left tokens.new) ≤ length (tokens_left tokens.old)) }
     ensures source { source_of tokens.new ≡ source_of tokens.old }
 {
     match form {
         CommandForm::Close => {
-            let algebra = word(alloc, tokens)?;
-            let width = amount(tokens)?;
-            let gens = vectors(alloc, tokens)?;
-            let mode = mode(tokens)?;
+            let (algebra, (width, (gens, (mode, ())))) = Operands::read_all(alloc, tokens)?;
             let what = Provable::Close {
                 algebra,
                 width,
@@ -65,11 +47,9 @@ fn question(alloc: Global, form: CommandForm, tokens: &mut Tokens<'_>) -> Result
             Ok(ask(what, mode))
         }
         CommandForm::Member => {
-            let algebra = word(alloc, tokens)?;
-            let width = amount(tokens)?;
-            let gens = vectors(alloc, tokens)?;
-            exact(tokens, b"=")?;
-            let target = vector(alloc, tokens)?;
+            let (algebra, (width, (gens, (Equals, (target, ()))))) = Operands::read_all(
+                alloc, tokens,
+            )?;
             let what = Provable::Member {
                 algebra,
                 width,
@@ -79,61 +59,76 @@ fn question(alloc: Global, form: CommandForm, tokens: &mut Tokens<'_>) -> Result
             Ok(ask(what, Mode::Plain))
         }
         CommandForm::Cond => {
-            let algebra = word(alloc, tokens)?;
-            let name = condition(tokens)?;
-            let what = Provable::Cond { algebra, name };
-            Ok(ask(what, Mode::Plain))
+            let (algebra, (name, ())) = Operands::read_all(alloc, tokens)?;
+            Ok(ask(Provable::Cond { algebra, name }, Mode::Plain))
         }
         CommandForm::Nu => {
-            let algebra = word(alloc, tokens)?;
-            let k = amount(tokens)?;
-            let what = Provable::Nu { algebra, k };
-            Ok(ask(what, Mode::Plain))
+            let (algebra, (k, ())) = Operands::read_all(alloc, tokens)?;
+            Ok(ask(Provable::Nu { algebra, k }, Mode::Plain))
         }
         CommandForm::Jonsson => {
-            let algebra = word(alloc, tokens)?;
-            let what = Provable::Jonsson { algebra };
-            Ok(ask(what, Mode::Plain))
+            let (algebra, ()) = Operands::read_all(alloc, tokens)?;
+            Ok(ask(Provable::Jonsson { algebra }, Mode::Plain))
         }
         CommandForm::Hm => {
-            let algebra = word(alloc, tokens)?;
-            let what = Provable::Hm { algebra };
-            Ok(ask(what, Mode::Plain))
+            let (algebra, ()) = Operands::read_all(alloc, tokens)?;
+            Ok(ask(Provable::Hm { algebra }, Mode::Plain))
         }
-        _ => unreachable!(),
-    }
-}
-
-/// The command on congruences of a form behind its word.
-fn on_congruences(
-    alloc: Global,
-    form: CommandForm,
-    tokens: &mut Tokens<'_>,
-) -> Result<Command, Miss>
-    requires { IsOfCongruences form }
-    ensures only { (p : Place) (x : Values (parts_of form)) (ws : List Wanted) → Standing (parts_of form) x (tokens_left tokens.old) ws → Gives result (λ c. (c ≡ made form p x) × Front (tokens_left tokens.new) ws []) }
-    ensures progress { IfOk result (λ x. length (tokens_left tokens.new) ≤ length (tokens_left tokens.old)) }
-    ensures source { source_of tokens.new ≡ source_of tokens.old }
-{
-    match form {
+        CommandForm::Free => {
+            let (algebra, (k, (mode, ()))) = Operands::read_all(alloc, tokens)?;
+            Ok(Command::Free { algebra, k, mode })
+        }
+        CommandForm::Sub => {
+            let (algebra, (set, ())) = Operands::read_all(alloc, tokens)?;
+            Ok(Command::Sub { algebra, set })
+        }
+        CommandForm::Ones => {
+            let (algebra, ()) = Operands::read_all(alloc, tokens)?;
+            Ok(Command::Ones { algebra })
+        }
+        CommandForm::Eval => {
+            let (algebra, (term, (args, ()))) = Operands::read_all(alloc, tokens)?;
+            Ok(Command::Eval {
+                algebra,
+                term,
+                args,
+            })
+        }
         CommandForm::Cg => {
-            let algebra = word(alloc, tokens)?;
-            let pairs = vectors(alloc, tokens)?;
+            let (algebra, (pairs, ())) = Operands::read_all(alloc, tokens)?;
             Ok(Command::Cg { algebra, pairs })
         }
         CommandForm::Con => {
-            let algebra = word(alloc, tokens)?;
+            let (algebra, ()) = Operands::read_all(alloc, tokens)?;
             Ok(Command::Con { algebra })
         }
         CommandForm::Types => {
-            let algebra = word(alloc, tokens)?;
+            let (algebra, ()) = Operands::read_all(alloc, tokens)?;
             Ok(Command::Types { algebra })
         }
+        CommandForm::Day => {
+            let (algebra, ()) = Operands::read_all(alloc, tokens)?;
+            Ok(Command::Day { algebra })
+        }
+        CommandForm::Condition => {
+            let (algebra, (arity, (identities, ()))) = Operands::read_all(alloc, tokens)?;
+            Ok(Command::Condition {
+                algebra,
+                arity,
+                identities,
+            })
+        }
+        CommandForm::Clone => {
+            let (algebra, (arity, (kind, (points, ())))) = Operands::read_all(alloc, tokens)?;
+            Ok(Command::Clone {
+                algebra,
+                arity,
+                kind,
+                points,
+            })
+        }
         CommandForm::Central => {
-            let algebra = word(alloc, tokens)?;
-            let alpha = part(alloc, tokens)?;
-            let beta = part(alloc, tokens)?;
-            let delta = part(alloc, tokens)?;
+            let (algebra, (alpha, (beta, (delta, ())))) = Operands::read_all(alloc, tokens)?;
             Ok(Command::Central {
                 algebra,
                 alpha,
@@ -142,9 +137,7 @@ fn on_congruences(
             })
         }
         CommandForm::Comm => {
-            let algebra = word(alloc, tokens)?;
-            let alpha = part(alloc, tokens)?;
-            let beta = part(alloc, tokens)?;
+            let (algebra, (alpha, (beta, ()))) = Operands::read_all(alloc, tokens)?;
             Ok(Command::Comm {
                 algebra,
                 alpha,
@@ -152,101 +145,19 @@ fn on_congruences(
             })
         }
         CommandForm::Series => {
-            let algebra = word(alloc, tokens)?;
-            let kind = series(tokens)?;
+            let (algebra, (kind, ())) = Operands::read_all(alloc, tokens)?;
             Ok(Command::Series { algebra, kind })
         }
-        _ => unreachable!(),
-    }
-}
-
-/// The command on identities, conditions, chains or clones of terms of a form behind its word.
-fn on_conditions(alloc: Global, form: CommandForm, tokens: &mut Tokens<'_>) -> Result<Command, Miss>
-    requires { IsOfConditions form }
-    ensures only { (p : Place) (x : Values (parts_of form)) (ws : List Wanted) → Standing (parts_of form) x (tokens_left tokens.old) ws → Gives result (λ c. (c ≡ made form p x) × Front (tokens_left tokens.new) ws []) }
-    ensures progress { IfOk result (λ x. length (tokens_left tokens.new) ≤ length (tokens_left tokens.old)) }
-    ensures source { source_of tokens.new ≡ source_of tokens.old }
-{
-    match form {
         CommandForm::Holds => {
-            let algebra = word(alloc, tokens)?;
-            let left = term(alloc, tokens, NESTING as u8)?;
-            exact(tokens, b"=")?;
-            let right = term(alloc, tokens, NESTING as u8)?;
+            let (algebra, (left, (Equals, (right, ())))) = Operands::read_all(alloc, tokens)?;
             Ok(Command::Holds {
                 algebra,
                 left,
                 right,
             })
         }
-        CommandForm::Day => {
-            let algebra = word(alloc, tokens)?;
-            Ok(Command::Day { algebra })
-        }
-        CommandForm::Condition => {
-            let algebra = word(alloc, tokens)?;
-            let arity = amount(tokens)?;
-            let identities = identities(alloc, tokens)?;
-            Ok(Command::Condition {
-                algebra,
-                arity,
-                identities,
-            })
-        }
-        CommandForm::Clone => {
-            let algebra = word(alloc, tokens)?;
-            let arity = amount(tokens)?;
-            let kind = clone_word(tokens)?;
-            let points = points(alloc, tokens)?;
-            Ok(Command::Clone {
-                algebra,
-                arity,
-                kind,
-                points,
-            })
-        }
-        _ => unreachable!(),
-    }
-}
-
-/// The command on algebras, terms and maps of a form behind its word.
-fn on_algebras(alloc: Global, form: CommandForm, tokens: &mut Tokens<'_>) -> Result<Command, Miss>
-    requires { IsOfAlgebras form }
-    ensures only { (p : Place) (x : Values (parts_of form)) (ws : List Wanted) → Standing (parts_of form) x (tokens_left tokens.old) ws → Gives result (λ c. (c ≡ made form p x) × Front (tokens_left tokens.new) ws []) }
-    ensures progress { IfOk result (λ x. length (tokens_left tokens.new) ≤ length (tokens_left tokens.old)) }
-    ensures source { source_of tokens.new ≡ source_of tokens.old }
-{
-    match form {
-        CommandForm::Free => {
-            let algebra = word(alloc, tokens)?;
-            let k = amount(tokens)?;
-            let mode = mode(tokens)?;
-            Ok(Command::Free { algebra, k, mode })
-        }
-        CommandForm::Sub => {
-            let algebra = word(alloc, tokens)?;
-            let set = vector(alloc, tokens)?;
-            Ok(Command::Sub { algebra, set })
-        }
-        CommandForm::Ones => {
-            let algebra = word(alloc, tokens)?;
-            Ok(Command::Ones { algebra })
-        }
-        CommandForm::Eval => {
-            let algebra = word(alloc, tokens)?;
-            let term = term(alloc, tokens, NESTING as u8)?;
-            let args = vector(alloc, tokens)?;
-            Ok(Command::Eval {
-                algebra,
-                term,
-                args,
-            })
-        }
         CommandForm::Hom => {
-            let first = word(alloc, tokens)?;
-            let second = word(alloc, tokens)?;
-            let gens = vector(alloc, tokens)?;
-            let images = vector(alloc, tokens)?;
+            let (first, (second, (gens, (images, ())))) = Operands::read_all(alloc, tokens)?;
             Ok(Command::Hom {
                 first,
                 second,
@@ -254,59 +165,14 @@ fn on_algebras(alloc: Global, form: CommandForm, tokens: &mut Tokens<'_>) -> Res
                 images,
             })
         }
+        CommandForm::Make => {
+            let (name, (what, ())) = Operands::read_all(alloc, tokens)?;
+            Ok(Command::Make { place, name, what })
+        }
         CommandForm::Check => {
-            let algebra = word(alloc, tokens)?;
-            let json = json(alloc, tokens)?;
+            let (algebra, (json, ())) = Operands::read_all(alloc, tokens)?;
             Ok(Command::Check { algebra, json })
         }
-        _ => unreachable!(),
-    }
-}
-
-/// A `make` behind its word, which stands at this place.
-fn make(alloc: Global, place: Place, tokens: &mut Tokens<'_>) -> Result<Command, Miss>
-    ensures only { (x : Values (parts_of CommandForm.Make)) (ws : List Wanted) → Standing (parts_of CommandForm.Make) x (tokens_left tokens.old) ws → Gives result (λ c. (c ≡ made CommandForm.Make place x) × Front (tokens_left tokens.new) ws []) }
-    ensures progress { IfOk result (λ x. length (tokens_left tokens.new) ≤ length (tokens_left tokens.old)) }
-    ensures source { source_of tokens.new ≡ source_of tokens.old }
-{
-    let name = word(alloc, tokens)?;
-    let what = construction(alloc, tokens)?;
-    Ok(Command::Make { place, name, what })
-}
-
-/// The command of a form behind its word, which stands at this place.
-fn operands(
-    alloc: Global,
-    form: CommandForm,
-    place: Place,
-    tokens: &mut Tokens<'_>,
-) -> Result<Command, Miss>
-    ensures only { (x : Values (parts_of form)) (ws : List Wanted) → Standing (parts_of form) x (tokens_left tokens.old) ws → Gives result (λ c. (c ≡ made form place x) × Front (tokens_left tokens.new) ws []) }
-    ensures progress { IfOk result (λ x. length (tokens_left tokens.new) ≤ length (tokens_left tokens.old)) }
-    ensures source { source_of tokens.new ≡ source_of tokens.old }
-{
-    match form {
-        CommandForm::Close
-        | CommandForm::Member
-        | CommandForm::Cond
-        | CommandForm::Nu
-        | CommandForm::Jonsson
-        | CommandForm::Hm => question(alloc, form, tokens),
-        CommandForm::Cg
-        | CommandForm::Con
-        | CommandForm::Types
-        | CommandForm::Central
-        | CommandForm::Comm
-        | CommandForm::Series => on_congruences(alloc, form, tokens),
-        CommandForm::Holds | CommandForm::Day | CommandForm::Condition | CommandForm::Clone =>
-            on_conditions(alloc, form, tokens),
-        CommandForm::Free
-        | CommandForm::Sub
-        | CommandForm::Ones
-        | CommandForm::Eval
-        | CommandForm::Hom
-        | CommandForm::Check => on_algebras(alloc, form, tokens),
-        CommandForm::Make => make(alloc, place, tokens),
     }
 }
 
@@ -359,4 +225,113 @@ pub fn command(alloc: Global, tokens: &mut Tokens<'_>) -> Result<Command, Miss>
         return Ok(certified(plain(alloc, tokens)?));
     }
     plain(alloc, tokens)
+}
+
+/// Prints the operands of a question.
+fn put_question(printer: &mut Printer, what: &Provable, mode: &Mode) -> Result<(), AllocError>
+    ensures { OnOk result (Shows printer.old printer.new (values_text (parts_of (question what.now mode.now).0) (question what.now mode.now).1)) }
+{
+    match what {
+        Provable::Close {
+            algebra,
+            width,
+            gens,
+        } => (algebra, (width, (gens, (mode, ())))).put_all(printer),
+        Provable::Member {
+            algebra,
+            width,
+            gens,
+            target,
+        } => (algebra, (width, (gens, (&Equals, (target, ()))))).put_all(printer),
+        Provable::Cond { algebra, name } => (algebra, (name, ())).put_all(printer),
+        Provable::Nu { algebra, k } => (algebra, (k, ())).put_all(printer),
+        Provable::Jonsson { algebra } => (algebra, ()).put_all(printer),
+        Provable::Hm { algebra } => (algebra, ()).put_all(printer),
+    }
+}
+
+/// Prints the operands of a command.
+fn put_operands(printer: &mut Printer, given: &Command) -> Result<(), AllocError>
+    ensures { OnOk result (Shows printer.old printer.new (values_text (parts_of (asked given.now).form) (asked given.now).values)) }
+{
+    match given {
+        Command::Ask { what, mode, .. } => put_question(printer, what, mode),
+        Command::Free { algebra, k, mode } => (algebra, (k, (mode, ()))).put_all(printer),
+        Command::Sub { algebra, set } => (algebra, (set, ())).put_all(printer),
+        Command::Eval {
+            algebra,
+            term,
+            args,
+        } => (algebra, (term, (args, ()))).put_all(printer),
+        Command::Cg { algebra, pairs } => (algebra, (pairs, ())).put_all(printer),
+        Command::Ones { algebra } => (algebra, ()).put_all(printer),
+        Command::Con { algebra } => (algebra, ()).put_all(printer),
+        Command::Types { algebra } => (algebra, ()).put_all(printer),
+        Command::Day { algebra } => (algebra, ()).put_all(printer),
+        Command::Condition {
+            algebra,
+            arity,
+            identities,
+        } => (algebra, (arity, (identities, ()))).put_all(printer),
+        Command::Clone {
+            algebra,
+            arity,
+            kind,
+            points,
+        } => (algebra, (arity, (kind, (points, ())))).put_all(printer),
+        Command::Central {
+            algebra,
+            alpha,
+            beta,
+            delta,
+        } => (algebra, (alpha, (beta, (delta, ())))).put_all(printer),
+        Command::Comm {
+            algebra,
+            alpha,
+            beta,
+        } => (algebra, (alpha, (beta, ()))).put_all(printer),
+        Command::Series { algebra, kind } => (algebra, (kind, ())).put_all(printer),
+        Command::Holds {
+            algebra,
+            left,
+            right,
+        } => (algebra, (left, (&Equals, (right, ())))).put_all(printer),
+        Command::Hom {
+            first,
+            second,
+            gens,
+            images,
+        } => (first, (second, (gens, (images, ())))).put_all(printer),
+        Command::Make { name, what, .. } => (name, (what, ())).put_all(printer),
+        Command::Check { algebra, json } => (algebra, (json, ())).put_all(printer),
+    }
+}
+
+/// Prints the word of a form, behind `cert` where a certificate is asked.
+fn put_heading(printer: &mut Printer, cert: bool, form: CommandForm) -> Result<(), AllocError>
+    ensures { (place : Option Place) → OnOk result (Shows printer.old printer.new (heading cert (word_of form) place)) }
+{
+    if cert {
+        printer.put(Role::Begins, b"cert")?;
+        return printer.put(Role::Form, form.row().word);
+    }
+    printer.put(Role::Begins, form.row().word)
+}
+
+/// Whether a certificate is asked.
+fn is_certified(given: &Command) -> bool
+    ensures { result ≡ (asked given.now).cert }
+{
+    match given {
+        Command::Ask { cert, .. } => *cert,
+        _ => false,
+    }
+}
+
+/// Prints a command.
+pub fn put_command(printer: &mut Printer, given: &Command) -> Result<(), AllocError>
+    ensures { OnOk result (Shows printer.old printer.new (command given.now)) }
+{
+    put_heading(printer, is_certified(given), form(given))?;
+    put_operands(printer, given)
 }

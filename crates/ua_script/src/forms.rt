@@ -5,7 +5,6 @@ ghost use Rattle.ua_text.specs.Grammars.{row_of, forms_of};
 ghost use Rattle.ua_operands.specs.declared.written.Mode.{Mode};
 ghost use Rattle.ua_script.specs.Forms.{form_row, all_forms, question, asked};
 ghost use Rattle.ua_script.specs.inner.Forms.{found_form};
-ghost use Rattle.ua_script.specs.Grammar.{forms_built};
 ghost use Rattle.ua_script.specs.Tables.{script_forms};
 
 use crate::script::{Command, Provable};
@@ -241,44 +240,13 @@ const CHOICES: &[&[&[u8]]] = &[
     &[b"term", b"polynomial"],
 ];
 
-/// The words of the forms that are built.
-const BUILT: &[&[u8]] = &[
-    b"algebra",
-    b"cert",
-    b"least",
-    b"count",
-    b"close",
-    b"member",
-    b"cond",
-    b"nu",
-    b"jonsson",
-    b"hm",
-    b"free",
-    b"sub",
-    b"ones",
-    b"eval",
-    b"cg",
-    b"con",
-    b"types",
-    b"day",
-    b"condition",
-    b"clone",
-    b"central",
-    b"comm",
-    b"series",
-    b"holds",
-    b"hom",
-    b"make",
-    b"check",
-];
-
 /// The grammar of scripts.
 pub fn script_grammar() -> Grammar
-    ensures { forms_of result ≡ script_forms forms_built }
+    ensures { forms_of result ≡ script_forms }
 {
     Grammar {
         version: 1,
-        built: BUILT,
+        unbuilt: &[],
         commands: COMMANDS,
         provables: QUESTIONS,
         constructions: CONSTRUCTIONS,

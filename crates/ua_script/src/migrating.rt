@@ -8,7 +8,7 @@ use crate::script::Script;
 /// The script of version 2 with the same items. It takes no memory.
 pub fn migrate(script: Script) -> Script
     ensures same { result ≡ migrated script }
-    ensures formed { (built : List (List ℕ)) → IsWellFormed built script → IsWellFormed built result }
+    ensures formed { IsWellFormed script → IsWellFormed result }
 {
     Script {
         version: 2,

@@ -65,7 +65,8 @@ is_slice source kind n at rest e some most =
     record { some = omega arith; within = omega arith; text = ap (λ k. take k rest) (sym len) ∙ ap (take (length (take n rest))) (sym e) }
 
 -- a token, and those behind it
-one_more : (source : List ℕ) (kind : TokenKind) (n at : ℕ) (rest : List ℕ) (ts : List Placed) → drop at source ≡ rest → 0 < n → n ≤ length rest → AreSlices source (at + 1 + (n - 1)) ts → AreSlices source (at + 0) (placed source kind n at rest ∷ ts)
+one_more : (source : List ℕ) (kind : TokenKind) (n at : ℕ) (rest : List ℕ) (ts : List Placed) → drop at source ≡ rest → 0 < n → n ≤ length rest
+    → AreSlices source (at + 1 + (n - 1)) ts → AreSlices source (at + 0) (placed source kind n at rest ∷ ts)
 one_more source kind n at rest ts e some most h =
     let len : length (take n rest) ≡ n = length-take-le n rest most in
     let next : at + 1 + (n - 1) ≡ at + length (take n rest) = omega arith in

@@ -6,7 +6,7 @@ ghost use Rattle.ua_table.specs.declared.limits.TheConstants.{ARITY};
 ghost use Rattle.ua_text.specs.Machine.{passes, size_ok, number_below};
 ghost use Rattle.ua_text.specs.Versions.{size_limit, version_ok, item_ok};
 ghost use Rattle.ua_text.specs.Words.{among};
-ghost use Rattle.ua_text.specs.Languages.{first_words, mode_words};
+ghost use Rattle.ua_text.specs.Languages.{mode_words};
 ghost use Rattle.ua_text.specs.Grammars.{forms_of};
 
 use crate::grammar::{Grammar, is_among};
@@ -61,42 +61,6 @@ pub fn is_below(text: &[u8], bound: u32) -> bool
         None => false,
         Some(value) => value < bound,
     }
-}
-
-/// The words that begin a block or a command, built or not.
-const FIRST_WORDS: [&[u8]; 25] = [
-    b"algebra",
-    b"close",
-    b"member",
-    b"cond",
-    b"nu",
-    b"jonsson",
-    b"hm",
-    b"free",
-    b"sub",
-    b"ones",
-    b"eval",
-    b"cg",
-    b"con",
-    b"types",
-    b"central",
-    b"comm",
-    b"series",
-    b"holds",
-    b"hom",
-    b"check",
-    b"make",
-    b"cert",
-    b"day",
-    b"condition",
-    b"clone",
-];
-
-/// Whether a token is one of the words that begin a block or a command.
-pub fn is_first_word(text: &[u8]) -> bool
-    ensures { result ≡ among text.now first_words }
-{
-    is_among(text, &FIRST_WORDS)
 }
 
 /// Whether a token is a word that asks for another answer.

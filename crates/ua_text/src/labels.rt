@@ -29,7 +29,7 @@ impl<'a> Labels<'a> {
     ghost use Rattle.std.specs.Prelude.{◌≡◌, IfOk};
     ghost use Rattle.ua_text.specs.Labels.{place_in};
 
-    /// The places of these names, the first of equal ones.
+    /// The places of these names, the first where names are equal.
     pub fn new(alloc: Global, names: &'a [Name]) -> Result<Labels<'a>, AllocError>
         ensures { IfOk result (λ labels. labels ≡ names.now) }
     {

@@ -53,7 +53,7 @@ pub fn offers_here(grammar: &Grammar, symbol: Symbol, role: Role) -> bool
             closes,
             ..
         } => is_role(role, own) || is_role(role, closes),
-        Symbol::Modes => is_role(role, Role::Mode) && grammar.has_modes(),
+        Symbol::Modes => is_role(role, Role::Mode),
         Symbol::Pick(table) => is_role(role, role_of(table)) && grammar.opens(table),
         Symbol::Items => is_role(role, Role::Begins) && grammar.opens(Table::Commands),
         Symbol::Start => is_role(role, Role::Line),

@@ -1,12 +1,8 @@
 -- The form that has a word, and what is finished of it.
 use Rattle.std.specs.Prelude.{ℕ, Bool, true, false, List, [], ◌∷◌, Option, Some, None, if◌then◌else◌}
-use Rattle.ua_text.specs.declared.symbols.Part.TheVariants as parts
 use Rattle.ua_text.specs.Words.{same}
-use Rattle.ua_script.specs.declared.script.Provable.TheVariants as provables
 use Rattle.ua_script.specs.declared.script.Command.{Command}
-use Rattle.ua_script.specs.declared.script.Command.TheVariants as commands
 use Rattle.ua_script.specs.declared.forms.CommandForm.{CommandForm}
-use Rattle.ua_script.specs.declared.forms.CommandForm.TheVariants as forms
 use Rattle.ua_script.specs.Forms.{word_of, certified}
 
 -- the first of these forms that has the word

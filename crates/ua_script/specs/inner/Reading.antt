@@ -1,8 +1,10 @@
 -- What stands at the front of the tokens while a script is read back.
-use Rattle.std.specs.Prelude.{◌≡◌, Bool, true, ◌&&◌, List, [], ◌∷◌, ◌++◌, Option, Some, None}
+use Rattle.std.specs.Prelude.{◌≡◌, Bool, true, ◌&&◌, List, [], ◌∷◌, ◌++◌, Option, Some, None, Result}
 use Rattle.std.specs.List.{AllByRecursion}
 use Rattle.ua_table.specs.declared.limits.TheConstants.{NESTING}
 use Rattle.ua_text.specs.declared.tokens.Place.{Place}
+use Rattle.ua_text.specs.declared.readers.Miss.{Miss}
+use Rattle.ua_text.specs.Reading.{Gives}
 use Rattle.ua_text.specs.declared.symbols.Table.TheVariants.{Constructions, Points}
 use Rattle.ua_text.specs.declared.symbols.Part.{Part}
 use Rattle.ua_text.specs.declared.symbols.Part.TheVariants as parts
@@ -17,7 +19,6 @@ use Rattle.ua_script.specs.declared.script.Command.{Command}
 use Rattle.ua_script.specs.declared.forms.CommandForm.{CommandForm}
 use Rattle.ua_script.specs.Operands.{Value, Values, values_text}
 use Rattle.ua_script.specs.Forms.{word_of, parts_of, made}
-use Rattle.ua_script.specs.Grammar.{item}
 use Rattle.ua_script.specs.Reading.{ends}
 
 -- a construction whose names and numbers can be written
@@ -35,7 +36,7 @@ IsShortValue parts.Count x = IsShort x
 IsShortValue parts.Vector x = IsShortVector x
 IsShortValue parts.Vectors x = AllByRecursion IsShortVector x
 IsShortValue parts.Partition x = AllByRecursion IsShortBlock x.blocks
-IsShortValue parts.Term x = IsNested NESTING x × AreSpelled [] (term x)
+IsShortValue parts.Term x = IsNested NESTING x × AreSpelled (term x)
 IsShortValue parts.Fresh x = IsNamed x
 IsShortValue (parts.Pick Constructions) x = IsShortConstruction x
 IsShortValue (parts.Pick Points) x = ArePointsShort x
@@ -73,3 +74,7 @@ pub record IsMade (f : CommandForm) (x : Values (parts_of f)) (place : Option Pl
   pub at : Place
   pub kept : IsKept place at
   pub is : c ≡ made f at x
+
+-- what is written for the parts of a form is read as the command that is made of it
+abbrev pub IsCommandRead : CommandForm → Place → List Placed → List Placed → Result Command Miss → Type 0
+IsCommandRead f place old new result = (x : Values (parts_of f)) (ws : List Wanted) → Standing (parts_of f) x old ws → Gives result (λ c. (c ≡ made f place x) × Front new ws [])

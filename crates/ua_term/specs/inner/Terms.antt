@@ -8,7 +8,7 @@ use Rattle.ua_term.specs.Terms.{term}
 
 -- the machine of one term
 abbrev pub term_forms : Forms
-term_forms = record { version = 1; built = []; commands = []; provables = []; constructions = []; points = []; choices = [] }
+term_forms = record { version = 1; unbuilt = []; commands = []; provables = []; constructions = []; points = []; choices = [] }
 
 abbrev pub term_start : List Symbol
 term_start = Term NESTING ∷ []

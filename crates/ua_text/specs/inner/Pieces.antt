@@ -1,8 +1,7 @@
 -- How long a piece of text is.
-use Rattle.std.specs.Prelude.{ℕ, ◌-◌}
+use Rattle.std.specs.Prelude.{ℕ}
 use Rattle.ua_text.specs.declared.pieces.Piece.{Piece}
 use Rattle.ua_text.specs.declared.pieces.Piece.TheVariants.{Gap, Lexeme}
-use Rattle.ua_text.specs.Pieces.{piece}
 
 -- how many bytes a piece has
 abbrev pub piece_length : Piece → ℕ

@@ -6,8 +6,6 @@ use Rattle.std.specs.Cmp.Lexicographic.{pointwise}
 use Rattle.ua_text.specs.Numbers.{number_value}
 use Rattle.ua_text.specs.Labels.{place_in}
 use Rattle.ua_text.specs.Signs.{Wanted, may_spell}
-use Rattle.ua_text.specs.declared.faults.ReadFault.TheVariants as faults
-use Rattle.ua_text.specs.declared.readers.Miss.TheVariants as misses
 
 abbrev pub or_else : Option ℕ → Option ℕ → Option ℕ
 or_else (Some v) o = Some v

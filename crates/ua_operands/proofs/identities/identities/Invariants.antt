@@ -11,7 +11,9 @@ use Rattle.ua_operands.proofs.identities.identities.Given as goal
 -- of identities that stand there, those so far are read
 abbrev pub invariant-loop-alloc : goal.invariant-loop-alloc
 invariant-loop-alloc l = record {
-  only : (is : List IdentityText) (ws : List Wanted) → begins_with (codes "(") ws ≡ false → Front (tokens_left l.initial.tokens) (flat_map identity is ++ ws) [] → More IdentityText (λ (i : IdentityText). Unit {0}) (flat_map identity) is l.identities.items (tokens_left l.tokens) ws;
+  only : (is : List IdentityText) (ws : List Wanted) → begins_with (codes "(") ws ≡ false
+      → Front (tokens_left l.initial.tokens) (flat_map identity is ++ ws) []
+      → More IdentityText (λ (i : IdentityText). Unit {0}) (flat_map identity) is l.identities.items (tokens_left l.tokens) ws;
   progress : length (tokens_left l.tokens) ≤ length (tokens_left l.initial.tokens);
   source : source_of l.tokens ≡ source_of l.initial.tokens;
 }

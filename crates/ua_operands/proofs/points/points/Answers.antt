@@ -20,7 +20,11 @@ returns-then-is_word-clause-only c = λ m ws short n f.
 pub returns-then-is_word-2-clause-only : goal.returns-then-is_word-2-clause-only
 returns-then-is_word-2-clause-only c = λ m ws short n f.
     let h = c.in_ok-first.ensures.only (sign roles.Exact (first_of m)) (behind m ws) [] (points_front m (tokens_left c.args.tokens.now) ws f) in
-    is_partial (λ z. ArePointsShort z → Front (tokens_left c.next.new.tokens) (behind z ws) [] → Gives c.partial.result (λ x. (x ≡ z) × Front (tokens_left c.partial.new.tokens) ws [])) c.in_ok-first.first.text.now m h.0 (sym c.if-is_word-2.ensures)
+    is_partial
+    (λ z.
+    ArePointsShort z → Front (tokens_left c.next.new.tokens) (behind z ws) []
+    → Gives c.partial.result (λ x. (x ≡ z) × Front (tokens_left c.partial.new.tokens) ws []))
+    c.in_ok-first.first.text.now m h.0 (sym c.if-is_word-2.ensures)
     (λ v vs s g. c.partial.ensures.only v vs ws s.0 s.1 n g) short h.2
 
 pub returns-clause-only : goal.returns-clause-only

@@ -12,7 +12,9 @@ use Rattle.ua_operands.proofs.readers.part_blocks.Given as goal
 -- of blocks that stand there, those so far are read
 abbrev pub invariant-loop-alloc : goal.invariant-loop-alloc
 invariant-loop-alloc l = record {
-  only : (bs : List (List Number)) (ws : List Wanted) → AllByRecursion IsShortBlock bs → begins_number ws ≡ false → Front (tokens_left l.initial.tokens) (part_blocks roles.More bs ++ ws) [] → More (List Number) IsShortBlock (part_blocks roles.More) bs l.blocks.items (tokens_left l.tokens) ws;
+  only : (bs : List (List Number)) (ws : List Wanted) → AllByRecursion IsShortBlock bs → begins_number ws ≡ false
+      → Front (tokens_left l.initial.tokens) (part_blocks roles.More bs ++ ws) []
+      → More (List Number) IsShortBlock (part_blocks roles.More) bs l.blocks.items (tokens_left l.tokens) ws;
   progress : length (tokens_left l.tokens) ≤ length (tokens_left l.initial.tokens);
   source : source_of l.tokens ≡ source_of l.initial.tokens;
 }

@@ -12,7 +12,9 @@ use Rattle.ua_operands.proofs.readers.words.Given as goal
 -- of words that stand there, those so far are read
 abbrev pub invariant-loop-alloc : goal.invariant-loop-alloc
 invariant-loop-alloc l = record {
-  only : (es : List Word) (ws : List Wanted) → AllByRecursion IsNamed es → Front (tokens_left l.initial.tokens) (map word es ++ sign roles.Closes (codes ")") ∷ ws) [] → MoreSingles Word IsNamed word (sign roles.Closes (codes ")")) es l.words.items (tokens_left l.tokens) ws;
+  only : (es : List Word) (ws : List Wanted) → AllByRecursion IsNamed es
+      → Front (tokens_left l.initial.tokens) (map word es ++ sign roles.Closes (codes ")") ∷ ws) []
+      → MoreSingles Word IsNamed word (sign roles.Closes (codes ")")) es l.words.items (tokens_left l.tokens) ws;
   progress : length (tokens_left l.tokens) ≤ length (tokens_left l.initial.tokens);
   source : source_of l.tokens ≡ source_of l.initial.tokens;
 }

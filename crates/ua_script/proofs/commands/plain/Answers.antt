@@ -1,9 +1,7 @@
-use Rattle.std.proofs.Common.{rules, ◌≡◌, ◌∷◌, ◌++◌, [], Some, Option, sym, ◌∙◌, ap, subst}
+use Rattle.std.proofs.Common.{rules, ◌++◌, []}
 use Rattle.ua_text.specs.Tokens.{tokens_left, seen}
-use Rattle.ua_text.specs.Signs.{Front}
 use Rattle.ua_script.specs.Operands.{values_text}
-use Rattle.ua_script.specs.Forms.{all_forms, parts_of}
-use Rattle.ua_script.specs.inner.Forms.{found_form}
+use Rattle.ua_script.specs.Forms.{parts_of}
 use Rattle.ua_script.proofs.Making.{word_found, made_behind, none_found}
 use Rattle.ua_script.proofs.commands.plain.Goals as goal
 

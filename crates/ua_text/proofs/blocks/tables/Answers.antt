@@ -10,7 +10,11 @@ returns-in_err-table-clause-only c = λ os ws rest a n f.
 
 pub loop-alloc-preserved : goal.loop-alloc-preserved
 loop-alloc-preserved c = record {
-  only = λ os ws rest a n f. operation_step c.args.labels.now n os c.loop-alloc.operations.items c.push.new.self.items (tokens_left c.loop-alloc.tokens) (tokens_left c.operation.new.tokens) ws rest (c.loop-alloc.invariant.only os ws rest a n f) c.in_ok-table.ensures.only c.loop-alloc-test.ensures.no c.in_ok-push.ensures.items;
+  only =
+      λ os ws rest a n f.
+      operation_step c.args.labels.now n os c.loop-alloc.operations.items c.push.new.self.items (tokens_left c.loop-alloc.tokens)
+      (tokens_left c.operation.new.tokens) ws rest (c.loop-alloc.invariant.only os ws rest a n f) c.in_ok-table.ensures.only
+      c.loop-alloc-test.ensures.no c.in_ok-push.ensures.items;
   progress = let p = c.in_ok-table.ensures.progress in let q = c.loop-alloc.invariant.progress in omega arith;
   source = c.in_ok-table.ensures.source ∙ c.loop-alloc.invariant.source;
 }

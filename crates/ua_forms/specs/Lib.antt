@@ -1,0 +1,2 @@
+-- The words of commands.
+pub mod Words
