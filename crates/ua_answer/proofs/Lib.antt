@@ -1,3 +1,4 @@
 mod Certifying
-mod CertExists
+mod CertificatesExist
+mod QuestionsExist
 mod RepliesExist

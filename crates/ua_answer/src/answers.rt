@@ -1,132 +1,24 @@
-//! The reply to a command, by tables as those of the grammar.
+//! The reply to a command: an arm for each form.
 
 ghost use Rattle.std.specs.Prelude.{IfOk};
-ghost use Rattle.ua_script.specs.declared.script.Command.{Command};
-ghost use Rattle.ua_script.specs.inner.Families.{IsOnCongruences, IsOnConditions};
 ghost use Rattle.ua_reply.specs.Sessions.{bounds_of};
-ghost use Rattle.ua_answer.specs.Replies.{IsProvableBuilt, IsPlainBuilt, IsBuilt, ProvableReply, PlainReply, Reply};
+ghost use Rattle.ua_answer.specs.Replies.{IsPlainBuilt, IsBuilt, PlainReply, Reply};
 ghost use Rattle.ua_answer_algebras.specs.MakeCommand.{left_by, IsNamedRight};
 
-use crate::certificates::answer_cert;
+use crate::questions::answer_asked;
 use std::alloc::AllocError;
 use std::thread::Threads;
 use ua_answer_algebras::{
-    Answered, answer_check, answer_close, answer_eval, answer_free, answer_hom, answer_make,
-    answer_member, answer_ones, answer_sub, said,
+    Answered, answer_check, answer_eval, answer_free, answer_hom, answer_make, answer_ones,
+    answer_sub, said,
 };
-use ua_answer_conditions::{
-    ChainWord, answer_chain, answer_clone, answer_cond, answer_condition, answer_holds, answer_nu,
-};
+use ua_answer_conditions::{ChainWord, answer_chain, answer_clone, answer_condition, answer_holds};
 use ua_answer_congruences::{
     answer_central, answer_cg, answer_comm, answer_con, answer_series, answer_types,
 };
 use ua_reply::Context;
-use ua_script::{Command, Mode, Provable};
+use ua_script::Command;
 use ua_table::Gate;
-
-/// The reply to a command that can be certified.
-fn answer_provable<R: Threads + Sync, G: Gate>(
-    context: &Context<R, G>,
-    what: &Provable,
-    mode: Mode,
-) -> Result<Vec<u8>, AllocError>
-    requires { IsProvableBuilt what.now mode }
-    ensures { IfOk result (λ v. ProvableReply context.now.session.now (bounds_of context.now.run.now.budget context.now.run.now.workers) what.now mode v.items) }
-{
-    match what {
-        Provable::Close {
-            algebra,
-            width,
-            gens,
-        } => answer_close(context, algebra, *width, gens.as_slice(), mode),
-        Provable::Member {
-            algebra,
-            width,
-            gens,
-            target,
-        } => answer_member(context, algebra, *width, gens.as_slice(), target),
-        Provable::Cond { algebra, name } => answer_cond(context, algebra, *name),
-        Provable::Nu { algebra, k } => answer_nu(context, algebra, *k),
-        Provable::Jonsson { algebra } => answer_chain(context, algebra, ChainWord::Jonsson),
-        Provable::Hm { algebra } => answer_chain(context, algebra, ChainWord::HagemannMitschke),
-    }
-}
-
-/// The reply to a question, with or without `cert` before it.
-fn answer_asked<R: Threads + Sync, G: Gate>(
-    context: &Context<R, G>,
-    what: &Provable,
-    mode: Mode,
-    cert: bool,
-) -> Result<Vec<u8>, AllocError>
-    requires { IsPlainBuilt (Command.Ask what.now mode cert) }
-    ensures { IfOk result (λ v. PlainReply context.now.session.now (bounds_of context.now.run.now.budget context.now.run.now.workers) (Command.Ask what.now mode cert) v.items) }
-{
-    if cert {
-        answer_cert(context, what)
-    } else {
-        answer_provable(context, what, mode)
-    }
-}
-
-/// The reply to a command on congruences.
-fn answer_on_congruences<R: Threads + Sync, G: Gate>(
-    context: &Context<R, G>,
-    command: &Command,
-) -> Result<Vec<u8>, AllocError>
-    requires { IsOnCongruences command.now }
-    ensures { IfOk result (λ v. PlainReply context.now.session.now (bounds_of context.now.run.now.budget context.now.run.now.workers) command.now v.items) }
-{
-    match command {
-        Command::Cg { algebra, pairs } => answer_cg(context, algebra, pairs.as_slice()),
-        Command::Con { algebra } => answer_con(context, algebra),
-        Command::Types { algebra } => answer_types(context, algebra),
-        Command::Central {
-            algebra,
-            alpha,
-            beta,
-            delta,
-        } => answer_central(context, algebra, alpha, beta, delta),
-        Command::Comm {
-            algebra,
-            alpha,
-            beta,
-        } => answer_comm(context, algebra, alpha, beta),
-        Command::Series { algebra, kind } => answer_series(context, algebra, *kind),
-        _ => unreachable!(),
-    }
-}
-
-/// The reply to a command on identities, conditions, chains or clones of terms.
-fn answer_on_conditions<R: Threads + Sync, G: Gate>(
-    context: &Context<R, G>,
-    command: &Command,
-) -> Result<Vec<u8>, AllocError>
-    requires family { IsOnConditions command.now }
-    requires built { IsPlainBuilt command.now }
-    ensures { IfOk result (λ v. PlainReply context.now.session.now (bounds_of context.now.run.now.budget context.now.run.now.workers) command.now v.items) }
-{
-    match command {
-        Command::Holds {
-            algebra,
-            left,
-            right,
-        } => answer_holds(context, algebra, left, right),
-        Command::Day { algebra } => answer_chain(context, algebra, ChainWord::Day),
-        Command::Condition {
-            algebra,
-            arity,
-            identities,
-        } => answer_condition(context, algebra, *arity, identities.as_slice()),
-        Command::Clone {
-            algebra,
-            arity,
-            kind,
-            points,
-        } => answer_clone(context, algebra, *arity, *kind, points),
-        _ => unreachable!(),
-    }
-}
 
 /// The reply to a command that leaves the session as it was.
 pub fn answer_plain<R: Threads + Sync, G: Gate>(
@@ -134,7 +26,7 @@ pub fn answer_plain<R: Threads + Sync, G: Gate>(
     command: &Command,
 ) -> Result<Vec<u8>, AllocError>
     requires { IsPlainBuilt command.now }
-    ensures { IfOk result (λ v. PlainReply context.now.session.now (bounds_of context.now.run.now.budget context.now.run.now.workers) command.now v.items) }
+    ensures { IfOk result (λ v. PlainReply context.now.session.now (bounds_of context.now.run.now) command.now v.items) }
 {
     match command {
         Command::Ask { what, mode, cert } => answer_asked(context, what, *mode, *cert),
@@ -153,16 +45,38 @@ pub fn answer_plain<R: Threads + Sync, G: Gate>(
             gens,
             images,
         } => answer_hom(context, first, second, gens, images),
-        Command::Cg { .. }
-        | Command::Con { .. }
-        | Command::Types { .. }
-        | Command::Central { .. }
-        | Command::Comm { .. }
-        | Command::Series { .. } => answer_on_congruences(context, command),
-        Command::Holds { .. }
-        | Command::Day { .. }
-        | Command::Condition { .. }
-        | Command::Clone { .. } => answer_on_conditions(context, command),
+        Command::Cg { algebra, pairs } => answer_cg(context, algebra, pairs.as_slice()),
+        Command::Con { algebra } => answer_con(context, algebra),
+        Command::Types { algebra } => answer_types(context, algebra),
+        Command::Central {
+            algebra,
+            alpha,
+            beta,
+            delta,
+        } => answer_central(context, algebra, alpha, beta, delta),
+        Command::Comm {
+            algebra,
+            alpha,
+            beta,
+        } => answer_comm(context, algebra, alpha, beta),
+        Command::Series { algebra, kind } => answer_series(context, algebra, *kind),
+        Command::Holds {
+            algebra,
+            left,
+            right,
+        } => answer_holds(context, algebra, left, right),
+        Command::Day { algebra } => answer_chain(context, algebra, ChainWord::Day),
+        Command::Condition {
+            algebra,
+            arity,
+            identities,
+        } => answer_condition(context, algebra, *arity, identities.as_slice()),
+        Command::Clone {
+            algebra,
+            arity,
+            kind,
+            points,
+        } => answer_clone(context, algebra, *arity, *kind, points),
         Command::Make { .. } => unreachable!(),
     }
 }
@@ -173,7 +87,7 @@ pub fn answer<'a, R: Threads + Sync, G: Gate>(
     command: &'a Command,
 ) -> Result<Answered<'a>, AllocError>
     requires { IsBuilt command.now }
-    ensures reply { IfOk result (λ v. Reply context.now.session.now (bounds_of context.now.run.now.budget context.now.run.now.workers) command.now v.reply.items (left_by context.now.session.now v.made)) }
+    ensures reply { IfOk result (λ v. Reply context.now.session.now (bounds_of context.now.run.now) command.now v.reply.items (left_by context.now.session.now v.made)) }
     ensures named { IfOk result (λ v. IsNamedRight v.made) }
 {
     match command {

@@ -7,7 +7,7 @@ ghost use Rattle.ua_script.specs.declared.script.Command.{Command};
 ghost use Rattle.ua_reply.specs.Sessions.{Bounds, AreAlgebras, AreBounds};
 ghost use Rattle.ua_reply.specs.Replies.{HasBytes};
 ghost use Rattle.ua_answer_algebras.specs.MakeCommand.{HasReply};
-ghost use Rattle.ua_answer.specs.CertCommand.{CertReply};
+ghost use Rattle.ua_answer.specs.Questions.{CertReply};
 ghost use Rattle.ua_answer.specs.Replies.{IsBuilt, Reply};
 
 use std::alloc::Global;
@@ -29,16 +29,7 @@ pub fn replies(alloc: Global)
     ensures left { (s : List Block) (b : Bounds) (c : Command) (bytes : List ℕ) (t : List Block) → AreAlgebras s → Reply s b c bytes t → AreAlgebras t }
 {
     certificates(alloc);
-    ua_answer_conditions::laws::conditions();
-    ua_answer_conditions::laws::chains(alloc);
-    ua_answer_conditions::laws::clones();
-    ua_answer_conditions::laws::identities(alloc);
     ua_answer_congruences::laws::congruences(alloc);
-    ua_answer_congruences::laws::commutators(alloc);
-    ua_answer_algebras::laws::closures();
-    ua_answer_algebras::laws::subalgebras();
-    ua_answer_algebras::laws::values();
-    ua_answer_algebras::laws::maps();
-    ua_answer_algebras::laws::constructions();
-    ua_answer_algebras::laws::checks();
+    ua_answer_conditions::laws::conditions(alloc);
+    ua_answer_algebras::laws::algebras();
 }

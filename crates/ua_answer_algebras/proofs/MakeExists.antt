@@ -75,7 +75,7 @@ multiplied s place name a b k l left right = similar (is_similar k.algebra l.alg
         let made = product_of name.name k.algebra l.algebra in
         answered s place name (Product a b) (Ok made) (printed (block (unnamed made))) (of (Ok made) ((similar-Decides k.algebra l.algebra).0 e, f, refl)) refl
 
-pub product_replied : (s : List Block) (place : Place) (name a b : Word) → HasReply (MakeReply s place name (Product a b))
+product_replied : (s : List Block) (place : Place) (name a b : Word) → HasReply (MakeReply s place name (Product a b))
 product_replied s place name a b =
     replied s place name (Product a b) (λ passes.
     let left = known_passes (lookup s a.name) a.place (λ k. checks_in (lookup s b.name) b.place (λ l. passed)) passes in
@@ -85,11 +85,11 @@ product_replied s place name a b =
 -- ---- subalgebras
 
 -- elements generate some elements
-abbrev HaveMembers : Type 0
+abbrev pub HaveMembers : Type 0
 HaveMembers = (a : FiniteAlgebra) (gens : List ℕ) → IsAlgebra a → AreElements a gens → HasMembers a gens
 
 -- and what they generate is closed
-abbrev AreClosed : Type 0
+abbrev pub AreClosed : Type 0
 AreClosed = (a : FiniteAlgebra) (gens members : List ℕ) (f : ℕ) (args : List ℕ) → AreMembers a gens members → f < length (arities_of a) → length args ≡ slice_index (arities_of a) f
     → AllByRecursion (Contains members) args → Contains members (value_at a f args)
 
@@ -105,7 +105,7 @@ generated closed s place name a set k known (x ∷ xs) are =
     record { members = x ∷ xs; generated = are; permitted = (some, λ f args. closed k.algebra (values_of k set) (x ∷ xs) f args are, refl) } in
     answered s place name (Sub a set) (Ok made) (printed (block (unnamed made))) (found_of (lookup s a.name) k (λ (k : Block). MayGenerate k name.name set (Ok made)) known may) refl
 
-pub sub_made : HaveMembers → AreClosed → (s : List Block) (place : Place) (name a : Word) (set : Items) → AreAlgebras s → HasReply (MakeReply s place name (Sub a set))
+sub_made : HaveMembers → AreClosed → (s : List Block) (place : Place) (name a : Word) (set : Items) → AreAlgebras s → HasReply (MakeReply s place name (Sub a set))
 sub_made have closed s place name a set algebras =
     replied s place name (Sub a set) (λ passes.
     let known = known_passes (lookup s a.name) a.place (λ k. elements_in k set.values) passes in
@@ -121,7 +121,7 @@ reduced s place name a ops k known =
     let may = found_of (lookup s a.name) k (λ (k : Block). MayReduct name.name k.algebra (numbers_of k ops) (Ok made)) known refl in
     answered s place name (Reduct a ops) (Ok made) (printed (block (unnamed made))) may refl
 
-pub reduct_replied : (s : List Block) (place : Place) (name a : Word) (ops : List Word) → HasReply (MakeReply s place name (Reduct a ops))
+reduct_replied : (s : List Block) (place : Place) (name a : Word) (ops : List Word) → HasReply (MakeReply s place name (Reduct a ops))
 reduct_replied s place name a ops =
     replied s place name (Reduct a ops) (λ passes.
     let known = known_passes (lookup s a.name) a.place (λ k. operations_in k ops) passes in
@@ -144,7 +144,7 @@ quotient_said s place name a p k known q blocks (inr first) =
 abbrev pub HaveClashes : Type 0
 HaveClashes = (a : FiniteAlgebra) (p : Partition) → IsAlgebra a → IsPartition p → length p ≡ a.size → IsCongruence a p ⊎ HasFirstClash a p
 
-pub quotient_replied : HaveClashes → (s : List Block) (place : Place) (name a : Word) (p : PartText) → AreAlgebras s → HasReply (MakeReply s place name (Quotient a p))
+quotient_replied : HaveClashes → (s : List Block) (place : Place) (name a : Word) (p : PartText) → AreAlgebras s → HasReply (MakeReply s place name (Quotient a p))
 quotient_replied have s place name a p algebras =
     replied s place name (Quotient a p) (λ passes.
     let known = known_passes (lookup s a.name) a.place (λ k. part_in k p) passes in
@@ -154,3 +154,11 @@ quotient_replied have s place name a p algebras =
     let q = part_with_blocks n (blocks_of p) are in
     let blocks = part_has_blocks n (blocks_of p) are in
     quotient_said s place name a p k known.1 q blocks (have k.algebra q (known_algebra s a.name k algebras known.1) blocks.partition (part_size n (blocks_of p) are)))
+
+-- ---- all constructions
+
+pub make_replied : HaveMembers → AreClosed → HaveClashes → (s : List Block) (place : Place) (name : Word) (what : MakeForm) → AreAlgebras s → HasReply (MakeReply s place name what)
+make_replied have closed clashes s place name (Product a b) algebras = product_replied s place name a b
+make_replied have closed clashes s place name (Quotient a p) algebras = quotient_replied clashes s place name a p algebras
+make_replied have closed clashes s place name (Sub a set) algebras = sub_made have closed s place name a set algebras
+make_replied have closed clashes s place name (Reduct a ops) algebras = reduct_replied s place name a ops

@@ -25,7 +25,9 @@ absent_number a word h =
   where
     at : (k : ℕ) → k < length (names_of a.operations) → (b : Bool) → pointwise nat_eq word (get_or (names_of a.operations) k []) ≡ b → b ≡ false
     at k low false e = refl
-    at k low true e = let is : get_or (names_of a.operations) k [] ≡ word = sym (same-true word (get_or (names_of a.operations) k []) e) in absurd (h (subst (Contains (names_of a.operations)) is (Contains-get_or (names_of a.operations) k [] low)))
+    at k low true e =
+        let is : get_or (names_of a.operations) k [] ≡ word = sym (same-true word (get_or (names_of a.operations) k []) e) in
+        absurd (h (subst (Contains (names_of a.operations)) is (Contains-get_or (names_of a.operations) k [] low)))
 
 -- nothing is told of a test that passes
 told_step : (b : Bool) (place : Place) (rest : List Place) → (unless (not b) place ++ rest) ≡ [] → (b ≡ false) × (rest ≡ [])

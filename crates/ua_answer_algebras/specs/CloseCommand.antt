@@ -23,7 +23,7 @@ use Rattle.ua_reply.specs.Replies.{Says, AnsweredOn}
 abbrev pub close_checks : Block → Number → List Items → Checks
 close_checks k width gens = positive width and vectors_in k width.value gens
 
--- the rows of a closed listing are the least ones
+-- the rows of a closed listing are the least
 abbrev pub MayCloseLeast : Product → List Vector → ℕ → ℕ → Result Closure CloseError → Type 0
 MayCloseLeast p gens budget workers (Ok (Closed rows)) = (¬ IsWide p gens budget) × IsLeast p gens budget rows
 MayCloseLeast p gens budget workers answer = MayClose p gens budget workers answer

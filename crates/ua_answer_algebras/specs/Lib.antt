@@ -1,18 +1,20 @@
--- The command `close`: where its operands fail, and what it is answered.
+-- The closure of vectors in a power: where the operands fail, and what is answered.
 pub mod CloseCommand
--- The command `member`: where its operands fail, and what it is answered.
+-- Whether a vector is generated: where the operands fail, and what is answered.
 pub mod MemberCommand
--- The command `free`: where its operand fails, and what it is answered, which is what `close` is.
+-- Free algebras: where the operand fails, and what is answered, which is what a closure is.
 pub mod FreeCommand
--- The command `sub`: where its operand fails, and what it is answered.
+-- The subalgebra that elements generate: where the operands fail, and what is answered.
 pub mod SubCommand
--- The command `ones`: what it is answered.
+-- What each element generates: what is answered.
 pub mod OnesCommand
--- The command `eval`: where its operands fail, and what it is answered.
+-- The value of a term: where the operands fail, and what is answered.
 pub mod EvalCommand
--- The command `hom`: where its operands fail, and what it is answered.
+-- Homomorphisms: where the operands fail, and what is answered.
 pub mod HomCommand
--- The command `check`: what is told of a certificate.
+-- What is told of a certificate.
 pub mod CheckCommand
--- The command `make`: where its operands fail, what it is answered, and the session that it leaves.
+-- Algebras that are made: where the operands fail, what is answered, and the session that is left.
 pub mod MakeCommand
+-- That each of these commands has a reply.
+pub mod Replied

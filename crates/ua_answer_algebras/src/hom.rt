@@ -24,7 +24,9 @@ use ua_text::Place;
 /// Whether the generators are elements of the one algebra, and the images as many of the other.
 fn hom_errors(first: &Known, second: &Known, gens: &Items, images: &Items) -> FirstErrors
     ensures first { AreFirst (hom_checks first.now second.now gens.now images.now) result }
-    ensures each { Passes (hom_checks first.now second.now gens.now images.now) → Passes (elements_in first.now gens.now.values) × Passes (elements_in second.now images.now.values) × (length images.now.values ≡ length gens.now.values) }
+    ensures each { Passes (hom_checks first.now second.now gens.now images.now)
+        → Passes (elements_in first.now gens.now.values) × Passes (elements_in second.now images.now.values)
+        × (length images.now.values ≡ length gens.now.values) }
 {
     let elements = gens.values.as_slice();
     elements_in(first, elements)
@@ -146,7 +148,7 @@ pub fn answer_hom<R: Threads + Sync, G: Gate>(
     images: &Items,
 ) -> Result<Vec<u8>, AllocError>
     requires { length gens.now.values ≤ SCRIPT }
-    ensures { IfOk result (λ v. HomReply context.now.session.now (bounds_of context.now.run.now.budget context.now.run.now.workers) first.now second.now gens.now images.now v.items) }
+    ensures { IfOk result (λ v. HomReply context.now.session.now (bounds_of context.now.run.now) first.now second.now gens.now images.now v.items) }
 {
     let alloc = context.alloc;
     let Some(source) = context.session.find(first.name.text()) else {

@@ -15,7 +15,6 @@ use Rattle.ua_term.proofs.MeantTerms.{meant_term}
 use Rattle.ua_identity.specs.declared.limits.TheConstants.{PLACES, NEAR_UNANIMITY}
 use Rattle.ua_identity.specs.Conditions.{TermCondition, IsCondition, near_unanimity}
 use Rattle.ua_identity.proofs.NamedLaws.{maltsev_is, majority_is, minority_is, pixley_is, near_unanimity_is}
-use Rattle.ua_identity.specs.Kinds as kinds
 use Rattle.ua_identity.specs.Chains.{ChainKind}
 use Rattle.ua_close.specs.declared.close.CloseError.TheVariants.{OutOfMemory}
 use Rattle.ua_close.specs.Permitted.{IsAnswerable}
@@ -54,7 +53,6 @@ use Rattle.ua_answer_conditions.specs.HoldsCommand.{holds_checks, holds_text, Ho
 use Rattle.ua_answer_conditions.proofs.WrittenConditions.{is_condition, few_letters}
 use Rattle.ua_answer_conditions.proofs.WrittenTables.{points_written}
 use Rattle.ua_answer_conditions.specs.declared.chains.ChainWord.{ChainWord}
-use Rattle.ua_answer_conditions.specs.declared.chains.ChainWord.TheVariants.{Jonsson, HagemannMitschke, Day}
 use Rattle.ua_answer_conditions.specs.ChainCommand as chains
 use Rattle.ua_answer_conditions.specs.ChainCommand.{chain_text, ChainAnswer, ChainReply}
 
@@ -154,15 +152,11 @@ holds_replied can s w left right =
 -- ---- chains
 
 -- a least chain of a kind can be told
-abbrev CanChain : ChainKind → Type 0
+abbrev pub CanChain : ChainKind → Type 0
 CanChain kind = (a : FiniteAlgebra) (b w : ℕ) → IsAlgebra a → IsAnswerable (MayChain a kind b w) OutOfMemory
 
-pub chain_replied : CanChain kinds.jonsson → CanChain kinds.hagemann_mitschke → CanChain kinds.day → (s : List Block) (b : Bounds) (w : Word) (asked : ChainWord) → AreAlgebras s → HasBytes (ChainReply s b w asked)
-chain_replied jonsson hm day s b w asked algebras =
-    answered_on s w (λ k. passed) (λ k. ChainAnswer k b (chains.kind_of asked)) (λ k known passes.
-    says_exists (MayChain k.algebra (chains.kind_of asked) b.budget b.workers) (chain_text k b.budget (chains.kind_of asked)) (can asked k.algebra b.budget b.workers (known_algebra s w.name k algebras known)))
-  where
-    can : (asked : ChainWord) → CanChain (chains.kind_of asked)
-    can Jonsson = jonsson
-    can HagemannMitschke = hm
-    can Day = day
+pub chain_replied : ((asked : ChainWord) → CanChain (chains.kind_of asked)) → (s : List Block) (b : Bounds) (w : Word) (asked : ChainWord) → AreAlgebras s → HasBytes (ChainReply s b w asked)
+chain_replied can s b w asked algebras =
+    let kind = chains.kind_of asked in
+    answered_on s w (λ k. passed) (λ k. ChainAnswer k b kind) (λ k known passes.
+    says_exists (MayChain k.algebra kind b.budget b.workers) (chain_text k b.budget kind) (can asked k.algebra b.budget b.workers (known_algebra s w.name k algebras known)))

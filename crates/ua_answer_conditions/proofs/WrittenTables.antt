@@ -48,7 +48,8 @@ seen_more b k before (u ∷ vs) v = seen_more b k (arguments_of b k u ∷ before
 one_more : (xs : List Items) (i : ℕ) (x : Items) → i < length xs → x ≡ get_or xs i x → take (i + 1) xs ≡ take i xs ++ x ∷ []
 one_more xs i x low is = let next : i + 1 ≡ suc i = omega arith in ap (λ n. take n xs) next ∙ take-suc xs i x low ∙ ap (λ y. take i xs ++ y ∷ []) (sym is)
 
-pub next_points : (b : Block) (k : ℕ) (first v : Items) (vs : List Items) (i : ℕ) (e : FirstErrors) → i < length vs → v ≡ get_or vs i v → AreFirst (points_in b k [] (first ∷ take i vs) and point_in b k (seen b k [] (first ∷ take i vs)) v) e → AreFirst (points_in b k [] (first ∷ take (i + 1) vs)) e
+pub next_points : (b : Block) (k : ℕ) (first v : Items) (vs : List Items) (i : ℕ) (e : FirstErrors) → i < length vs → v ≡ get_or vs i v
+    → AreFirst (points_in b k [] (first ∷ take i vs) and point_in b k (seen b k [] (first ∷ take i vs)) v) e → AreFirst (points_in b k [] (first ∷ take (i + 1) vs)) e
 next_points b k first v vs i e low is h =
     subst (λ (c : Checks). AreFirst c e) (sym (ap (λ xs. points_in b k [] (first ∷ xs)) (one_more vs i v low is) ∙ points_more b k [] (first ∷ take i vs) v)) h
 

@@ -1,12 +1,14 @@
--- The commands `cond` and `nu`: where their operands fail, and what they are answered.
+-- Conditions by their names, and near-unanimity: where the operands fail, and what is answered.
 pub mod CondCommand
--- The command `condition`: the condition that is written, where its operands fail, and what it is answered.
+-- The condition that is written by its identities: where the operands fail, and what is answered.
 pub mod ConditionCommand
 -- Which lists of arguments a set holds.
 pub mod ArgumentSets
--- The command `clone`: where its operands fail, and what it is answered.
+-- The clone of terms or of polynomials: where the operands fail, and what is answered.
 pub mod CloneCommand
--- The commands `jonsson`, `hm` and `day`: what they are answered.
+-- Least chains of terms: what is answered.
 pub mod ChainCommand
--- The command `holds`: where its operands fail, and what it is answered.
+-- Whether an identity holds: where the operands fail, and what is answered.
 pub mod HoldsCommand
+-- That each of these commands has a reply.
+pub mod Replied

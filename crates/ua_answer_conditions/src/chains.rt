@@ -133,7 +133,7 @@ pub fn answer_chain<R: Threads + Sync, G: Gate>(
     algebra: &Word,
     asked: ChainWord,
 ) -> Result<Vec<u8>, AllocError>
-    ensures { IfOk result (λ v. ChainReply context.now.session.now (bounds_of context.now.run.now.budget context.now.run.now.workers) algebra.now asked v.items) }
+    ensures { IfOk result (λ v. ChainReply context.now.session.now (bounds_of context.now.run.now) algebra.now asked v.items) }
 {
     let Some(known) = context.session.find(algebra.name.text()) else {
         return refusal_reply(context.alloc, Refusal::Unknown(algebra.place));

@@ -1,13 +1,12 @@
 -- Each command on congruences has a reply.
-use Rattle.std.proofs.Common.{◌≡◌, ◌⊎◌, inl, inr, ⊎_elim, ℕ, ◌≤◌, List, length, Some, refl}
+use Rattle.std.proofs.Common.{◌≡◌, ◌⊎◌, inl, inr, ℕ, ◌≤◌, List, length, Some, refl}
 use Rattle.std.specs.List.{AllByRecursion}
 use Rattle.ua_table.specs.declared.limits.TheConstants.{SIZE, BUDGET}
 use Rattle.ua_table.specs.Algebras.{FiniteAlgebra, IsAlgebra}
-use Rattle.ua_table.specs.Tables.{IsAlgebraTable}
 use Rattle.ua_part.specs.Partitions.{Partition, IsPartition}
 use Rattle.ua_part.specs.Blocks.{AreBlocks, HasBlocks, partition_text}
 use Rattle.ua_part.proofs.PartsExist.{part_with_blocks, part_has_blocks, part_size}
-use Rattle.ua_prod.specs.Congruences.{IsCongruence, IsCg}
+use Rattle.ua_prod.specs.Congruences.{IsCongruence}
 use Rattle.ua_prod.specs.Clashes.{HasFirstClash}
 use Rattle.ua_cong.specs.Closings.{AreElements}
 use Rattle.ua_cong.specs.Generated.{HasCg}
@@ -78,7 +77,7 @@ cg_replied have s w pairs algebras = answered_on s w (λ k. vectors_in k 2 pairs
         let c = have k.algebra (pairs_of k pairs) (known_table s w.name k algebras known).algebra (pairs_below k pairs passes) in
         record { bytes = line (partition_text c.congruence); are = record { answer = c.congruence; permitted = c.is; told = refl } }
 
--- ---- all congruences, and their types
+-- ---- all congruences, and the type of each cover
 
 abbrev pub HaveLattices : Type 0
 HaveLattices = (a : FiniteAlgebra) (budget : ℕ) → IsAlgebra a → budget ≤ BUDGET → HasLattice a budget

@@ -11,7 +11,7 @@ use Rattle.ua_reply.specs.Checks.{passed}
 use Rattle.ua_reply.specs.Replies.{Says, AnsweredOn}
 use Rattle.ua_reply.specs.Texts.{line, lines, numbered, counted, pair_text, listed_text}
 
--- the congruences with their numbers, the pairs of which the second covers the first, and the irreducible ones
+-- the congruences with their numbers, the pairs of which the second covers the first, and those that are irreducible
 abbrev pub lattice_text : ℕ → Lattice → List ℕ
 lattice_text budget (Whole list covers irreducibles) =
     line (counted (codes "congruences") (length list.items)) ++ numbered partition_text 0 list.items

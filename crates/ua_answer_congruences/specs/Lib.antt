@@ -1,16 +1,18 @@
 -- Congruences as operands: the partition that is written, or its first clash.
 pub mod Congruences
--- The command `cg`: where its operands fail, and what it is answered.
+-- The congruence that pairs generate: where the operands fail, and what is answered.
 pub mod CgCommand
--- The command `con`: what it is answered.
+-- The lattice of congruences: what is answered.
 pub mod ConCommand
--- The command `types`: what it is answered.
+-- The type of each cover: what is answered.
 pub mod TypesCommand
--- The command `central`: where its operands fail, and what it is answered.
+-- Whether a congruence centralizes another: where the operands fail, and what is answered.
 pub mod CentralCommand
--- The command `comm`: where its operands fail, and what it is answered.
+-- The commutator of two congruences: where the operands fail, and what is answered.
 pub mod CommCommand
--- The command `series`: what it is answered.
+-- The derived and the lower series: what is answered.
 pub mod SeriesCommand
+-- That each of these commands has a reply.
+pub mod Replied
 -- What private functions say.
 pub mod inner

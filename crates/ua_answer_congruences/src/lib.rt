@@ -3,17 +3,17 @@
 
 mod central;
 mod cg;
-mod comm;
+mod commutators;
 mod con;
 mod congruences;
+mod covers;
 pub mod laws;
 mod series;
 mod texts;
-mod types;
 
 pub use central::answer_central;
 pub use cg::answer_cg;
-pub use comm::answer_comm;
+pub use commutators::answer_comm;
 pub use con::answer_con;
+pub use covers::answer_types;
 pub use series::answer_series;
-pub use types::answer_types;

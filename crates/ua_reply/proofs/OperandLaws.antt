@@ -1,19 +1,13 @@
 -- What it means that operands pass.
-use Rattle.std.proofs.Common.{◌≡◌, ℕ, zero, suc, ◌<◌, ◌≤◌, ◌*◌, inl, inr, ◌==◌, Bool, true, false, nat_lt, List, [], ◌∷◌, length, map, replicate, get_or, slice_index, Option, Some, None, refl, sym, ap, ◌∙◌, arith}
+use Rattle.std.proofs.Common.{◌≡◌, ℕ, zero, suc, ◌<◌, ◌==◌, Bool, true, false, nat_lt, List, [], ◌∷◌, length, map, get_or, slice_index, Option, Some, None, refl, ap, ◌∙◌, arith}
 use Rattle.std.specs.List.{AllByRecursion}
 use Rattle.std.specs.Option.{unwrap_or}
-use Rattle.std.proofs.lemmas.Bool.{ltb-true, eqb-true, cases_lt}
-use Rattle.std.proofs.Math.Nat.{mul-le-mul_right}
-use Rattle.std.proofs.lemmas.List.{length-map, length-replicate}
-use Rattle.ua_table.specs.Algebras.{Vector, FiniteAlgebra, IsVector, arities_of}
-use Rattle.ua_table.specs.declared.limits.TheConstants.{WIDTH}
-use Rattle.ua_table.specs.Frames.{IsWidth}
-use Rattle.ua_table.specs.Numbering.{records}
+use Rattle.std.proofs.lemmas.Bool.{ltb-true, eqb-true}
+use Rattle.std.proofs.lemmas.List.{length-map}
+use Rattle.ua_table.specs.Algebras.{IsVector}
 use Rattle.ua_table.proofs.FrameLemmas.{in_power}
 use Rattle.ua_text.specs.declared.tokens.Place.{Place}
 use Rattle.ua_text.specs.declared.named.Block.{Block}
-use Rattle.ua_close.specs.declared.close.CloseError.TheVariants as causes
-use Rattle.ua_close.specs.Answers.{IsCause}
 use Rattle.ua_operands.specs.declared.written.Number.{Number}
 use Rattle.ua_operands.specs.declared.written.Entry.{Entry}
 use Rattle.ua_operands.specs.declared.written.Items.{Items}

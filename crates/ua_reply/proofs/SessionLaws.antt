@@ -72,7 +72,7 @@ none_first : (a b : Option Block) → option_or a b ≡ None → a ≡ None
 none_first None b e = refl
 none_first (Some k) b e = cc
 
--- a name that no block has is none of the first ones
+-- a name that no block has is none of the first blocks
 pub lookup_absent : (s : List Block) (name : List ℕ) (c : ℕ) → lookup s name ≡ None → lookup (take c s) name ≡ None
 lookup_absent s name c none =
     let whole : lookup s name ≡ option_or (lookup (take c s) name) (lookup (drop c s) name) =

@@ -4,6 +4,7 @@ use Rattle.std.specs.List.{AllByRecursion}
 use Rattle.std.specs.Cmp.Lexicographic.{pointwise}
 use Rattle.ua_table.specs.Tables.{IsAlgebraTable}
 use Rattle.ua_table.specs.declared.limits.TheConstants.{BUDGET}
+use Rattle.ua_table.specs.declared.runs.Run.{Run}
 use Rattle.ua_text.specs.declared.named.Block.{Block}
 use Rattle.ua_reply.specs.declared.known.Holder.{Holder}
 use Rattle.ua_reply.specs.declared.known.Holder.TheVariants.{Written, Made}
@@ -34,8 +35,8 @@ pub record Bounds : Type 0 where
   pub budget : ℕ
   pub workers : ℕ
 
-abbrev pub bounds_of : ℕ → ℕ → Bounds
-bounds_of budget workers = record { budget = budget; workers = workers }
+abbrev pub bounds_of : {G : Type 0} → Run G → Bounds
+bounds_of run = record { budget = run.budget; workers = run.workers }
 
 -- a budget that a run may have
 pub record AreBounds (b : Bounds) : Type 0 where

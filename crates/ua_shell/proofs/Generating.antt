@@ -17,7 +17,7 @@ use Rattle.ua_prod.specs.Draws.{next_state, state_after, drawn, draws, drawn_alg
 use Rattle.ua_prod.proofs.DrawLaws.{draws_more, drawn-IsAlgebraTable, numbered-is_name, state_sum}
 use Rattle.ua_operands.specs.Written.{entry as entry_sign, vector}
 use Rattle.ua_script.specs.Operands.{AreVectors, IsEntry}
-use Rattle.ua_script.specs.Grammar.{command, forms_built, IsCommand, IsWellFormed}
+use Rattle.ua_script.specs.Grammar.{command, IsCommand, IsWellFormed}
 use Rattle.ua_text.specs.declared.named.Block.{Block}
 use Rattle.ua_script.specs.declared.script.Command.{Command}
 use Rattle.ua_script.specs.declared.script.Item.{Item}
@@ -53,33 +53,33 @@ block_formed n =
     let b = (formed_block (drawn_algebra (codes "G") 3 n arities) [] (tables n) (inl refl)).algebra in
     record { algebra = record { inhabited = b.inhabited; small = lit≤ tt; few = b.few; each = b.each; names = b.names }; names = inl refl }
 
-block_spelled : (n : ℕ) → AreSpelled forms_built (block (drawn_block n))
+block_spelled : (n : ℕ) → AreSpelled (block (drawn_block n))
 unfolding drawn_block
 block_spelled n =
     let t = (tables n).tables in
     let first = drawn_operation 3 n 0 2 in
     let second = drawn_operation 3 (state_after n 9) 1 1 in
     let the_end = sign roles.Line (codes "end") ∷ [] in
-    let rest = spelled_both forms_built (operation [] second) the_end (spelled_operation forms_built [] second t.1.0 (numbered-is_name 1 (lit< tt))) (refl, tt) in
-    let both = spelled_both forms_built (operation [] first) (operation [] second ++ the_end) (spelled_operation forms_built [] first t.0 (numbered-is_name 0 (lit< tt))) rest in
-    ((0, lit< tt, refl), (refl, (refl, (lit< tt, both))))
+    let rest = spelled_both (operation [] second) the_end (spelled_operation [] second t.1.0 (numbered-is_name 1 (lit< tt))) (refl, tt) in
+    let both = spelled_both (operation [] first) (operation [] second ++ the_end) (spelled_operation [] first t.0 (numbered-is_name 0 (lit< tt))) rest in
+    (refl, (refl, (refl, (lit< tt, both))))
 
 -- the vectors are numbers
-entries_spelled : (s : ℕ) (is : List ℕ) (rest : List Wanted) → AreSpelled forms_built rest
-    → AreSpelled forms_built (map entry_sign (map entry (map (λ i. drawn 3 (state_after s i)) is)) ++ sign roles.Closes (codes "]") ∷ rest)
+entries_spelled : (s : ℕ) (is : List ℕ) (rest : List Wanted) → AreSpelled rest
+    → AreSpelled (map entry_sign (map entry (map (λ i. drawn 3 (state_after s i)) is)) ++ sign roles.Closes (codes "]") ∷ rest)
 entries_spelled s [] rest h = (refl, h)
 entries_spelled s (i ∷ is) rest h =
     let low : drawn 3 (state_after s i) < 3 = mod-lt (next_state (state_after s i) / 2 ^ 16) (lit< tt) in
     (omega (arith, low), entries_spelled s is rest h)
 
-vectors_spelled : (s : ℕ) (is : List ℕ) → AreSpelled forms_built (flat_map vector (map (λ i. drawn_vector (state_after s (7 * i))) is) ++ sign roles.Mode (codes "count") ∷ [])
+vectors_spelled : (s : ℕ) (is : List ℕ) → AreSpelled (flat_map vector (map (λ i. drawn_vector (state_after s (7 * i))) is) ++ sign roles.Mode (codes "count") ∷ [])
 unfolding drawn_vector
-vectors_spelled s [] = ((3, lit< tt, refl), tt)
+vectors_spelled s [] = (refl, tt)
 vectors_spelled s (i ∷ is) = (refl, entries_spelled (state_after s (7 * i)) (range_with_len 0 7) _ (vectors_spelled s is))
 
-closing_spelled : (s : ℕ) → AreSpelled forms_built (command (closing (drawn_vectors s 4)))
+closing_spelled : (s : ℕ) → AreSpelled (command (closing (drawn_vectors s 4)))
 unfolding drawn_vectors
-closing_spelled s = ((4, lit< tt, refl), (refl, (lit< tt, vectors_spelled s (range_with_len 0 4))))
+closing_spelled s = (refl, (refl, (lit< tt, vectors_spelled s (range_with_len 0 4))))
 
 entries_formed : (vs : List ℕ) → AllByRecursion (IsEntry 1) (map entry vs)
 entries_formed [] = tt
@@ -98,14 +98,14 @@ named_apart : (n : ℕ) → IsDistinct (pointwise nat_eq) ((drawn_block n).algeb
 unfolding drawn_block IsDistinct
 named_apart n = (tt, tt)
 
-pub generated_formed : (n : ℕ) → IsWellFormed forms_built (generated n)
+pub generated_formed : (n : ℕ) → IsWellFormed (generated n)
 unfolding generated
 generated_formed n =
     let close = command (closing (drawn_vectors (state_after n values_drawn) 4)) in
-    let behind = spelled_both forms_built close (command congruences) (closing_spelled (state_after n values_drawn)) ((15, lit< tt, refl), (refl, tt)) in
+    let behind = spelled_both close (command congruences) (closing_spelled (state_after n values_drawn)) (refl, (refl, tt)) in
     record {
       known = inl refl;
-      spelled = spelled_both forms_built (block (drawn_block n)) (close ++ command congruences) (block_spelled n) behind;
+      spelled = spelled_both (block (drawn_block n)) (close ++ command congruences) (block_spelled n) behind;
       each = (block_formed n, (closing_formed (state_after n values_drawn), ((tt, (tt, tt)), tt)));
       names = named_apart n;
     }
@@ -113,7 +113,7 @@ generated_formed n =
 -- it is served as any script that is read
 pub generated_served : (n : ℕ) → AllByRecursion IsServed (generated n).items
 unfolding generated drawn_block drawn_vectors
-generated_served n = (tables n, (lit≤ tt, (tt, tt)))
+generated_served n = (tables n, ((tt, (tt, (tt, (lit≤ tt, (tt, tt))))), ((tt, (tt, tt)), tt)))
 
 -- a script of these items
 pub generated_from : (n : ℕ) (b : Block) (c d : Command) (is : List Item) → b ≡ drawn_block n → c ≡ closing (drawn_vectors (state_after n values_drawn) 4) → d ≡ congruences

@@ -12,10 +12,11 @@ use Rattle.ua_script.specs.declared.script.Script.{Script}
 use Rattle.ua_words.specs.declared.words.Settings.{Settings}
 use Rattle.ua_words.specs.declared.words.TheConstants.{USUAL_BUDGET}
 use Rattle.ua_words.specs.Words.{Budget, value_of, IsNumber, Asks}
-use Rattle.ua_reply.specs.Sessions.{Bounds, bounds_of, AreAlgebras, AreBounds}
+use Rattle.ua_reply.specs.Sessions.{Bounds, AreAlgebras, AreBounds}
 use Rattle.ua_reply.specs.Replies.{HasBytes}
 use Rattle.ua_answer_algebras.specs.MakeCommand.{HasReply}
 use Rattle.ua_answer.specs.Replies.{IsBuilt, Reply}
+use Rattle.ua_shell.specs.Runs.{bounds_in}
 use Rattle.ua_shell.specs.Outputs.{OutputFrom, BegunFrom, HasOutput}
 use Rattle.ua_shell.specs.inner.Outputs.{IsServed}
 use Rattle.ua_shell.proofs.Serving.{begun_none}
@@ -30,7 +31,7 @@ within : (budget : Option (List ℕ)) (n : ℕ) → IsNumber USUAL_BUDGET BUDGET
 within None n h = rw h (lit≤ tt, lit≤ tt)
 within (Some text) n h = (h.1, h.0.1)
 
-pub bounds_asked : (words : List (List ℕ)) (settings : Settings) → Asks words settings → AreBounds (bounds_of settings.budget settings.workers)
+pub bounds_asked : (words : List (List ℕ)) (settings : Settings) → Asks words settings → AreBounds (bounds_in settings)
 bounds_asked words settings h = let w = within (value_of Budget h.choices) settings.budget h.budget in record { some = w.0; few = w.1 }
 
 module _ (one : EachReplied) (left : EachLeaves) (b : Bounds) (bounds : AreBounds b) where

@@ -6,10 +6,10 @@ use denote.Hole.{as_row}
 use denote.RattleType.{RattleType}
 use denote.Param.{param}
 use denote.Param.Send.{IsSync, sendable, shr_sync, shr_slice_sync}
-use denote.Param.SendFields.{FieldsHave, declared_sync, variants_sync, as_row_sync}
+use denote.Param.SendFields.{declared_sync, variants_sync, as_row_sync}
 use denote.Ref.{NamedLft}
 use denote.Struct.Field.{row_field, shr_ref_field, shr_slice_field}
-use denote.Struct.Tuple.{parts, type_at, TupleAt}
+use denote.Struct.Tuple.{type_at, TupleAt}
 use Rattle.std.specs.contracts.alloc.Global as heap
 use Rattle.ua_table.specs.contracts.runs.Run as run
 use Rattle.ua_table.proofs.runs.Run.TheSendSync as run_shared
@@ -36,5 +36,11 @@ pub work_sync : (R G : RattleType) (a b d e f h i j : NamedLft) → IsSync (para
 work_sync R G a b d e f h i j r s =
     declared_sync (type_at (codes "ua_shell::batches::fn::replies_to::work+Self") (held R G a b d e f h i j)) (
       ref_sync a (param 0 R) tt r,
-      (ref_sync b heap.the_row tt sync, (slice_sync d (heard.the_row e) tt (heard_sync e), (ref_sync f (run.the_row h (param 1 G)) tt (run_shared.the_sync h (param 1 G) s), (ref_sync i (session.the_row j) tt (session_shared.the_sync j), tt)))),
+      (
+        ref_sync b heap.the_row tt sync,
+        (
+          slice_sync d (heard.the_row e) tt (heard_sync e),
+          (ref_sync f (run.the_row h (param 1 G)) tt (run_shared.the_sync h (param 1 G) s), (ref_sync i (session.the_row j) tt (session_shared.the_sync j), tt)),
+        ),
+      ),
     )

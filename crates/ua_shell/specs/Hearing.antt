@@ -1,12 +1,10 @@
 -- What was heard of commands, and what is told of it.
 use Rattle.std.specs.Prelude.{◌≡◌, ℕ, List, take}
 use Rattle.ua_text.specs.declared.named.Block.{Block}
-use Rattle.ua_script.specs.declared.script.Item.TheVariants as items
 use Rattle.ua_reply.specs.Sessions.{Bounds}
 use Rattle.ua_answer.specs.Replies.{PlainReply}
 use Rattle.ua_shell.specs.declared.hearing.Heard.{Heard}
 use Rattle.ua_shell.specs.declared.hearing.Heard.TheVariants.{Said, Asked}
-use Rattle.ua_shell.specs.declared.serve.Served.TheVariants as served
 
 -- the bytes are what was said, or a reply to what was asked, in the session of the blocks that it sees
 abbrev pub Tells : List Block → Bounds → Heard → List ℕ → Type 0

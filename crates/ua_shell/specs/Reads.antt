@@ -8,8 +8,7 @@ use Rattle.ua_text.specs.Pieces.{tokens_of}
 use Rattle.ua_text.specs.Tokens.{end_of}
 use Rattle.ua_text.specs.Languages.{IsFault}
 use Rattle.ua_script.specs.declared.script.Script.{Script}
-use Rattle.ua_script.specs.Grammar.{IsScript, scripts, forms_built}
-use Rattle.ua_shell.specs.declared.status.Status.TheVariants as status
+use Rattle.ua_script.specs.Grammar.{IsScript, scripts}
 use Rattle.ua_shell.specs.Generated.{generated}
 
 -- the bytes are all that the source had
@@ -22,13 +21,13 @@ pub record IsWhole {S : Type 0} (left : S → Option (List ℕ)) (old new : S) (
 pub record IsRead {S : Type 0} (left : S → Option (List ℕ)) (old new : S) (script : Script) : Type 0 where
   pub bytes : List ℕ
   pub whole : IsWhole left old new bytes
-  pub is_script : IsScript forms_built bytes script
+  pub is_script : IsScript bytes script
 
 -- what the source had is no script, from this place on and for this reason
 pub record IsNoScript {S : Type 0} (left : S → Option (List ℕ)) (old new : S) (fault : TextFault) : Type 0 where
   pub bytes : List ℕ
   pub whole : IsWhole left old new bytes
-  pub is_fault : IsFault (scripts forms_built) (tokens_of bytes) (end_of bytes) fault
+  pub is_fault : IsFault scripts (tokens_of bytes) (end_of bytes) fault
 
 -- the script is what the source had; or it is the one that is generated, and nothing is read
 abbrev pub IsAsked : {S : Type 0} → (S → Option (List ℕ)) → Option ℕ → S → S → Script → Type 0
@@ -41,7 +40,7 @@ pub record HasScript {S : Type 0} (left : S → Option (List ℕ)) (faults : S �
   pub has : left old ≡ Some bytes
   pub within : length bytes ≤ SCRIPT
   pub script : Script
-  pub is_script : IsScript forms_built bytes script
+  pub is_script : IsScript bytes script
   pub quiet : Rose (faults old) (faults new) → ⊥
 
 -- a script is there: that of the source, or the generated one

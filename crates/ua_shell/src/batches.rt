@@ -36,7 +36,7 @@ fn reply_to<R: Threads + Sync, G: Gate>(
     session: &Session<'_>,
 ) -> Result<Vec<u8>, AllocError>
     requires { IsReady session.now heard.now }
-    ensures { IfOk result (λ v. Tells session.now (bounds_of run.now.budget run.now.workers) heard.now v.items) }
+    ensures { IfOk result (λ v. Tells session.now (bounds_of run.now) heard.now v.items) }
 {
     match heard {
         Heard::Said(reply) => Vec::from_slice(alloc, reply),
@@ -67,11 +67,11 @@ fn replies_to<R: Threads + Wait + Sync, G: Gate>(
     requires ready { AllByRecursion (IsReady session.now) heard.now }
     requires some { 1 ≤ jobs }
     requires pool { jobs ≤ WORKERS }
-    ensures { IfOk result (λ replies. AnswerEach (Tells session.now (bounds_of run.now.budget run.now.workers)) heard.now (map (λ v. v.items) replies.items)) }
+    ensures { IfOk result (λ replies. AnswerEach (Tells session.now (bounds_of run.now)) heard.now (map (λ v. v.items) replies.items)) }
 {
     let work = |number: u32|
         requires { IsSync R.row × IsSync G.row × AllByRecursion (IsReady session.now) heard.now × (number < length heard.now) }
-        ensures { IfOk result (IsAnswer (λ (h : Heard) v. Tells session.entry.now (bounds_of run.entry.now.budget run.entry.now.workers) h v.items) heard.entry.now number) }
+        ensures { IfOk result (IsAnswer (λ (h : Heard) v. Tells session.entry.now (bounds_of run.entry.now) h v.items) heard.entry.now number) }
     { reply_to(rt, alloc, &heard[number as usize], run, session) };
     batch_with(rt, alloc, heard.len() as u32, jobs, &FreeGate, &work)
 }
@@ -104,7 +104,7 @@ fn tell<R: Threads + Wait + Sync, K: Sink, G: Gate>(
     requires ready { AllByRecursion (IsReady session.now) heard.now }
     requires some { 1 ≤ jobs }
     requires pool { jobs ≤ WORKERS }
-    ensures told { TellsAll K.written K.faults session.now (bounds_of run.now.budget run.now.workers) heard.now sink.old sink.new result }
+    ensures told { TellsAll K.written K.faults session.now (bounds_of run.now) heard.now sink.old sink.new result }
     ensures never_falls { K.faults sink.old ≤ K.faults sink.new }
 {
     let Ok(replies) = replies_to(rt, alloc, heard, run, jobs, session) else {
@@ -132,7 +132,7 @@ fn serve_batches<R: Threads + Wait + Sync, K: Sink, G: Gate>(
     requires served { AllByRecursion IsServed items.now }
     requires some { 1 ≤ jobs }
     requires pool { jobs ≤ WORKERS }
-    ensures { Serves K.written K.faults (bounds_of run.now.budget run.now.workers) items.now sink.old sink.new result }
+    ensures { Serves K.written K.faults (bounds_of run.now) items.now sink.old sink.new result }
 {
     let mut session = Session::new(alloc);
     let mut heard = Vec::new(alloc);
@@ -163,7 +163,7 @@ pub fn serve_items<R: Threads + Wait + Sync, K: Sink, G: Gate>(
     requires served { AllByRecursion IsServed items.now }
     requires some { 1 ≤ jobs }
     requires pool { jobs ≤ WORKERS }
-    ensures { Serves K.written K.faults (bounds_of run.now.budget run.now.workers) items.now sink.old sink.new result }
+    ensures { Serves K.written K.faults (bounds_of run.now) items.now sink.old sink.new result }
 {
     match jobs {
         1 => serve(rt, alloc, items, run, sink),

@@ -2,7 +2,7 @@
 
 ghost use Rattle.std.specs.Prelude.{◌≡◌, ◌≤◌, codes, IfOk, OnOk};
 ghost use Rattle.ua_prod.specs.Draws.{state_after};
-ghost use Rattle.ua_script.specs.Grammar.{forms_built, IsWellFormed};
+ghost use Rattle.ua_script.specs.Grammar.{IsWellFormed};
 ghost use Rattle.ua_words.specs.declared.words.TheConstants.{SEED};
 ghost use Rattle.ua_shell.specs.Generated.{word, number, values_drawn, drawn_block, drawn_vector, drawn_vectors, closing, congruences, generated};
 
@@ -128,7 +128,7 @@ fn congruences(alloc: Global) -> Result<Command, AllocError>
 pub fn generated_script(alloc: Global, n: u32) -> Result<Script, AllocError>
     requires { n ≤ SEED }
     ensures script { IfOk result (λ script. script ≡ generated n) }
-    ensures formed { IfOk result (λ script. IsWellFormed forms_built script) }
+    ensures formed { IfOk result (λ script. IsWellFormed script) }
 {
     let mut lcg = Lcg::new(n);
     let block = drawn_block(alloc, &mut lcg)?;

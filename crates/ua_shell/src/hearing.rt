@@ -32,7 +32,7 @@ pub(crate) fn answer_now<'a, R: Threads + Sync, G: Gate>(
     session: &Session<'_>,
 ) -> Result<Answered<'a>, AllocError>
     requires { IsBuilt command.now }
-    ensures reply { IfOk result (λ v. Reply session.now (bounds_of run.now.budget run.now.workers) command.now v.reply.items (left_by session.now v.made)) }
+    ensures reply { IfOk result (λ v. Reply session.now (bounds_of run.now) command.now v.reply.items (left_by session.now v.made)) }
     ensures named { IfOk result (λ v. IsNamedRight v.made) }
 {
     let scope = Scope::new(session, session.len());
@@ -68,7 +68,7 @@ fn hear_command<'a, R: Threads + Sync, G: Gate>(
     session: &mut Session<'a>,
 ) -> Result<Heard<'a>, AllocError>
     requires { IsBuilt command.now }
-    ensures { IfOk result (IsHeard (bounds_of run.now.budget run.now.workers) command.now session.old session.new) }
+    ensures { IfOk result (IsHeard (bounds_of run.now) command.now session.old session.new) }
 {
     match command {
         Command::Make {
@@ -97,7 +97,7 @@ pub(crate) fn hear<'a, R: Threads + Sync, G: Gate>(
     heard: &mut Vec<Heard<'a>>,
 ) -> Result<(), AllocError>
     requires { IsServed item.now }
-    ensures { OnOk result (Hears (bounds_of run.now.budget run.now.workers) item.now session.old session.new heard.old.items heard.new.items) }
+    ensures { OnOk result (Hears (bounds_of run.now) item.now session.old session.new heard.old.items heard.new.items) }
 {
     match item {
         Item::Block(block) => session.introduce(block)?,

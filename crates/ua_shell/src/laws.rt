@@ -5,9 +5,10 @@ ghost use Rattle.ua_table.specs.declared.limits.TheConstants.{SCRIPT};
 ghost use Rattle.ua_words.specs.declared.words.Settings.{Settings};
 ghost use Rattle.ua_words.specs.Words.{Asks};
 ghost use Rattle.ua_script.specs.declared.script.Script.{Script};
-ghost use Rattle.ua_script.specs.Grammar.{forms_built, migrated, IsScript};
-ghost use Rattle.ua_reply.specs.Sessions.{Bounds, bounds_of, AreBounds};
+ghost use Rattle.ua_script.specs.Grammar.{migrated, IsScript};
+ghost use Rattle.ua_reply.specs.Sessions.{Bounds, AreBounds};
 ghost use Rattle.ua_shell.specs.Generated.{generated};
+ghost use Rattle.ua_shell.specs.Runs.{bounds_in};
 ghost use Rattle.ua_shell.specs.Outputs.{Output, BegunOutput, HasOutput};
 
 use std::alloc::Global;
@@ -21,8 +22,8 @@ pub fn migration()
 /// For the bounds that words ask for, each text that is a script has an output, and so has the script that is generated from
 /// a number; and each beginning of an output is the front of one. The allocator serves to speak of an answer in memory.
 pub fn outputs(alloc: Global)
-    ensures bounds { (words : List (List ℕ)) (settings : Settings) → Asks words settings → AreBounds (bounds_of settings.budget settings.workers) }
-    ensures read { (b : Bounds) (bytes : List ℕ) (script : Script) → AreBounds b → length bytes ≤ SCRIPT → IsScript forms_built bytes script → HasOutput b script }
+    ensures bounds { (words : List (List ℕ)) (settings : Settings) → Asks words settings → AreBounds (bounds_in settings) }
+    ensures read { (b : Bounds) (bytes : List ℕ) (script : Script) → AreBounds b → length bytes ≤ SCRIPT → IsScript bytes script → HasOutput b script }
     ensures generated { (b : Bounds) (n : ℕ) → AreBounds b → HasOutput b (generated n) }
 {
     ua_answer::laws::replies(alloc);

@@ -31,7 +31,7 @@ pub fn serve<R: Threads + Sync, K: Sink, G: Gate>(
     sink: &mut K,
 ) -> Served
     requires { AllByRecursion IsServed items.now }
-    ensures { Serves K.written K.faults (bounds_of run.now.budget run.now.workers) items.now sink.old sink.new result }
+    ensures { Serves K.written K.faults (bounds_of run.now) items.now sink.old sink.new result }
 {
     let mut session = Session::new(alloc);
     for item in items {

@@ -1,4 +1,4 @@
-use Rattle.ua_answer.proofs.CertExists.{cert_replied}
+use Rattle.ua_answer.proofs.QuestionsExist.{cert_replied}
 use Rattle.ua_answer.proofs.laws.certificates.Goals as goal
 
 pub returns : goal.returns

@@ -14,5 +14,5 @@ returns g c =
     let p = power_of k c.args.width.value in
     let cause = subst (λ (v : VectorList). IsCause p v.items run.budget c.in-Err.cause) c.in_ok-vectors.ensures.values c.in-Err.ensures.cause in
     IfOk-weaker c.cause_reply.result _ _
-    (λ v text. cause_answered k (bounds_of run.budget run.workers) p (vectors_of k c.args.gens.now) c.args.mode c.in-Err.cause v.items cause text)
+    (λ v text. cause_answered k (bounds_of run) p (vectors_of k c.args.gens.now) c.args.mode c.in-Err.cause v.items cause text)
     c.cause_reply.ensures

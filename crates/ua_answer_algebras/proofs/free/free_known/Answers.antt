@@ -14,5 +14,5 @@ returns-in-Err g c =
     let n = c.args.count.value in
     let cause = subst (λ (a : FiniteAlgebra). IsCause (power_of_assignments a n) (projections a.size n) run.budget c.in-Err.cause) c.algebra.ensures c.in-Err.ensures.cause in
     IfOk-weaker c.cause_reply.result _ _
-    (λ v text. cause_answered k (bounds_of run.budget run.workers) (power_of_assignments k.algebra n) (projections k.algebra.size n) c.args.mode c.in-Err.cause v.items cause text)
+    (λ v text. cause_answered k (bounds_of run) (power_of_assignments k.algebra n) (projections k.algebra.size n) c.args.mode c.in-Err.cause v.items cause text)
     c.cause_reply.ensures

@@ -25,7 +25,8 @@ returns-in-Ok-clause-reply g c =
     let right : lookup s second.name ≡ Some l = sym (c.in-Some-find.ensures ∙ ap (lookup s) c.text-2.ensures.text) in
     let none = found_passes (lookup s first.name) k first.place (λ k. checks_in (lookup s second.name) second.place (λ l. passed)) left (found_passes (lookup s second.name) l second.place (λ l. passed) right refl) in
     let product = subst (λ (q : List ℕ × FiniteAlgebra × FiniteAlgebra). MayProduct q.0 q.1 q.2 (Ok made)) (λ i. (c.in_ok-copy.ensures i, c.algebra.ensures i, c.algebra-2.ensures i)) c.in-Ok.ensures in
-    let may = found_of (lookup s first.name) k (λ k. Of (lookup s second.name) (λ l. MayProduct name.name k.algebra l.algebra (Ok made))) left (found_of (lookup s second.name) l (λ l. MayProduct name.name k.algebra l.algebra (Ok made)) right product) in
+    let inner = found_of (lookup s second.name) l (λ l. MayProduct name.name k.algebra l.algebra (Ok made)) right product in
+    let may = found_of (lookup s first.name) k (λ k. Of (lookup s second.name) (λ l. MayProduct name.name k.algebra l.algebra (Ok made))) left inner in
     IfOk-weaker c.introduced.result _ _
     (λ v both. makes s c.args.place name (Product first second) (Ok made) v.reply.items (left_by s v.made) none may (ap Some (sym both.0)) both.1)
     (both_ok (λ (v : Answered). v.reply.items ≡ printed (block (unnamed made))) (λ (v : Answered). left_by s v.made ≡ s ++ unnamed made ∷ []) c.introduced.result c.introduced.ensures.reply (c.introduced.ensures.made s))

@@ -37,7 +37,7 @@ membership-answer-requires-clause-target g c κs within =
 pub returns : goal.returns
 returns g c =
     let s = c.args.context.now.session.now in
-    let b = bounds_of c.args.context.now.run.now.budget c.args.context.now.run.now.workers in
+    let b = bounds_of c.args.context.now.run.now in
     let k = c.in-Some.known.now in
     let known = sym (c.in-Some.ensures ∙ ap (lookup s) c.text.ensures.text) in
     let w = positive c.args.width in

@@ -1,4 +1,4 @@
-use Rattle.std.proofs.Common.{◌≡◌, min, map, take, sym, ap, ◌∙◌, arith}
+use Rattle.std.proofs.Common.{◌≡◌, map, take, sym, ap, ◌∙◌, arith}
 use Rattle.std.proofs.lemmas.List.{take_min, take-map}
 use Rattle.ua_reply.specs.Operands.{value_of}
 use Rattle.ua_answer_conditions.proofs.clone.arguments_of.Goals as goal

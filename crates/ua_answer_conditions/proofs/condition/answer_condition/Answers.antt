@@ -16,11 +16,12 @@ decided-answer-requires-clause-checks g c κs within =
 pub returns : goal.returns
 returns g c =
     let s = c.args.context.now.session.now in
-    let b = bounds_of c.args.context.now.run.now.budget c.args.context.now.run.now.workers in
+    let b = bounds_of c.args.context.now.run.now in
     let known = sym (c.in-Some.ensures ∙ ap (lookup s) c.text.ensures.text) in
     let k = c.args.arity in
     let is = c.args.identities.now in
     let none = sym (c.in_default-refusal.ensures.first (condition_checks k is) (c.and-errors.ensures.first (arity_in k) (all_in (identity_in k) is) c.arity_in.ensures c.identities_in.ensures)) in
     IfOk-weaker c.member_reply.result _ _
-    (λ v text. known_answered s c.args.algebra.now (λ known. condition_checks k is) (λ known. ConditionAnswer known b (condition_of k is)) c.in-Some.known.now v.items known none (record { answer = c.decided-answer.result; permitted = c.decided-answer.ensures; told = text }))
+    (λ v text. known_answered s c.args.algebra.now (λ known. condition_checks k is) (λ known. ConditionAnswer known b (condition_of k is))
+    c.in-Some.known.now v.items known none (record { answer = c.decided-answer.result; permitted = c.decided-answer.ensures; told = text }))
     c.member_reply.ensures

@@ -25,7 +25,9 @@ unreachable-requires c =
     let k = c.args.arity in
     let is = c.args.identities.now in
     let few = c.variables_in-variables.ensures in
-    let all : c.loop-identity.made.items ≡ map (identity_of (variables_in is)) is = c.loop-identity.invariant ∙ ap (map (identity_of c.variables_in-variables.result)) (take_all c.loop-identity.identity-index is c.loop-identity-test.false) ∙ ap (λ n. map (identity_of n) is) few.variables in
+    let whole = take_all c.loop-identity.identity-index is c.loop-identity-test.false in
+    let all : c.loop-identity.made.items ≡ map (identity_of (variables_in is)) is =
+    c.loop-identity.invariant ∙ ap (map (identity_of c.variables_in-variables.result)) whole ∙ ap (λ n. map (identity_of n) is) few.variables in
     let made = subst (λ is. IsCondition (record { arity = k.value; identities = is })) (sym all) (is_condition k is c.requires.checks c.requires.some (subst (λ n. n ≤ 4) few.variables few.small)) in
     let none = c.in_default.ensures.made.1 made in
     cc

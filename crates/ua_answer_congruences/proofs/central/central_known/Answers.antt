@@ -13,7 +13,7 @@ pub returns-in-Refused-2 : goal.returns-in-Refused-2
 returns-in-Refused-2 g c =
     let run = c.args.context.now.run.now in
     let k = c.args.known.now in
-    let b = bounds_of run.budget run.workers in
+    let b = bounds_of run in
     let alpha = c.args.alpha.now in
     let beta = c.args.beta.now in
     let delta = c.args.delta.now in
@@ -27,7 +27,7 @@ pub returns-in-Refused-3 : goal.returns-in-Refused-3
 returns-in-Refused-3 g c =
     let run = c.args.context.now.run.now in
     let k = c.args.known.now in
-    let b = bounds_of run.budget run.workers in
+    let b = bounds_of run in
     let alpha = c.args.alpha.now in
     let beta = c.args.beta.now in
     let delta = c.args.delta.now in
@@ -44,7 +44,7 @@ pub returns : goal.returns
 returns g c =
     let run = c.args.context.now.run.now in
     let k = c.args.known.now in
-    let b = bounds_of run.budget run.workers in
+    let b = bounds_of run in
     let alpha = c.args.alpha.now in
     let beta = c.args.beta.now in
     let delta = c.args.delta.now in

@@ -9,7 +9,7 @@ use Rattle.ua_answer_congruences.proofs.series.answer_series.Goals as goal
 pub returns : goal.returns
 returns g c =
     let s = c.args.context.now.session.now in
-    let b = bounds_of c.args.context.now.run.now.budget c.args.context.now.run.now.workers in
+    let b = bounds_of c.args.context.now.run.now in
     let k = c.in-Some.known.now in
     let kind = c.args.kind in
     let known = sym (c.in-Some.ensures ∙ ap (lookup s) c.text.ensures.text) in

@@ -11,4 +11,6 @@ loop-block-preserved c =
     let bs = c.args.blocks.now in
     let i = c.loop-block.block-index in
     let b = c.block-item.result in
-    first_more (block_in k) bs i b c.and-errors.result c.loop-block-test.true c.block-item.is (c.and-errors.ensures.first (all_in (block_in k) (take i bs)) (block_in k b) c.loop-block.invariant (subst (λ (ns : List Number). AreFirst (block_in k ns) c.block_in.result) c.as_slice.ensures c.block_in.ensures))
+    let here = subst (λ (ns : List Number). AreFirst (block_in k ns) c.block_in.result) c.as_slice.ensures c.block_in.ensures in
+    let both = c.and-errors.ensures.first (all_in (block_in k) (take i bs)) (block_in k b) c.loop-block.invariant here in
+    first_more (block_in k) bs i b c.and-errors.result c.loop-block-test.true c.block-item.is both

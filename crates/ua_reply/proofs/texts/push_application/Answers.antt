@@ -15,6 +15,15 @@ returns-in_default c =
 
 pub returns : goal.returns
 returns c =
-    let there : slice_get c.args.known.now.algebra.operations c.args.op ≡ Some c.in-Some.table.now = ap (λ ops. slice_get ops c.args.op) (sym (c.ops.ensures.operations ∙ ap (λ (a : FiniteAlgebra). a.operations) c.algebra.ensures)) ∙ slice_get_read c.ops.result.now (length c.ops.result.now) c.args.op c.in-Some.table.now refl c.in-Some.ensures.lookup.3.0 c.in-Some.ensures.lookup.1 in
-    c.in_ok-push_more.ensures ∙ ap (λ t. t ++ more_numbers (take c.arity.result c.args.args.now)) c.in_ok-extend_from_slice.ensures.items ∙ append_assoc c.args.out.now.items c.text.result.now (more_numbers (take c.arity.result c.args.args.now))
-    ∙ ap (λ t. c.args.out.now.items ++ t) (ap (λ t. t ++ more_numbers (take c.arity.result c.args.args.now)) (c.text.ensures.text ∙ c.name.ensures.name) ∙ ap (λ k. c.in-Some.table.now.name ++ more_numbers (take k c.args.args.now)) c.arity.ensures.arity ∙ sym (application_at c.args.known.now.algebra.operations c.args.op c.in-Some.table.now c.args.args.now there))
+    let operations = c.args.known.now.algebra.operations in
+    let table = c.in-Some.table.now in
+    let args = c.args.args.now in
+    let out = c.args.out.now.items in
+    let same = c.ops.ensures.operations ∙ ap (λ (a : FiniteAlgebra). a.operations) c.algebra.ensures in
+    let found = slice_get_read c.ops.result.now (length c.ops.result.now) c.args.op table refl c.in-Some.ensures.lookup.3.0 c.in-Some.ensures.lookup.1 in
+    let there : slice_get operations c.args.op ≡ Some table = ap (λ ops. slice_get ops c.args.op) (sym same) ∙ found in
+    let numbers = more_numbers (take c.arity.result args) in
+    let named = ap (λ t. t ++ numbers) (c.text.ensures.text ∙ c.name.ensures.name) in
+    let counted = ap (λ k. table.name ++ more_numbers (take k args)) c.arity.ensures.arity in
+    c.in_ok-push_more.ensures ∙ ap (λ t. t ++ numbers) c.in_ok-extend_from_slice.ensures.items ∙ append_assoc out c.text.result.now numbers
+    ∙ ap (λ t. out ++ t) (named ∙ counted ∙ sym (application_at operations c.args.op table args there))

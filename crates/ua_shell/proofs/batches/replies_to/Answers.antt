@@ -17,13 +17,14 @@ pub batch_with-requires-sync-F : goal.batch_with-requires-sync-F
 batch_with-requires-sync-F g c κs within =
     param_sync 3 _ (arg_sync _ no _ (work_sync g.row.R g.row.G
     (record { mir = named 7; lft = κs.1.1.1.1.1.1.1.0 }) (record { mir = named 8; lft = κs.1.1.1.1.1.1.1.1.0 }) (record { mir = named 9; lft = κs.1.1.1.1.1.1.1.1.1.0 }) (record { mir = named 10; lft = κs.1.1.1.1.1.1.1.1.1.1.0 })
-    (record { mir = named 11; lft = κs.1.1.1.1.1.1.1.1.1.1.1.0 }) (record { mir = named 12; lft = κs.1.1.1.1.1.1.1.1.1.1.1.1.0 }) (record { mir = named 13; lft = κs.1.1.1.1.1.1.1.1.1.1.1.1.1.0 }) (record { mir = named 14; lft = κs.1.1.1.1.1.1.1.1.1.1.1.1.1.1.0 })
+    (record { mir = named 11; lft = κs.1.1.1.1.1.1.1.1.1.1.1.0 }) (record { mir = named 12; lft = κs.1.1.1.1.1.1.1.1.1.1.1.1.0 })
+    (record { mir = named 13; lft = κs.1.1.1.1.1.1.1.1.1.1.1.1.1.0 }) (record { mir = named 14; lft = κs.1.1.1.1.1.1.1.1.1.1.1.1.1.1.0 })
     (search (c.type_bounds.sync-R, sendable)) (search (c.type_bounds.sync-G, sendable))))
 
 pub returns : goal.returns
 returns g c =
     let s = c.args.session.now in
-    let b = bounds_of c.args.run.now.budget c.args.run.now.workers in
+    let b = bounds_of c.args.run.now in
     let hs = c.args.heard.now in
     let permits : Heard → Vec ℕ Global → Type 0 = λ h v. Tells s b h v.items in
     IfOk-both c.batch_with.result _ _ _

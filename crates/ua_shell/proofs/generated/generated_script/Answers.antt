@@ -1,7 +1,7 @@
 use Rattle.std.proofs.Common.{sym, ap, subst, ◌∙◌}
 use Rattle.ua_prod.specs.Draws.{state_after}
 use Rattle.ua_script.specs.declared.script.Script.{Script}
-use Rattle.ua_script.specs.Grammar.{forms_built, IsWellFormed}
+use Rattle.ua_script.specs.Grammar.{IsWellFormed}
 use Rattle.ua_shell.specs.Generated.{values_drawn, drawn_block, drawn_vectors, closing}
 use Rattle.ua_shell.proofs.Generating.{generated_formed, generated_from}
 use Rattle.ua_shell.proofs.generated.generated_script.Goals as goal
@@ -16,4 +16,4 @@ returns-clause-script c =
     (c.new.ensures ∙ c.in_ok-items.ensures.items)
 
 pub returns-clause-formed : goal.returns-clause-formed
-returns-clause-formed c = subst (λ (s : Script). IsWellFormed forms_built s) (sym (returns-clause-script c)) (generated_formed c.args.n)
+returns-clause-formed c = subst (λ (s : Script). IsWellFormed s) (sym (returns-clause-script c)) (generated_formed c.args.n)
