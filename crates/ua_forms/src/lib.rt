@@ -1,4 +1,4 @@
-//! The words of the commands of scripts. A text of blocks alone has none of them, and says so of each.
+//! The words of the commands of scripts. The reader of a single block knows them only to say of each that its form is not built.
 #![tactic(auto)]
 
 ghost use Rattle.std.specs.Prelude.{◌≡◌, map};
@@ -32,7 +32,7 @@ const COMMAND_WORDS: &[&[u8]] = &[
     b"clone",
 ];
 
-/// The words of commands, in the order in which the documents list them.
+/// The words of commands.
 pub fn command_words() -> &'static [&'static [u8]]
     ensures { map (λ word. word.now) result.now ≡ command_words }
 {
