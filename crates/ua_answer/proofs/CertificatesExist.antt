@@ -2,7 +2,7 @@
 use Rattle.std.proofs.Common.{◌≡◌, ℕ, ◌≤◌, true, List, Option, Result, Ok, Err, refl}
 use Rattle.ua_table.specs.Algebras.{FiniteAlgebra}
 use Rattle.ua_table.specs.Tables.{IsAlgebraTable}
-use Rattle.ua_table.proofs.AlgebraLemmas.{power_product}
+use Rattle.ua_table.proofs.AlgebraLaws.{power_product}
 use Rattle.ua_chain.specs.Permitted.{MayChain}
 use Rattle.ua_close.specs.declared.close.CloseError.{CloseError}
 use Rattle.ua_close.specs.declared.close.CloseError.TheVariants.{Wide, OutOfMemory}

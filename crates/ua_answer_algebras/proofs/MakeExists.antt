@@ -5,7 +5,7 @@ use Rattle.std.specs.List.{AllByRecursion}
 use Rattle.std.specs.Option.{MatchOption}
 use Rattle.ua_table.specs.Algebras.{FiniteAlgebra, IsAlgebra, arities_of, value_at, signature}
 use Rattle.ua_table.specs.Refusals.{is_similar}
-use Rattle.ua_table.proofs.AlgebraLemmas.{similar-Decides}
+use Rattle.ua_table.proofs.AlgebraLaws.{similar-Decides}
 use Rattle.ua_part.specs.Partitions.{Partition, IsPartition}
 use Rattle.ua_part.specs.Blocks.{HasBlocks}
 use Rattle.ua_part.proofs.PartsExist.{part_with_blocks, part_has_blocks, part_size}

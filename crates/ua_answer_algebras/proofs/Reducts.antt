@@ -8,7 +8,7 @@ use Rattle.std.proofs.lemmas.List.{length-map}
 use Rattle.std.proofs.lemmas.List.Sums.{position_or_len_is}
 use Rattle.std.proofs.lemmas.List.Elements.{Contains-get_or}
 use Rattle.ua_table.specs.Algebras.{Operation, FiniteAlgebra, names_of}
-use Rattle.ua_text.proofs.WordLemmas.{same-true}
+use Rattle.ua_text.proofs.WordLaws.{same-true}
 use Rattle.ua_text.specs.declared.tokens.Place.{Place}
 use Rattle.ua_text.specs.declared.named.Block.{Block}
 use Rattle.ua_term.specs.Meanings.{operation_number, has_operation, first_place}

@@ -4,7 +4,7 @@ use Rattle.std.specs.Prelude.{codes}
 use Rattle.std.specs.List.{AllByRecursion}
 use Rattle.ua_table.specs.Algebras.{Vector, FiniteAlgebra, Product, IsAlgebra, IsProduct, IsVector}
 use Rattle.ua_table.specs.Terms.{eval}
-use Rattle.ua_table.proofs.AlgebraLemmas.{power_product}
+use Rattle.ua_table.proofs.AlgebraLaws.{power_product}
 use Rattle.ua_term.specs.Phrases.{Phrase}
 use Rattle.ua_term.specs.Meanings.{tree_in}
 use Rattle.ua_term.specs.Assignments.{projections, power_of_assignments}

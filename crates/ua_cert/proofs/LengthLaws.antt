@@ -103,7 +103,9 @@ module _ (n : ℕ) where
   step_gives (datum.array no_items) h = tt
   step_gives (datum.array (item d ds)) h =
       if_mapped reading.step (λ p. ⊤ × AreItems (λ _. ⊤) ds p.1) IsFewStep (λ p k. omega (arith, h, k.1.0)) _
-      (if_both (λ _. ⊤) (AreItems (λ _. ⊤) ds) (under (index_path 0) (reading.text_of d)) (items_from reading.number_of 1 ds) (any (under (index_path 0) (reading.text_of d))) (items_give (λ _. ⊤) reading.number_of (any_gives reading.number_of) 1 ds (omega (arith, h))))
+      (if_both (λ _. ⊤) (AreItems (λ _. ⊤) ds) (under (index_path 0) (reading.text_of d)) (items_from reading.number_of 1 ds)
+      (any (under (index_path 0) (reading.text_of d)))
+      (items_give (λ _. ⊤) reading.number_of (any_gives reading.number_of) 1 ds (omega (arith, h))))
 
   steps_give : Gives (StepsBelow n) (list_of step_of)
   steps_give d h = list_gives IsFewStep step_of step_gives d h
@@ -165,13 +167,41 @@ module _ (n : ℕ) where
   any_under read k d = record { holds = any (field read k d) }
 
   fields_give : (k : Kind) → Gives (HasListsBelow n) (certificates.fields_of k)
-  fields_give kind.Member d h = few_mapped certificates.member_with (HasListsBelow n) (few_both (vectors_under (codes "gens") d h) (few_both (steps_under (codes "steps") d h) (few_both (numbers_under (codes "target") d h) (any_under reading.number_of (codes "width") d)))) (λ p k. (k.0, k.1.0, k.1.1.0))
-  fields_give kind.NotMember d h = few_mapped certificates.not_member_with (HasListsBelow n) (few_both (vectors_under (codes "gens") d h) (few_both (vectors_under (codes "rows") d h) (few_both (numbers_under (codes "target") d h) (any_under reading.number_of (codes "width") d)))) (λ p k. (k.0, k.1.0, k.1.1.0))
-  fields_give kind.Listing d h = few_mapped certificates.listing_with (HasListsBelow n) (few_both (vectors_under (codes "gens") d h) (few_both (steps_under (codes "origins") d h) (few_both (numbers_under (codes "ranks") d h) (few_both (vectors_under (codes "rows") d h) (any_under reading.number_of (codes "width") d))))) (λ p k. (k.0, k.1.0, k.1.1.0, k.1.1.1.0))
-  fields_give kind.Condition d h = few_mapped certificates.condition_with (HasListsBelow n) (few_both (any_under reading.number_of (codes "k") d) (few_both (any_under reading.condition_name (codes "name") d) (steps_under (codes "steps") d h))) (λ p k. k.1.1)
-  fields_give kind.NoCondition d h = few_mapped certificates.no_condition_with (HasListsBelow n) (few_both (any_under reading.number_of (codes "k") d) (few_both (any_under reading.condition_name (codes "name") d) (vectors_under (codes "rows") d h))) (λ p k. k.1.1)
+  fields_give kind.Member d h =
+      few_mapped certificates.member_with (HasListsBelow n)
+      (few_both (vectors_under (codes "gens") d h)
+      (few_both (steps_under (codes "steps") d h)
+      (few_both (numbers_under (codes "target") d h) (any_under reading.number_of (codes "width") d))))
+      (λ p k. (k.0, k.1.0, k.1.1.0))
+  fields_give kind.NotMember d h =
+      few_mapped certificates.not_member_with (HasListsBelow n)
+      (few_both (vectors_under (codes "gens") d h)
+      (few_both (vectors_under (codes "rows") d h)
+      (few_both (numbers_under (codes "target") d h) (any_under reading.number_of (codes "width") d))))
+      (λ p k. (k.0, k.1.0, k.1.1.0))
+  fields_give kind.Listing d h =
+      few_mapped certificates.listing_with (HasListsBelow n)
+      (few_both (vectors_under (codes "gens") d h)
+      (few_both (steps_under (codes "origins") d h)
+      (few_both (numbers_under (codes "ranks") d h)
+      (few_both (vectors_under (codes "rows") d h) (any_under reading.number_of (codes "width") d)))))
+      (λ p k. (k.0, k.1.0, k.1.1.0, k.1.1.1.0))
+  fields_give kind.Condition d h =
+      few_mapped certificates.condition_with (HasListsBelow n)
+      (few_both (any_under reading.number_of (codes "k") d)
+      (few_both (any_under reading.condition_name (codes "name") d) (steps_under (codes "steps") d h)))
+      (λ p k. k.1.1)
+  fields_give kind.NoCondition d h =
+      few_mapped certificates.no_condition_with (HasListsBelow n)
+      (few_both (any_under reading.number_of (codes "k") d)
+      (few_both (any_under reading.condition_name (codes "name") d) (vectors_under (codes "rows") d h)))
+      (λ p k. k.1.1)
   fields_give kind.Chain d h = few_mapped certificates.chain_with (HasListsBelow n) (few_both (any_under reading.chain_name (codes "name") d) (terms_under (codes "terms") d h)) (λ p k. k.1)
-  fields_give kind.NoChain d h = few_mapped certificates.no_chain_with (HasListsBelow n) (few_both (numbers_under (codes "even") d h) (few_both (any_under reading.chain_name (codes "name") d) (few_both (numbers_under (codes "odd") d h) (vectors_under (codes "rows") d h)))) (λ p k. (k.1.1.1, k.0, k.1.1.0))
+  fields_give kind.NoChain d h =
+      few_mapped certificates.no_chain_with (HasListsBelow n)
+      (few_both (numbers_under (codes "even") d h)
+      (few_both (any_under reading.chain_name (codes "name") d) (few_both (numbers_under (codes "odd") d h) (vectors_under (codes "rows") d h))))
+      (λ p k. (k.1.1.1, k.0, k.1.1.0))
 
   keyed_gives : (o : Option (List ℕ)) (r : Reading Cert) → IfRead (HasListsBelow n) r → IfRead (HasListsBelow n) (certificates.keyed o r)
   keyed_gives None r h = h

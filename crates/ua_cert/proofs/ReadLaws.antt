@@ -89,7 +89,10 @@ module _ {X : Type 0} (read : Data → Reading X) (first : ℕ) (values : List V
   range_read whole xs p i h w = w ∙ ap (λ vs. resume xs (Some p) (items_from read (first + i) (items_view vs))) (drop_all i values h)
 
 -- a step by its first item and the others
-pub step_split : (values : List Value) (v : Value) → 1 ≤ length values → v ≡ get_or values 0 v → step_from (items_view values) ≡ mapped step (both (under (index_path 0) (text_of (view v))) (items_from number_of 1 (items_view (take (length values - 1) (drop 1 values)))))
+pub step_split : (values : List Value) (v : Value) → 1 ≤ length values → v ≡ get_or values 0 v
+    → step_from (items_view values)
+    ≡ mapped step
+    (both (under (index_path 0) (text_of (view v))) (items_from number_of 1 (items_view (take (length values - 1) (drop 1 values)))))
 step_split [] v h e = absurd (omega (arith, h))
 step_split (w ∷ ws) v h e =
     let count : length (w ∷ ws) - 1 ≡ length ws = omega arith in

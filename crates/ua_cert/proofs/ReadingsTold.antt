@@ -13,8 +13,10 @@ use Rattle.ua_cert.specs.declared.kinds.Kind.TheVariants as kind
 use Rattle.ua_cert.specs.declared.faults.CertError.{CertError}
 use Rattle.ua_cert.specs.declared.faults.CertError.TheVariants as error
 use Rattle.ua_cert.specs.declared.faults.FieldError.TheVariants as fault
-use Rattle.ua_cert.specs.Reading.{Reading, under, both, mapped, word_of, number_in, number_of, text_in, text_of, index_path, items_from, list_in, list_of, step, step_from, step_in, step_of, after, found, field, named, condition_names, condition_name, chain_names, chain_name, keys_of, first_unlike}
-use Rattle.ua_cert.specs.Certificates.{kind_names, kind_name, keys_for, numbers, vectors, steps, member_with, not_member_with, listing_with, condition_with, no_condition_with, chain_with, no_chain_with, fields_of, keyed, object_of, cert_of, IsTold}
+use Rattle.ua_cert.specs.Reading.{Reading, under, both, mapped, word_of, number_in, number_of, text_in, text_of, index_path, items_from, list_in, list_of, step, step_from, step_in}
+use Rattle.ua_cert.specs.Reading.{step_of, after, found, field, named, condition_names, condition_name, chain_names, chain_name, keys_of, first_unlike}
+use Rattle.ua_cert.specs.Certificates.{kind_names, kind_name, keys_for, numbers, vectors, steps, member_with, not_member_with, listing_with, condition_with, no_condition_with}
+use Rattle.ua_cert.specs.Certificates.{chain_with, no_chain_with, fields_of, keyed, object_of, cert_of, IsTold}
 
 -- it is a value, or a fault of the text
 abbrev IsSaid : {X : Type 0} → Reading X → Type 0

@@ -4,7 +4,8 @@ use Rattle.std.specs.Prelude.{⊤, option_map, option_and_then}
 use Rattle.std.specs.Ordering.{nat_cmp, match_ordering}
 use Rattle.std.specs.Cmp.Lexicographic.{slice_cmp}
 use Rattle.json.specs.Token.{Token, begin_object, end_object, begin_array, end_array, key, string, number, boolean, null, bad}
-use Rattle.json.specs.Lex.{Lexeme, token, comma, colon, Class, quote, backslash, operator, space, other, Mode, between, in_word, in_string, in_escape, class, lex_byte, lex, Place, fresh, after_value, after_comma, after_key, begins_colon, may_begin, may_close, if_allowed, place_token, punctuate, tokens}
+use Rattle.json.specs.Lex.{Lexeme, token, comma, colon, Class, quote, backslash, operator, space, other, Mode, between, in_word, in_string, in_escape, class, lex_byte, lex, Place}
+use Rattle.json.specs.Lex.{fresh, after_value, after_comma, after_key, begins_colon, may_begin, may_close, if_allowed, place_token, punctuate, tokens}
 use Rattle.json.specs.Json as json
 use Rattle.json.specs.Json.{value}
 use Rattle.json.specs.Tree.{json_tokens, items_tokens, members_tokens}
@@ -151,7 +152,9 @@ mutual
   longest_json (json.number s) = most_mapped (λ _. 0) longest 0 _ datum.number (λ a x. omega arith) (number_read s) (flat (number_read s))
   longest_json (json.string s) = omega arith
   longest_json (json.array js) = most_mapped size longest (length (items_tokens js) - 1) _ datum.array (λ ds x. omega (arith, x, some_item_tokens js)) (of_items js) (longest_items js)
-  longest_json (json.object ms) = most_mapped members_longest longest (length (members_tokens ms) - 1) _ datum.object (λ ds x. omega (arith, x)) (of_members ms no_members) (longest_members ms no_members (length (members_tokens ms) - 1) (omega arith) (omega arith))
+  longest_json (json.object ms) =
+      most_mapped members_longest longest (length (members_tokens ms) - 1) _ datum.object (λ ds x. omega (arith, x)) (of_members ms no_members)
+      (longest_members ms no_members (length (members_tokens ms) - 1) (omega arith) (omega arith))
 
   longest_items : (js : json.Items) → AtMost size (length (items_tokens js) - 1) (of_items js)
   longest_items json.no_items = omega arith
@@ -171,7 +174,9 @@ mutual
 most_some : {A : Type 0} (f : A → ℕ) (n : ℕ) (o : Option A) (a : A) → o ≡ Some a → AtMost f n o → f a ≤ n
 most_some f n o a e h = subst (AtMost f n) e h
 
-longest_last : (o : Option (json.Json × List Token)) (ts : List Token) (d : Data) → ((j : json.Json) (r : List Token) → o ≡ Some (j, r) → ts ≡ json_tokens j ++ r) → option_and_then of_json (option_and_then (λ p. json.if_last p.0 p.1) o) ≡ Some d → (longest d ≤ length ts - 2) × (1 ≤ length ts)
+longest_last : (o : Option (json.Json × List Token)) (ts : List Token) (d : Data)
+    → ((j : json.Json) (r : List Token) → o ≡ Some (j, r) → ts ≡ json_tokens j ++ r)
+    → option_and_then of_json (option_and_then (λ p. json.if_last p.0 p.1) o) ≡ Some d → (longest d ≤ length ts - 2) × (1 ≤ length ts)
 longest_last None ts d h e = cc
 longest_last (Some (j, [])) ts d h e =
     let same : length ts ≡ length (json_tokens j) = ap length (h j [] refl ∙ append-nil (json_tokens j)) in

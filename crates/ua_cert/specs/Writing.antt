@@ -52,7 +52,9 @@ members (f ∷ fs) = member f.0 f.1 (members fs)
 abbrev pub fields : Cert → List (List ℕ × Data)
 fields (Member gens ss target width) = (codes "gens", vectors gens) ∷ (codes "kind", kind_name kind.Member) ∷ (codes "steps", steps ss) ∷ (codes "target", list number target) ∷ (codes "width", number width) ∷ []
 fields (NotMember gens rows target width) = (codes "gens", vectors gens) ∷ (codes "kind", kind_name kind.NotMember) ∷ (codes "rows", vectors rows) ∷ (codes "target", list number target) ∷ (codes "width", number width) ∷ []
-fields (Listing gens origins ranks rows width) = (codes "gens", vectors gens) ∷ (codes "kind", kind_name kind.Listing) ∷ (codes "origins", steps origins) ∷ (codes "ranks", list number ranks) ∷ (codes "rows", vectors rows) ∷ (codes "width", number width) ∷ []
+fields (Listing gens origins ranks rows width) =
+    (codes "gens", vectors gens) ∷ (codes "kind", kind_name kind.Listing) ∷ (codes "origins", steps origins) ∷ (codes "ranks", list number ranks)
+    ∷ (codes "rows", vectors rows) ∷ (codes "width", number width) ∷ []
 fields (Condition name k ss) = (codes "k", number k) ∷ (codes "kind", kind_name kind.Condition) ∷ (codes "name", condition_name name) ∷ (codes "steps", steps ss) ∷ []
 fields (NoCondition name k rows) = (codes "k", number k) ∷ (codes "kind", kind_name kind.NoCondition) ∷ (codes "name", condition_name name) ∷ (codes "rows", vectors rows) ∷ []
 fields (Chain name terms) = (codes "kind", kind_name kind.Chain) ∷ (codes "name", chain_name name) ∷ (codes "terms", list steps terms) ∷ []

@@ -18,8 +18,8 @@ use Rattle.ua_table.specs.Terms.{Tree}
 use Rattle.ua_table.specs.Generated.{Sg}
 use Rattle.ua_table.specs.Listings.{Row, vectors_of, IsClosedListing}
 use Rattle.ua_table.proofs.Lists.{all_from_contains}
-use Rattle.ua_table.proofs.FrameLemmas.{arities_of_power}
-use Rattle.ua_table.proofs.AlgebraLemmas.{power_product}
+use Rattle.ua_table.proofs.FrameLaws.{arities_of_power}
+use Rattle.ua_table.proofs.AlgebraLaws.{power_product}
 use Rattle.ua_term.specs.Steps.{StepList, AreSteps, step_values, unfolded, written_term}
 use Rattle.ua_identity.specs.declared.limits.TheConstants.{PLACES}
 use Rattle.ua_identity.specs.Identities.{VariablePattern, TermIdentity, over_two}
@@ -53,15 +53,20 @@ abbrev pub MemberLaw : Type 0
 MemberLaw = (p : Product) (gens : List Vector) (v : Vector) → IsProduct p → AllByRecursion (IsVector p) gens → Sg p gens v → IsVector p v
 
 abbrev pub StepsLaw : Type 0
-StepsLaw = (a : FiniteAlgebra) (gens : List Vector) (steps : List Origin) (target : Vector) (width : ℕ) → IsAlgebraTable a → IsWidth width → AllByRecursion (IsVector (power a width)) gens → IsVector (power a width) target → AreSteps (arities_of a) (length gens) steps
+StepsLaw =
+    (a : FiniteAlgebra) (gens : List Vector) (steps : List Origin) (target : Vector) (width : ℕ) → IsAlgebraTable a → IsWidth width
+    → AllByRecursion (IsVector (power a width)) gens → IsVector (power a width) target → AreSteps (arities_of a) (length gens) steps
     → slice_get (step_values (power a width) gens steps) (length steps - 1) ≡ Some target → member_flaw a gens (written_steps a steps) target width ≡ None
 
 abbrev pub AbsentLaw : Type 0
-AbsentLaw = (a : FiniteAlgebra) (gens : List Vector) (rows : List Row) (target : Vector) (width : ℕ) → IsPowerListing a width gens rows → IsVector (power a width) target → ¬ Contains (vectors_of rows) target → not_member_flaw a gens (vectors_of rows) target width ≡ None
+AbsentLaw =
+    (a : FiniteAlgebra) (gens : List Vector) (rows : List Row) (target : Vector) (width : ℕ) → IsPowerListing a width gens rows
+    → IsVector (power a width) target → ¬ Contains (vectors_of rows) target → not_member_flaw a gens (vectors_of rows) target width ≡ None
 
 -- ---- powers
 
-pub closed_power : (a : FiniteAlgebra) (width b : ℕ) (gens : List Vector) (rows : List Row) → MemberLaw → IsAlgebraTable a → IsWidth width → AllByRecursion (IsVector (power a width)) gens → IsClosedListing (power a width) gens b rows → IsPowerListing a width gens rows
+pub closed_power : (a : FiniteAlgebra) (width b : ℕ) (gens : List Vector) (rows : List Row) → MemberLaw → IsAlgebraTable a → IsWidth width
+    → AllByRecursion (IsVector (power a width)) gens → IsClosedListing (power a width) gens b rows → IsPowerListing a width gens rows
 closed_power a width b gens rows law table wide admitted closed = record {
   wide = wide;
   admitted = admitted;
@@ -72,14 +77,17 @@ closed_power a width b gens rows law table wide admitted closed = record {
 
 -- ---- closures and members
 
-pub steps_flawless : (a : FiniteAlgebra) (width : ℕ) (gens : List Vector) (target : Vector) (steps : StepList) → StepsLaw → IsAlgebraTable a → IsWidth width → AllByRecursion (IsVector (power a width)) gens → IsVector (power a width) target → AreStepsTo (power a width) gens target steps
+pub steps_flawless : (a : FiniteAlgebra) (width : ℕ) (gens : List Vector) (target : Vector) (steps : StepList) → StepsLaw → IsAlgebraTable a
+    → IsWidth width → AllByRecursion (IsVector (power a width)) gens → IsVector (power a width) target → AreStepsTo (power a width) gens target steps
     → member_flaw a gens (written_steps a steps.items) target width ≡ None
 steps_flawless a width gens target steps law table wide admitted one h =
     let ks : steps.arities ≡ arities_of a = h.arities_are ∙ arities_of_power a width wide.0 in
     let given : AreSteps (arities_of a) (length gens) steps.items = subst (λ n. AreSteps (arities_of a) n steps.items) h.generators (subst (λ zs. AreSteps zs steps.gens steps.items) ks h.steps) in
     law a gens steps.items target width table wide admitted one given h.value
 
-pub absent_flawless : (a : FiniteAlgebra) (width b : ℕ) (gens : List Vector) (target : Vector) (rows : List Row) → MemberLaw → AbsentLaw → IsAlgebraTable a → IsWidth width → AllByRecursion (IsVector (power a width)) gens → IsVector (power a width) target → IsClosedListing (power a width) gens b rows → ¬ Contains (vectors_of rows) target
+pub absent_flawless : (a : FiniteAlgebra) (width b : ℕ) (gens : List Vector) (target : Vector) (rows : List Row) → MemberLaw → AbsentLaw
+    → IsAlgebraTable a → IsWidth width → AllByRecursion (IsVector (power a width)) gens → IsVector (power a width) target
+    → IsClosedListing (power a width) gens b rows → ¬ Contains (vectors_of rows) target
     → not_member_flaw a gens (vectors_of rows) target width ≡ None
 absent_flawless a width b gens target rows law absent table wide admitted one closed lacks = absent a gens rows target width (closed_power a width b gens rows law table wide admitted closed) one lacks
 
@@ -114,11 +122,16 @@ abbrev pub WideLaw : Type 0
 WideLaw = (a : FiniteAlgebra) (ps : List VariablePattern) → 0 < a.size → 0 < length ps → 0 < length (patterns.pattern_power a ps)
 
 abbrev pub TermLaw : Type 0
-TermLaw = (a : FiniteAlgebra) (name : CondName) (k : ℕ) (steps : List Origin) → IsAlgebraTable a → has_places name k ≡ true → length (condition_power a (condition_of name k)) ≤ WIDTH → 0 < length steps → AreSteps (arities_of a) k steps → Meets a (written_term (arities_of a) steps) (condition_of name k)
+TermLaw =
+    (a : FiniteAlgebra) (name : CondName) (k : ℕ) (steps : List Origin) → IsAlgebraTable a → has_places name k ≡ true
+    → length (condition_power a (condition_of name k)) ≤ WIDTH → 0 < length steps → AreSteps (arities_of a) k steps
+    → Meets a (written_term (arities_of a) steps) (condition_of name k)
     → condition_flaw a name k (written_steps a steps) ≡ None
 
 abbrev pub NoTermLaw : Type 0
-NoTermLaw = (a : FiniteAlgebra) (name : CondName) (k : ℕ) (rows : List Vector) → has_places name k ≡ true → length (condition_power a (condition_of name k)) ≤ WIDTH → IsIncreasing rows → AllByRecursion (IsVector (power a (width_of a name k))) rows
+NoTermLaw =
+    (a : FiniteAlgebra) (name : CondName) (k : ℕ) (rows : List Vector) → has_places name k ≡ true
+    → length (condition_power a (condition_of name k)) ≤ WIDTH → IsIncreasing rows → AllByRecursion (IsVector (power a (width_of a name k))) rows
     → AreExact a (width_of a name k) (argument_vectors a (condition_of name k)) rows → ¬ Contains rows (value_vector a (condition_of name k)) → no_condition_flaw a name k rows ≡ None
 
 abbrev pub ArgumentLaw : Type 0
@@ -137,7 +150,10 @@ pub record AreRowsOf (a : FiniteAlgebra) (n : ℕ) (gens : List Vector) (rows : 
 rows_of : (a : FiniteAlgebra) (n b : ℕ) (gens : List Vector) (rows : List Row) → MemberLaw → IsAlgebra a → 0 < n → AllByRecursion (IsVector (replicate n a)) gens → IsClosedListing (replicate n a) gens b rows → AreRowsOf a n gens rows
 rows_of a n b gens rows law algebra some admitted closed = record {
   increasing = closed.listing.increasing;
-  vectors = subst (λ p. AllByRecursion (IsVector p) (vectors_of rows)) (sym (again a n)) (all_from_contains (IsVector (replicate n a)) (vectors_of rows) (λ v c. law (replicate n a) gens v (power_product a n algebra some) admitted ((closed.exact v).0 c)));
+  vectors =
+      subst (λ p. AllByRecursion (IsVector p) (vectors_of rows)) (sym (again a n))
+      (all_from_contains (IsVector (replicate n a)) (vectors_of rows)
+      (λ v c. law (replicate n a) gens v (power_product a n algebra some) admitted ((closed.exact v).0 c)));
   exact = record {
     generated = λ v c. subst (λ p. Sg p gens v) (sym (again a n)) ((closed.exact v).0 c);
     all = λ v s. (closed.exact v).1 (subst (λ p. Sg p gens v) (again a n) s);
@@ -163,7 +179,9 @@ module _ (a : FiniteAlgebra) (name : CondName) (k b w : ℕ) (table : IsAlgebraT
       let gens : steps.gens ≡ k = tells.generators ∙ length-map-range_with_len (place_vector (all_fillings a.size (patterns_of (condition_of name k)))) 0 (condition_of name k).arity ∙ arity_is name k places in
       let given : AreSteps (arities_of a) k steps.items = subst (λ n. AreSteps (arities_of a) n steps.items) gens (subst (λ zs. AreSteps zs steps.gens steps.items) ks tells.steps) in
       let term : written_term (arities_of a) steps.items ≡ writes.term = ap (λ zs. written_term zs steps.items) (sym ks) ∙ get_or_from_slice_get (unfolded steps.arities steps.items) (length steps.items - 1) writes.term _ writes.last in
-      law a name k steps.items table places (narrow (condition_power a (condition_of name k)) (argument_vectors a (condition_of name k)) b some not_wide) (nonempty steps.arities steps.items writes.term writes.last) given (subst (λ t. Meets a t (condition_of name k)) (sym term) writes.meets)
+      law a name k steps.items table places
+      (narrow (condition_power a (condition_of name k)) (argument_vectors a (condition_of name k)) b some not_wide)
+      (nonempty steps.arities steps.items writes.term writes.last) given (subst (λ t. Meets a t (condition_of name k)) (sym term) writes.meets)
     where
       nonempty : (zs : List ℕ) (items : List Origin) (t : Tree) → slice_get (unfolded zs items) (length items - 1) ≡ Some t → 0 < length items
       nonempty zs [] t e = cc
@@ -171,21 +189,33 @@ module _ (a : FiniteAlgebra) (name : CondName) (k b w : ℕ) (table : IsAlgebraT
 
   pub no_term_flawless : (rows : List Row) → NoTermLaw → MemberLaw → ArgumentLaw → MayDecide a (condition_of name k) b w (Ok (answers.No rows)) → no_condition_flaw a name k (vectors_of rows) ≡ None
   no_term_flawless rows law members arguments may =
-      let r = rows_of a (length (all_fillings a.size (patterns_of (condition_of name k)))) b (argument_vectors a (condition_of name k)) rows members table.algebra some_width (arguments a (condition_of name k) (condition_is named name k places)) may.0.1.0 in
+      let r =
+      rows_of a (length (all_fillings a.size (patterns_of (condition_of name k)))) b (argument_vectors a (condition_of name k)) rows members
+      table.algebra some_width (arguments a (condition_of name k) (condition_is named name k places)) may.0.1.0 in
       law a name k (vectors_of rows) places (narrow (condition_power a (condition_of name k)) (argument_vectors a (condition_of name k)) b some may.0.0) r.increasing r.vectors r.exact may.0.1.1
 
 -- ---- chains
 
 abbrev pub ChainLaw : Type 0
-ChainLaw = (a : FiniteAlgebra) (name : ChainName) (terms : List (List Origin)) → IsAlgebraTable a → chain_width a (kind_of name) ≤ WIDTH → AllByRecursion (λ (steps : List Origin). 0 < length steps) terms → AllByRecursion (AreSteps (arities_of a) (kind_of name).places) terms → IsChain a (kind_of name) (map (written_term (arities_of a)) terms)
+ChainLaw =
+    (a : FiniteAlgebra) (name : ChainName) (terms : List (List Origin)) → IsAlgebraTable a → chain_width a (kind_of name) ≤ WIDTH
+    → AllByRecursion (λ (steps : List Origin). 0 < length steps) terms → AllByRecursion (AreSteps (arities_of a) (kind_of name).places) terms
+    → IsChain a (kind_of name) (map (written_term (arities_of a)) terms)
     → chain_flaw a name (map (written_steps a) terms) ≡ None
 
 abbrev pub NoChainLaw : Type 0
-NoChainLaw = (a : FiniteAlgebra) (name : ChainName) (rows : List Vector) (even odd : List ℕ) → 0 < a.size → chain_width a (kind_of name) ≤ WIDTH → IsIncreasing rows → AllByRecursion (IsVector (power a (chain_width a (kind_of name)))) rows → AreExact a (chain_width a (kind_of name)) (generators_of a (kind_of name)) rows → AreReached a (kind_of name) true rows even → AreReached a (kind_of name) false rows odd → HasNoChain a name
+NoChainLaw =
+    (a : FiniteAlgebra) (name : ChainName) (rows : List Vector) (even odd : List ℕ) → 0 < a.size → chain_width a (kind_of name) ≤ WIDTH
+    → IsIncreasing rows → AllByRecursion (IsVector (power a (chain_width a (kind_of name)))) rows
+    → AreExact a (chain_width a (kind_of name)) (generators_of a (kind_of name)) rows → AreReached a (kind_of name) true rows even
+    → AreReached a (kind_of name) false rows odd → HasNoChain a name
     → no_chain_flaw a name rows even odd ≡ None
 
 abbrev pub PlaceLaw : Type 0
-PlaceLaw = (a : FiniteAlgebra) (ps : List VariablePattern) (places : ℕ) → AllByRecursion IsPattern ps → AllByRecursion (λ (p : VariablePattern). length p.places ≡ places) ps → AllByRecursion (IsVector (patterns.pattern_power a ps)) (generators a ps places)
+PlaceLaw =
+    (a : FiniteAlgebra) (ps : List VariablePattern) (places : ℕ) → AllByRecursion IsPattern ps
+    → AllByRecursion (λ (p : VariablePattern). length p.places ≡ places) ps
+    → AllByRecursion (IsVector (patterns.pattern_power a ps)) (generators a ps places)
 
 -- the steps of each term
 abbrev pub items_of : List StepList → List (List Origin)
@@ -234,10 +264,13 @@ module _ (a : FiniteAlgebra) (name : ChainName) (b w : ℕ) (table : IsAlgebraTa
       (law a name (items_of terms.items) table (narrow (power_of a (kind_of name)) (generators_of a (kind_of name)) b some may.0) (some_items a (kind_of name) terms.items h.each) (steps_given a (kind_of name) terms.items h.each)
       (subst (IsChain a (kind_of name)) (sym (terms_are a (kind_of name) terms.items h.each)) h.least.chain))
 
-  pub no_chain_flawless : (rows : List Row) (even odd : Vec ℕ Global) → NoChainLaw → MemberLaw → WideLaw → PlaceLaw → MayChain a (kind_of name) b w (Ok (chains.No rows even odd)) → no_chain_flaw a name (vectors_of rows) even.items odd.items ≡ None
+  pub no_chain_flawless : (rows : List Row) (even odd : Vec ℕ Global) → NoChainLaw → MemberLaw → WideLaw → PlaceLaw
+      → MayChain a (kind_of name) b w (Ok (chains.No rows even odd)) → no_chain_flaw a name (vectors_of rows) even.items odd.items ≡ None
   no_chain_flawless rows even odd law members wide places may =
       let h = may.1 in
       let n : ℕ = length (all_fillings a.size (kind_of name).patterns) in
       let low : 0 < n = (let l = wide a (kind_of name).patterns table.algebra.inhabited (some_patterns name) in let count = length-replicate (length (all_fillings a.size (kind_of name).patterns)) a in omega (arith, l, count)) in
-      let r = rows_of a (length (all_fillings a.size (kind_of name).patterns)) b (generators_of a (kind_of name)) rows members table.algebra low (places a (kind_of name).patterns (kind_of name).places (patterns_fit name) (patterns_long name)) h.closed in
+      let r =
+      rows_of a (length (all_fillings a.size (kind_of name).patterns)) b (generators_of a (kind_of name)) rows members table.algebra low
+      (places a (kind_of name).patterns (kind_of name).places (patterns_fit name) (patterns_long name)) h.closed in
       law a name (vectors_of rows) even.items odd.items table.algebra.inhabited (narrow (power_of a (kind_of name)) (generators_of a (kind_of name)) b some may.0) r.increasing r.vectors r.exact h.evens h.odds h.none

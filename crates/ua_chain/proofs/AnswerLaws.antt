@@ -9,7 +9,7 @@ use Rattle.ua_table.specs.declared.origins.Origin.{Origin}
 use Rattle.ua_table.specs.Algebras.{Vector, FiniteAlgebra, Product, arities, arities_of}
 use Rattle.ua_table.specs.Terms.{Generator, IsTerm, term_value}
 use Rattle.ua_table.proofs.Lists.{mapped_from}
-use Rattle.ua_table.proofs.FrameLemmas.{arities_of_power}
+use Rattle.ua_table.proofs.FrameLaws.{arities_of_power}
 use Rattle.ua_term.specs.Steps.{StepList, unfolded, step_term, step_values}
 use Rattle.ua_term.proofs.StepLaws.{step_is_term}
 use Rattle.ua_close.specs.Memberships.{AreStepsTo}
@@ -78,7 +78,8 @@ numbers_skip marks i numbers l out h = record {
   );
 }
 
-pub numbers_more : (marks : List Bool) (i : ℕ) (numbers numbers' : List ℕ) → i < length marks → slice_index_or marks i false ≡ true → numbers' ≡ numbers ++ i ∷ [] → AreMarkedNumbers (take i marks) numbers → AreMarkedNumbers (take (i + 1) marks) numbers'
+pub numbers_more : (marks : List Bool) (i : ℕ) (numbers numbers' : List ℕ) → i < length marks → slice_index_or marks i false ≡ true
+    → numbers' ≡ numbers ++ i ∷ [] → AreMarkedNumbers (take i marks) numbers → AreMarkedNumbers (take (i + 1) marks) numbers'
 numbers_more marks i numbers numbers' l fit e h =
     let long = ap length e ∙ length_push numbers i in
     let at_old : (k : ℕ) → k < length numbers → slice_index numbers' k ≡ slice_index numbers k = λ k low. ap (λ (xs : List ℕ). slice_index xs k) e ∙ get_or_append_left numbers (i ∷ []) 0 k low in

@@ -1,5 +1,6 @@
 -- That a least chain is told, or that there is none: the rows of a closed listing are linked by their parts, and a least climb over them has its steps.
-use Rattle.std.proofs.Common.{◌≡◌, ◌≢◌, ◌⊎◌, ◌↔◌, inl, inr, ⊎_elim, ℕ, zero, suc, ◌+◌, ◌-◌, ◌*◌, ◌^◌, ◌<◌, ◌≤◌, Bool, true, false, cond, nat_eq, Option, Some, None, List, [], ◌∷◌, ◌++◌, length, map, take, Result, Ok, Err, Vec, refl, sym, ap, ◌∙◌, subst, arith, length-append}
+use Rattle.std.proofs.Common.{◌≡◌, ◌≢◌, ◌⊎◌, ◌↔◌, inl, inr, ⊎_elim, ℕ, zero, suc, ◌+◌, ◌-◌, ◌*◌, ◌^◌, ◌<◌, ◌≤◌, Bool, true, false, cond, nat_eq, Option, Some, None, List, [], ◌∷◌}
+use Rattle.std.proofs.Common.{◌++◌, length, map, take, Result, Ok, Err, Vec, refl, sym, ap, ◌∙◌, subst, arith, length-append}
 use Rattle.std.specs.Prelude.{Contains, slice_get, slice_index, slice_index_or}
 use Rattle.std.specs.Cmp.Lexicographic.{pointwise, bytes_decides}
 use Rattle.std.specs.List.{AllByRecursion, range_with_len}
@@ -20,7 +21,7 @@ use Rattle.ua_table.specs.Listings.{Row, vectors_of, IsClosedListing}
 use Rattle.ua_table.specs.Numbering.{records}
 use Rattle.ua_table.specs.Orders.{IsSerialListing}
 use Rattle.ua_table.specs.Terms.{Generator}
-use Rattle.ua_table.proofs.AlgebraLemmas.{power_product}
+use Rattle.ua_table.proofs.AlgebraLaws.{power_product}
 use Rattle.ua_table.proofs.ListingLaws.{closed_has_no_more}
 use Rattle.ua_table.proofs.Lists.{Contains-cases, Contains-none, Contains-map, Contains-slice_get, all_at, all_from_contains, mapped_at, slice_get-push_cases}
 use Rattle.ua_term.specs.Assignments.{projection}
@@ -159,7 +160,9 @@ numbers_exist P n decided low = record {
   numbers = found.0;
   ascending = are.ascending;
   exact = exact;
-  few = length-le_from_below n found.0 (sorted_from_strictly_increasing found.0 (λ k w. are.ascending k (k + 1) (omega arith) w)) (All-from_recursion (λ i. i < n) found.0 (all_from_contains (λ i. i < n) found.0 (λ i c. low i ((exact i).0 c))));
+  few =
+      length-le_from_below n found.0 (sorted_from_strictly_increasing found.0 (λ k w. are.ascending k (k + 1) (omega arith) w))
+      (All-from_recursion (λ i. i < n) found.0 (all_from_contains (λ i. i < n) found.0 (λ i c. low i ((exact i).0 c))));
 }
   where
     mark : ℕ → Bool
@@ -262,7 +265,8 @@ record AreNamed (ps : List VariablePattern) (own : Option ℕ) (even odd : Patte
   odd_first : odd.first < length ps
   odd_second : odd.second < length ps
 
-module _ (alloc : Global) (a : FiniteAlgebra) (places : ℕ) (ps : List VariablePattern) (own : Option ℕ) (even odd : PatternPair) (by_parity : Bool) (is_kind : IsKind (kind_of places ps own even odd by_parity)) (named : AreNamed ps own even odd) (alg : IsAlgebra a) (b : ℕ) where
+module _ (alloc : Global) (a : FiniteAlgebra) (places : ℕ) (ps : List VariablePattern) (own : Option ℕ) (even odd : PatternPair) (by_parity : Bool)
+    (is_kind : IsKind (kind_of places ps own even odd by_parity)) (named : AreNamed ps own even odd) (alg : IsAlgebra a) (b : ℕ) where
   abbrev kind : ChainKind
   kind = kind_of places ps own even odd by_parity
 
@@ -356,7 +360,9 @@ module _ (alloc : Global) (a : FiniteAlgebra) (places : ℕ) (ps : List Variable
         let few_odd = odds.2 in
         record {
           chain = No list (vec_of alloc evens.0 (omega (arith, few, count, many, small))) (vec_of alloc odds.0 (omega (arith, few_odd, count, many, small)));
-          tells = no_answer a kind b list allowed (links a.size kind (vectors_of list) even) (links a.size kind (vectors_of list) odd) start.0 end.0 none.at_even none.at_odd evens.0 odds.0 is_kind closure.wide closed chart start.1 end.1 none.is evens.1 odds.1;
+          tells =
+              no_answer a kind b list allowed (links a.size kind (vectors_of list) even) (links a.size kind (vectors_of list) odd) start.0 end.0
+              none.at_even none.at_odd evens.0 odds.0 is_kind closure.wide closed chart start.1 end.1 none.is evens.1 odds.1;
           serial = λ serial. serial;
         }
 
@@ -384,7 +390,10 @@ module _ (alloc : Global) (a : FiniteAlgebra) (places : ℕ) (ps : List Variable
 -- ---- the kinds
 
 -- a kind that is made of the numbers of its patterns
-pub made_told : (alloc : Global) (a : FiniteAlgebra) (places : ℕ) (ps : List VariablePattern) (own : Option ℕ) (even odd : PatternPair) (by_parity : Bool) (b w : ℕ) → IsAlgebra a → IsKindTable places ps own even odd by_parity → IsAnswerable (MayChain a (kind_of places ps own even odd by_parity) b w) OutOfMemory
+pub made_told : (alloc : Global) (a : FiniteAlgebra) (places : ℕ) (ps : List VariablePattern) (own : Option ℕ) (even odd : PatternPair)
+    (by_parity : Bool) (b w : ℕ)
+    → IsAlgebra a → IsKindTable places ps own even odd by_parity
+    → IsAnswerable (MayChain a (kind_of places ps own even odd by_parity) b w) OutOfMemory
 made_told alloc a places ps own even odd by_parity b w alg table =
     let named : AreNamed ps own even odd = record { own_named = table.own_named; even_first = table.even_first; even_second = table.even_second; odd_first = table.odd_first; odd_second = table.odd_second } in
     chain_told alloc a places ps own even odd by_parity table.kind named alg b w

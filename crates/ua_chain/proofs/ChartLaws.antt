@@ -17,7 +17,8 @@ use Rattle.ua_identity.specs.Patterns.{all_fillings, vector_of}
 use Rattle.ua_chain.specs.inner.Charts.{IsRowOf, IsChart}
 use Rattle.ua_identity.proofs.ChainLaws.{member_of_term, term_of_member, place_has_vector, one_element, ends_at_first, same_vectors}
 
-module _ (a : FiniteAlgebra) (kind : ChainKind) (vectors : List Vector) (allowed : List Bool) (even odd : LinkLists) (k : IsKind kind) (wide : 0 < length (all_fillings a.size kind.patterns)) (c : IsChart a kind vectors allowed even odd) where
+module _ (a : FiniteAlgebra) (kind : ChainKind) (vectors : List Vector) (allowed : List Bool) (even odd : LinkLists) (k : IsKind kind)
+    (wide : 0 < length (all_fillings a.size kind.patterns)) (c : IsChart a kind vectors allowed even odd) where
   pub row_of_term : (t : Tree) → IsTerm (arities_of a) kind.places t → (i : ℕ) × IsRowOf a kind vectors t i
   row_of_term t h =
       let v = vector_of a kind.patterns t in
@@ -60,7 +61,8 @@ module _ (a : FiniteAlgebra) (kind : ChainKind) (vectors : List Vector) (allowed
   begins_at start (t ∷ terms) [] s h z = absurd z
   begins_at start (t ∷ terms) (i ∷ rows) s h z = c.once i start (vector_of a kind.patterns t) z.0.stands (s.stands ∙ ap Some (sym (place_has_vector a kind 0 t k h)))
 
-  pub climb_of_beginning : (start : ℕ) (terms : List Tree) (end : ℕ) → IsRowOf a kind vectors (Generator 0) start → IsBeginning a kind terms → EndsWith (λ t. vector_of a kind.patterns t ≡ get_or vectors end []) terms → end < length vectors → IsClimbFor start terms end
+  pub climb_of_beginning : (start : ℕ) (terms : List Tree) (end : ℕ) → IsRowOf a kind vectors (Generator 0) start → IsBeginning a kind terms
+      → EndsWith (λ t. vector_of a kind.patterns t ≡ get_or vectors end []) terms → end < length vectors → IsClimbFor start terms end
   climb_of_beginning start terms end s b e l =
       let r = rows_to terms end b.terms_are e l in
       record {
@@ -69,7 +71,9 @@ module _ (a : FiniteAlgebra) (kind : ChainKind) (vectors : List Vector) (allowed
         climb = record {
           begins = begins_at start terms r.rows s b.first r.are;
           allows = all_zip (IsRowOf a kind vectors) (IsOwn a kind) (IsAllowed allowed) (λ t i z o. (c.own t i z).1 o) terms r.rows r.are b.own;
-          joined = alternates_zip (IsRowOf a kind vectors) (AreLinked a kind.even) (AreLinked a kind.odd) (Joins even) (Joins odd) (λ d f i j x y h. (c.even_links d f i j x y).1 h) (λ d f i j x y h. (c.odd_links d f i j x y).1 h) terms r.rows r.are b.linked;
+          joined =
+              alternates_zip (IsRowOf a kind vectors) (AreLinked a kind.even) (AreLinked a kind.odd) (Joins even) (Joins odd)
+              (λ d f i j x y h. (c.even_links d f i j x y).1 h) (λ d f i j x y h. (c.odd_links d f i j x y).1 h) terms r.rows r.are b.linked;
         };
         ends = r.ends;
       }
@@ -80,7 +84,9 @@ module _ (a : FiniteAlgebra) (kind : ChainKind) (vectors : List Vector) (allowed
     terms_are = are_terms terms rows z;
     first = first;
     own = all_unzip (IsRowOf a kind vectors) (IsOwn a kind) (IsAllowed allowed) (λ t i x o. (c.own t i x).0 o) terms rows z h.allows;
-    linked = alternates_unzip (IsRowOf a kind vectors) (AreLinked a kind.even) (AreLinked a kind.odd) (Joins even) (Joins odd) (λ d f i j x y e. (c.even_links d f i j x y).0 e) (λ d f i j x y e. (c.odd_links d f i j x y).0 e) terms rows z h.joined;
+    linked =
+        alternates_unzip (IsRowOf a kind vectors) (AreLinked a kind.even) (AreLinked a kind.odd) (Joins even) (Joins odd)
+        (λ d f i j x y e. (c.even_links d f i j x y).0 e) (λ d f i j x y e. (c.odd_links d f i j x y).0 e) terms rows z h.joined;
   }
     where
       are_terms : (terms : List Tree) (rows : List ℕ) → AllZip (IsRowOf a kind vectors) terms rows → AllByRecursion (IsTerm (arities_of a) kind.places) terms
@@ -93,13 +99,19 @@ module _ (a : FiniteAlgebra) (kind : ChainKind) (vectors : List Vector) (allowed
   -- a chain leads to the row of the end
   chain_ends : (terms : List Tree) (end : ℕ) → IsRowOf a kind vectors (Generator kind.end) end → IsChain a kind terms → EndsWith (λ t. vector_of a kind.patterns t ≡ get_or vectors end []) terms
   chain_ends terms end e h =
-      ends_weaker (IsPlace a kind.places kind.end) (λ t. vector_of a kind.patterns t ≡ get_or vectors end []) (λ t p. place_has_vector a kind kind.end t k p ∙ sym (get_or_from_slice_get vectors end (vector_of a kind.patterns (Generator kind.end)) [] e.stands)) terms h.last
+      ends_weaker (IsPlace a kind.places kind.end) (λ t. vector_of a kind.patterns t ≡ get_or vectors end [])
+      (λ t p.
+      place_has_vector a kind kind.end t k p
+      ∙ sym (get_or_from_slice_get vectors end (vector_of a kind.patterns (Generator kind.end)) [] e.stands))
+      terms h.last
 
   row_low : (t : Tree) (i : ℕ) → IsRowOf a kind vectors t i → i < length vectors
   row_low t i h = slice_get_within vectors i (vector_of a kind.patterns t) h.stands
 
   -- the rows of a least climb give a least chain: generator 0 first and, where there is more than one, the generator of the end last
-  pub least_chain : (start end : ℕ) (rows : List ℕ) (terms : List Tree) → IsRowOf a kind vectors (Generator 0) start → IsRowOf a kind vectors (Generator kind.end) end → IsLeastClimb allowed even odd start end rows → AllZip (IsRowOf a kind vectors) terms rows → BeginsWith (λ t. t ≡ Generator 0) terms → (1 < length terms → EndsWith (λ t. t ≡ Generator kind.end) terms) → IsLeastChain a kind terms
+  pub least_chain : (start end : ℕ) (rows : List ℕ) (terms : List Tree) → IsRowOf a kind vectors (Generator 0) start
+      → IsRowOf a kind vectors (Generator kind.end) end → IsLeastClimb allowed even odd start end rows → AllZip (IsRowOf a kind vectors) terms rows
+      → BeginsWith (λ t. t ≡ Generator 0) terms → (1 < length terms → EndsWith (λ t. t ≡ Generator kind.end) terms) → IsLeastChain a kind terms
   least_chain start end rows terms s e h z first last = record {
     chain = record {
       beginning = beginning_of_climb start terms rows h.climb z (is_first terms first);
@@ -117,7 +129,9 @@ module _ (a : FiniteAlgebra) (kind : ChainKind) (vectors : List Vector) (allowed
       is_first [] f = absurd f
       is_first (t ∷ terms) f = λ xs g. ap (eval a xs) f
 
-      is_last : (terms : List Tree) (rows : List ℕ) → AllZip (IsRowOf a kind vectors) terms rows → BeginsWith (λ t. t ≡ Generator 0) terms → (1 < length terms → EndsWith (λ t. t ≡ Generator kind.end) terms) → EndsWith (λ i. i ≡ end) rows → BeginsWith (λ i. i ≡ start) rows → EndsWith (IsPlace a kind.places kind.end) terms
+      is_last : (terms : List Tree) (rows : List ℕ) → AllZip (IsRowOf a kind vectors) terms rows → BeginsWith (λ t. t ≡ Generator 0) terms
+          → (1 < length terms → EndsWith (λ t. t ≡ Generator kind.end) terms) → EndsWith (λ i. i ≡ end) rows → BeginsWith (λ i. i ≡ start) rows
+          → EndsWith (IsPlace a kind.places kind.end) terms
       is_last [] rows z f l ends begins = absurd f
       is_last (t ∷ []) [] z f l ends begins = absurd z
       is_last (t ∷ []) (i ∷ []) z f l ends begins =
@@ -128,7 +142,9 @@ module _ (a : FiniteAlgebra) (kind : ChainKind) (vectors : List Vector) (allowed
       is_last (t ∷ u ∷ terms) rows z f l ends begins = ends_weaker (λ w. w ≡ Generator kind.end) (IsPlace a kind.places kind.end) (λ w same xs g. ap (eval a xs) same) (t ∷ u ∷ terms) (l (omega arith))
 
   -- where a least climb has more than one row, no earlier place has the vector of the end
-  pub end_is_first : (start end : ℕ) (rows : List ℕ) → IsRowOf a kind vectors (Generator 0) start → IsRowOf a kind vectors (Generator kind.end) end → IsLeastClimb allowed even odd start end rows → 1 < length rows → (j : ℕ) → j < kind.end → vector_of a kind.patterns (Generator j) ≡ vector_of a kind.patterns (Generator kind.end) → ⊥
+  pub end_is_first : (start end : ℕ) (rows : List ℕ) → IsRowOf a kind vectors (Generator 0) start → IsRowOf a kind vectors (Generator kind.end) end
+      → IsLeastClimb allowed even odd start end rows → 1 < length rows → (j : ℕ) → j < kind.end
+      → vector_of a kind.patterns (Generator j) ≡ vector_of a kind.patterns (Generator kind.end) → ⊥
   end_is_first start end rows s e h more j l same =
       let last = k.end in
       let first : 0 < kind.places = omega (arith, last) in
@@ -142,7 +158,8 @@ module _ (a : FiniteAlgebra) (kind : ChainKind) (vectors : List Vector) (allowed
       first_allowed (i ∷ rows) b w = subst (IsAllowed allowed) b w.0
 
   -- where no climb leads to the end, there is no chain
-  pub no_chain : (start end : ℕ) → IsRowOf a kind vectors (Generator 0) start → IsRowOf a kind vectors (Generator kind.end) end → ((rows : List ℕ) → IsClimb allowed even odd start rows → EndsWith (λ i. i ≡ end) rows → ⊥) → (terms : List Tree) → IsChain a kind terms → ⊥
+  pub no_chain : (start end : ℕ) → IsRowOf a kind vectors (Generator 0) start → IsRowOf a kind vectors (Generator kind.end) end
+      → ((rows : List ℕ) → IsClimb allowed even odd start rows → EndsWith (λ i. i ≡ end) rows → ⊥) → (terms : List Tree) → IsChain a kind terms → ⊥
   no_chain start end s e none terms d =
       let o = climb_of_beginning start terms end s d.beginning (chain_ends terms end e d) (row_low (Generator kind.end) end e) in
       none o.rows o.climb o.ends
@@ -189,11 +206,16 @@ module _ (a : FiniteAlgebra) (kind : ChainKind) (vectors : List Vector) (allowed
   pub climbed_from_begun : (start : ℕ) (side : Bool) (i : ℕ) (v : Vector) → IsRowOf a kind vectors (Generator 0) start → slice_get vectors i ≡ Some v → IsBegun side v → IsClimbed allowed even odd start side i
   climbed_from_begun start side i v s at b =
       let here : get_or vectors i [] ≡ v = get_or_from_slice_get vectors i v [] at in
-      let o = climb_of_beginning start b.terms i s b.beginning (ends_weaker (λ t. vector_of a kind.patterns t ≡ v) (λ t. vector_of a kind.patterns t ≡ get_or vectors i []) (λ t e. e ∙ sym here) b.terms b.reaches) (slice_get_within vectors i v at) in
+      let o =
+      climb_of_beginning start b.terms i s b.beginning
+      (ends_weaker (λ t. vector_of a kind.patterns t ≡ v) (λ t. vector_of a kind.patterns t ≡ get_or vectors i []) (λ t e. e ∙ sym here) b.terms
+      b.reaches)
+      (slice_get_within vectors i v at) in
       record { rows = o.rows; climb = o.climb; parity = sym (even_zip (IsRowOf a kind vectors) b.terms o.rows o.are) ∙ b.parity; ends = o.ends }
 
   -- the row is reached at an index that is told among the even ones
-  pub evens_reached : (start : ℕ) (i : ℕ) (v : Vector) → IsRowOf a kind vectors (Generator 0) start → slice_get vectors i ≡ Some v → IsReached a kind true v ↔ (IsClimbed allowed even odd start true i ⊎ (kind.by_parity ≡ false) × IsClimbed allowed even odd start false i)
+  pub evens_reached : (start : ℕ) (i : ℕ) (v : Vector) → IsRowOf a kind vectors (Generator 0) start → slice_get vectors i ≡ Some v
+      → IsReached a kind true v ↔ (IsClimbed allowed even odd start true i ⊎ (kind.by_parity ≡ false) × IsClimbed allowed even odd start false i)
   evens_reached start i v s at = (
     λ r. split r (ends_even r.terms) refl,
     λ m. ⊎_elim

@@ -15,7 +15,11 @@ use Rattle.ua_identity.specs.declared.kinds.Part.{Part}
 use Rattle.ua_chain.specs.inner.Classes.{entries_at, AreClasses, AreLinksBy}
 
 -- the class of one row more
-pub places_more : (vs : List Vector) (p : Part) (keys keys' : List Vector) (classes : List ℕ) (i c : ℕ) (row : Vector) → ((j : ℕ) (v : Vector) → j < i → slice_get vs j ≡ Some v → slice_get keys (slice_index classes j) ≡ Some (entries_at p v)) → ((j : ℕ) (v : Vector) → slice_get keys j ≡ Some v → slice_get keys' j ≡ Some v) → length classes ≡ i → slice_get vs i ≡ Some row → slice_get keys' c ≡ Some (entries_at p row) → (j : ℕ) (v : Vector) → j < i + 1 → slice_get vs j ≡ Some v → slice_get keys' (slice_index (classes ++ c ∷ []) j) ≡ Some (entries_at p v)
+pub places_more : (vs : List Vector) (p : Part) (keys keys' : List Vector) (classes : List ℕ) (i c : ℕ) (row : Vector)
+    → ((j : ℕ) (v : Vector) → j < i → slice_get vs j ≡ Some v → slice_get keys (slice_index classes j) ≡ Some (entries_at p v))
+    → ((j : ℕ) (v : Vector) → slice_get keys j ≡ Some v → slice_get keys' j ≡ Some v) → length classes ≡ i → slice_get vs i ≡ Some row
+    → slice_get keys' c ≡ Some (entries_at p row) → (j : ℕ) (v : Vector) → j < i + 1 → slice_get vs j ≡ Some v
+    → slice_get keys' (slice_index (classes ++ c ∷ []) j) ≡ Some (entries_at p v)
 places_more vs p keys keys' classes i c row old kept long at here j v l e =
     ⊎_elim
     (λ (low : j < i). ap (slice_get keys') (get_or_append_left classes (c ∷ []) 0 j (omega (arith, low, long))) ∙ kept (slice_index classes j) (entries_at p v) (old j v low e))
@@ -42,7 +46,9 @@ are_links vs p q keys leads enters count a b n = record {
   enters_below = subst (λ m. AllByRecursion (λ c. c < m) enters) (sym n) (classes_below vs q keys enters b);
 }
 
-pub are_links_by : (vs : List Vector) (p q : Part) (width : ℕ) (keys : List Vector) (leads enters : List ℕ) (links : LinkLists) → AreClasses vs p keys leads → AreClasses vs q keys enters → IsRowList width keys → length keys ≤ length vs + length vs → links.leads ≡ leads → links.enters ≡ enters → links.classes ≡ length keys → AreLinksBy vs p q links
+pub are_links_by : (vs : List Vector) (p q : Part) (width : ℕ) (keys : List Vector) (leads enters : List ℕ) (links : LinkLists)
+    → AreClasses vs p keys leads → AreClasses vs q keys enters → IsRowList width keys → length keys ≤ length vs + length vs → links.leads ≡ leads
+    → links.enters ≡ enters → links.classes ≡ length keys → AreLinksBy vs p q links
 are_links_by vs p q width keys leads enters links a b rows few l e n = record {
   count = ap length l ∙ a.count;
   few = omega (arith, few, n);

@@ -23,7 +23,7 @@ use Rattle.ua_walk.specs.Climbs.{TellsClimb}
 use Rattle.ua_walk.proofs.ClimbLaws.{marked_low}
 use Rattle.ua_identity.specs.Identities.{VariablePattern, TermIdentity, Satisfies}
 use Rattle.ua_table.proofs.GeneratedLaws.{generator_in}
-use Rattle.ua_table.proofs.FrameLemmas.{arities_of_power}
+use Rattle.ua_table.proofs.FrameLaws.{arities_of_power}
 use Rattle.ua_identity.specs.Chains.{Link, ChainKind, power_of, generators_of}
 use Rattle.ua_identity.specs.Kinds.{IsKind}
 use Rattle.ua_identity.specs.Patterns.{all_fillings, vector_of, place_vector}
@@ -41,7 +41,12 @@ use Rattle.ua_chain.proofs.RowLaws.{chart_from, have_width, own_both}
 use Rattle.ua_chain.proofs.AnswerLaws.{AreStepsOf, step_row}
 use Rattle.ua_chain.proofs.SerialLaws.{serial_generator, generator_steps_for}
 
-pub climb_in_from : (n : ℕ) (kind : ChainKind) (vs : List Vector) (start end : ℕ) (allowed lent : List Bool) (even odd : LinkLists) (ep op : PatternPair) (r : Result Climb AllocError) → AreOwnRows n kind vs allowed → lent ≡ allowed → kind.even ≡ link_of kind.patterns ep → kind.odd ≡ link_of kind.patterns op → AreLinksAt n kind.patterns ep vs even → AreLinksAt n kind.patterns op vs odd → ep.first < length kind.patterns → ep.second < length kind.patterns → op.first < length kind.patterns → op.second < length kind.patterns → IfOk r (TellsClimb lent even odd start end) → IfOk r (IsClimbIn n kind vs start end)
+pub climb_in_from : (n : ℕ) (kind : ChainKind) (vs : List Vector) (start end : ℕ) (allowed lent : List Bool) (even odd : LinkLists)
+    (ep op : PatternPair) (r : Result Climb AllocError)
+    → AreOwnRows n kind vs allowed → lent ≡ allowed → kind.even ≡ link_of kind.patterns ep → kind.odd ≡ link_of kind.patterns op
+    → AreLinksAt n kind.patterns ep vs even → AreLinksAt n kind.patterns op vs odd → ep.first < length kind.patterns
+    → ep.second < length kind.patterns → op.first < length kind.patterns → op.second < length kind.patterns
+    → IfOk r (TellsClimb lent even odd start end) → IfOk r (IsClimbIn n kind vs start end)
 climb_in_from n kind vs start end allowed lent even odd ep op (Ok climb) own same ee eo le lo ef es of os h = record {
   allowed = allowed;
   even = even;
@@ -142,7 +147,10 @@ ends_map P f (x ∷ y ∷ xs) h = ends_map P f (y ∷ xs) h
 
 -- generator j is the vector of place j
 pub generator_at : (a : FiniteAlgebra) (kind : ChainKind) (j : ℕ) → j < kind.places → slice_get (generators_of a kind) j ≡ Some (vector_of a kind.patterns (Generator j))
-generator_at a kind j l = mapped_at (place_vector (all_fillings a.size kind.patterns)) (range_with_len 0 kind.places) j j (slice_get-get_or (range_with_len 0 kind.places) j 0 (let n = length-range_with_len 0 kind.places in omega (arith, l, n)) ∙ ap Some (get_or-range_with_len 0 kind.places j 0 l ∙ (omega arith)))
+generator_at a kind j l =
+    mapped_at (place_vector (all_fillings a.size kind.patterns)) (range_with_len 0 kind.places) j j
+    (slice_get-get_or (range_with_len 0 kind.places) j 0 (let n = length-range_with_len 0 kind.places in omega (arith, l, n))
+    ∙ ap Some (get_or-range_with_len 0 kind.places j 0 l ∙ (omega arith)))
 
 -- the row of a generator
 pub generator_row : (a : FiniteAlgebra) (kind : ChainKind) (vs : List Vector) (j i : ℕ) (v : Vector) → j < kind.places → slice_get (generators_of a kind) j ≡ Some v → slice_get vs i ≡ Some v → IsRowOf a kind vs (Generator j) i
@@ -153,7 +161,8 @@ generator_row a kind vs j i v l at here = record { is_term = l; stands = here �
 pub arities_made : (a : FiniteAlgebra) (kind : ChainKind) (p : Product) (gens : List Vector) → IsClosureOf a kind p gens → arities p ≡ arities_of a
 arities_made a kind p gens c = ap arities c.product_is ∙ arities_of_power a (length (all_fillings a.size kind.patterns)) c.wide
 
-pub closed_for : (a : FiniteAlgebra) (kind : ChainKind) (p : Product) (gens : List Vector) (b : ℕ) (list : List Row) → IsClosureOf a kind p gens → IsClosedListing p gens b list → IsClosedListing (power_of a kind) (generators_of a kind) b list
+pub closed_for : (a : FiniteAlgebra) (kind : ChainKind) (p : Product) (gens : List Vector) (b : ℕ) (list : List Row) → IsClosureOf a kind p gens
+    → IsClosedListing p gens b list → IsClosedListing (power_of a kind) (generators_of a kind) b list
 closed_for a kind p gens b list c h = subst (λ (q : Product). IsClosedListing q (generators_of a kind) b list) c.product_is (subst (λ (gs : List Vector). IsClosedListing p gs b list) c.gens_are h)
 
 pub serial_for : (a : FiniteAlgebra) (kind : ChainKind) (p : Product) (gens : List Vector) (list : List Row) → IsClosureOf a kind p gens → IsSerialListing p gens list → IsSerialListing (power_of a kind) (generators_of a kind) list
@@ -168,7 +177,8 @@ allowed_below allowed [] n e h = tt
 allowed_below allowed (i ∷ rows) n e h = (let l = marked_low allowed i h.0 in omega (arith, l, e), allowed_below allowed rows n e h.1)
 
 -- the step of a generator
-generator_step_of : (a : FiniteAlgebra) (kind : ChainKind) (p : Product) (gens vs : List Vector) (s : StepList) (j i : ℕ) → IsClosureOf a kind p gens → s ≡ generator_step p gens j → IsRowOf a kind vs (Generator j) i → AreStepsOf a kind vs s i
+generator_step_of : (a : FiniteAlgebra) (kind : ChainKind) (p : Product) (gens vs : List Vector) (s : StepList) (j i : ℕ) → IsClosureOf a kind p gens
+    → s ≡ generator_step p gens j → IsRowOf a kind vs (Generator j) i → AreStepsOf a kind vs s i
 generator_step_of a kind p gens vs s j i c e r =
     let arity : arities p ≡ arities_of a = arities_made a kind p gens c in
     let count : length gens ≡ kind.places = ap length c.gens_are ∙ generator_count a kind.patterns kind.places in
@@ -180,7 +190,11 @@ positive (suc j) n = omega arith
 
 -- ---- a chain along the rows of a least climb
 
-module _ (a : FiniteAlgebra) (kind : ChainKind) (p : Product) (gens : List Vector) (list : List Row) (allowed : List Bool) (even odd : LinkLists) (start end : ℕ) (rows : List ℕ) (steps : List StepList) (c : IsClosureOf a kind p gens) (chart : IsChart a kind (vectors_of list) allowed even odd) (rs : IsRowOf a kind (vectors_of list) (Generator 0) start) (re : IsRowOf a kind (vectors_of list) (Generator kind.end) end) (h : IsLeastClimb allowed even odd start end rows) (last_place : kind.end ≡ length gens - 1) (count : length steps ≡ length rows) (at : (j : ℕ) (s : StepList) → slice_get steps j ≡ Some s → AreStepsAt p gens list rows (length gens - 1) j s) where
+module _ (a : FiniteAlgebra) (kind : ChainKind) (p : Product) (gens : List Vector) (list : List Row) (allowed : List Bool) (even odd : LinkLists)
+    (start end : ℕ) (rows : List ℕ) (steps : List StepList) (c : IsClosureOf a kind p gens) (chart : IsChart a kind (vectors_of list) allowed even odd)
+    (rs : IsRowOf a kind (vectors_of list) (Generator 0) start) (re : IsRowOf a kind (vectors_of list) (Generator kind.end) end)
+    (h : IsLeastClimb allowed even odd start end rows) (last_place : kind.end ≡ length gens - 1) (count : length steps ≡ length rows)
+    (at : (j : ℕ) (s : StepList) → slice_get steps j ≡ Some s → AreStepsAt p gens list rows (length gens - 1) j s) where
   some : 0 < length steps
   some = let n = some_rows rows start h.climb.begins in omega (arith, n, count)
 
@@ -210,7 +224,8 @@ module _ (a : FiniteAlgebra) (kind : ChainKind) (p : Product) (gens : List Vecto
       let low = slice_get_within steps j s e in
       ⊎_elim
       (λ (zero_is : j ≡ 0). subst (λ i. AreStepsOf a kind (vectors_of list) s (slice_index rows i)) (sym zero_is)
-      (generator_step_of a kind p gens (vectors_of list) s 0 (slice_index rows 0) c (first_step s (ap (slice_get steps) (sym zero_is) ∙ e)) (subst (IsRowOf a kind (vectors_of list) (Generator 0)) (sym (first_is rows start h.climb.begins)) rs)))
+      (generator_step_of a kind p gens (vectors_of list) s 0 (slice_index rows 0) c (first_step s (ap (slice_get steps) (sym zero_is) ∙ e))
+      (subst (IsRowOf a kind (vectors_of list) (Generator 0)) (sym (first_is rows start h.climb.begins)) rs)))
       (λ more. ⊎_elim
       (λ (inner : j + 1 < length rows). inner_steps j s e (positive j more) inner)
       (λ ending.
@@ -237,11 +252,18 @@ module _ (a : FiniteAlgebra) (kind : ChainKind) (p : Product) (gens : List Vecto
   -- ---- with one worker
 
   -- the row of a generator that no earlier one equals has the generator as its steps
-  generator_serial : (j i : ℕ) → IsSerialListing p gens list → j < kind.places → IsRowOf a kind (vectors_of list) (Generator j) i → ((k : ℕ) → k < j → vector_of a kind.patterns (Generator k) ≡ vector_of a kind.patterns (Generator j) → ⊥) → AreStepsFor (arities_of a) list i (Gen j ∷ [])
+  generator_serial : (j i : ℕ) → IsSerialListing p gens list → j < kind.places → IsRowOf a kind (vectors_of list) (Generator j) i
+      → ((k : ℕ) → k < j → vector_of a kind.patterns (Generator k) ≡ vector_of a kind.patterns (Generator j) → ⊥)
+      → AreStepsFor (arities_of a) list i (Gen j ∷ [])
   generator_serial j i serial l r first =
       let v = vector_of a kind.patterns (Generator j) in
       let stands : (k : ℕ) → k < kind.places → slice_get gens k ≡ Some (vector_of a kind.patterns (Generator k)) = λ k low. ap (λ (gs : List Vector). slice_get gs k) c.gens_are ∙ generator_at a kind k low in
-      let origin = serial_generator p gens list i j v serial r.stands (stands j l) (λ k low e. first k low (same_Some (vector_of a kind.patterns (Generator k)) (vector_of a kind.patterns (Generator j)) (sym (stands k (omega (arith, low, l))) ∙ e))) in
+      let origin =
+      serial_generator p gens list i j v serial r.stands (stands j l)
+      (λ k low e.
+      first k low
+      (same_Some (vector_of a kind.patterns (Generator k)) (vector_of a kind.patterns (Generator j))
+      (sym (stands k (omega (arith, low, l))) ∙ e))) in
       generator_steps_for (arities_of a) list i j (row_within list i v r.stands) origin
 
   each_serial : IsSerialListing p gens list → (j : ℕ) (s : StepList) → slice_get steps j ≡ Some s → AreStepsOfRow (arities_of a) list s
@@ -263,7 +285,10 @@ module _ (a : FiniteAlgebra) (kind : ChainKind) (p : Product) (gens : List Vecto
       let many : 1 < length rows = (let l = positive j more in omega (arith, l, top)) in
       record {
         place = end;
-        steps = subst (λ (x : StepList). AreStepsFor (arities_of a) list end x.items) (sym (step_last j s e (positive j more) top)) (generator_serial kind.end end serial c.is_kind.end re (end_is_first a kind (vectors_of list) allowed even odd c.is_kind c.wide chart start end rows rs re h many));
+        steps =
+            subst (λ (x : StepList). AreStepsFor (arities_of a) list end x.items) (sym (step_last j s e (positive j more) top))
+            (generator_serial kind.end end serial c.is_kind.end re
+            (end_is_first a kind (vectors_of list) allowed even odd c.is_kind c.wide chart start end rows rs re h many));
       })
       (cases_lt (j + 1) (length rows)))
       (cases_eq j 0)
@@ -276,7 +301,12 @@ module _ (a : FiniteAlgebra) (kind : ChainKind) (p : Product) (gens : List Vecto
     terms = all_from_places (AreStepsOfRow (arities_of a) list) steps (each_serial serial);
   }
 
-pub no_answer : (a : FiniteAlgebra) (kind : ChainKind) (b : ℕ) (list : List Row) (allowed : List Bool) (even odd : LinkLists) (start end : ℕ) (at_even at_odd : List Bool) (evens odds : List ℕ) → IsKind kind → 0 < length (all_fillings a.size kind.patterns) → IsClosedListing (power_of a kind) (generators_of a kind) b list → IsChart a kind (vectors_of list) allowed even odd → IsRowOf a kind (vectors_of list) (Generator 0) start → IsRowOf a kind (vectors_of list) (Generator kind.end) end → HasNoClimb allowed even odd start end at_even at_odd → AreEvenNumbers kind.by_parity at_even at_odd evens → AreOddNumbers kind.by_parity at_odd odds → TellsNoChain a kind b list evens odds
+pub no_answer : (a : FiniteAlgebra) (kind : ChainKind) (b : ℕ) (list : List Row) (allowed : List Bool) (even odd : LinkLists) (start end : ℕ)
+    (at_even at_odd : List Bool) (evens odds : List ℕ)
+    → IsKind kind → 0 < length (all_fillings a.size kind.patterns) → IsClosedListing (power_of a kind) (generators_of a kind) b list
+    → IsChart a kind (vectors_of list) allowed even odd → IsRowOf a kind (vectors_of list) (Generator 0) start
+    → IsRowOf a kind (vectors_of list) (Generator kind.end) end → HasNoClimb allowed even odd start end at_even at_odd
+    → AreEvenNumbers kind.by_parity at_even at_odd evens → AreOddNumbers kind.by_parity at_odd odds → TellsNoChain a kind b list evens odds
 no_answer a kind b list allowed even odd start end at_even at_odd evens odds k wide closed chart rs re h he ho =
     let vs = vectors_of list in
     let even_long : length at_even ≡ length vs = h.even_count ∙ chart.count in
@@ -320,24 +350,31 @@ pub widths_of : (a : FiniteAlgebra) (kind : ChainKind) (vs : List Vector) (size 
 widths_of a kind vs size c e = subst (λ n. HaveWidth n kind.patterns vs) (sym e) (have_width a kind vs c.is_kind c.wide (λ v m. (c.exact v).0 m))
 
 -- the row of generator 0 is allowed
-pub start_allowed : (a : FiniteAlgebra) (kind : ChainKind) (vs : List Vector) (size start : ℕ) (allowed : List Bool) → IsKind kind → size ≡ a.size → IsRowOf a kind vs (Generator 0) start → AreOwnRows size kind vs allowed → IsAllowed allowed start
+pub start_allowed : (a : FiniteAlgebra) (kind : ChainKind) (vs : List Vector) (size start : ℕ) (allowed : List Bool) → IsKind kind → size ≡ a.size
+    → IsRowOf a kind vs (Generator 0) start → AreOwnRows size kind vs allowed → IsAllowed allowed start
 start_allowed a kind vs size start allowed k e r own =
     let here = subst (λ n. AreOwnRows n kind vs allowed) e own in
     let both = own_both a kind.patterns here.number (Generator 0) here.named in
     (here.rows start (vector_of a kind.patterns (Generator 0)) r.stands).1 (both.1 (subst (λ (is : List TermIdentity). AllByRecursion (Satisfies a (Generator 0)) is) here.own_is (first_is_own a kind k)))
 
-pub rows_within : (size : ℕ) (kind : ChainKind) (list : List Row) (start end : ℕ) (climb : Climb) (rows : List ℕ) → IsClimbIn size kind (vectors_of list) start end climb → ((h : IsClimbIn size kind (vectors_of list) start end climb) → IsLeastClimb h.allowed h.even h.odd start end rows) → AllByRecursion (λ i. i < length list) rows
+pub rows_within : (size : ℕ) (kind : ChainKind) (list : List Row) (start end : ℕ) (climb : Climb) (rows : List ℕ)
+    → IsClimbIn size kind (vectors_of list) start end climb
+    → ((h : IsClimbIn size kind (vectors_of list) start end climb) → IsLeastClimb h.allowed h.even h.odd start end rows)
+    → AllByRecursion (λ i. i < length list) rows
 rows_within size kind list start end climb rows h least =
     let n = length-map list (λ (r : Row). r.vector) in
     let count = h.own.count in
     allowed_below h.allowed rows (length list) (omega (arith, n, count)) (least h).climb.allows
 
 -- the row of the last generator
-pub end_row : (a : FiniteAlgebra) (kind : ChainKind) (p : Product) (gens vs : List Vector) (i : ℕ) (v : Vector) (j : ℕ) → IsClosureOf a kind p gens → kind.end ≡ length gens - 1 → j ≡ length gens - 1 → slice_get gens j ≡ Some v → slice_get vs i ≡ Some v → IsRowOf a kind vs (Generator kind.end) i
+pub end_row : (a : FiniteAlgebra) (kind : ChainKind) (p : Product) (gens vs : List Vector) (i : ℕ) (v : Vector) (j : ℕ) → IsClosureOf a kind p gens
+    → kind.end ≡ length gens - 1 → j ≡ length gens - 1 → slice_get gens j ≡ Some v → slice_get vs i ≡ Some v
+    → IsRowOf a kind vs (Generator kind.end) i
 end_row a kind p gens vs i v j c end same at here =
     generator_row a kind vs kind.end i v c.is_kind.end (ap (λ (gs : List Vector). slice_get gs kind.end) (sym c.gens_are) ∙ ap (slice_get gens) (end ∙ sym same) ∙ at) here
 
-pub even_lent : (by_parity told : Bool) (at_even at_odd lent_even lent_odd : List Bool) (numbers : List ℕ) → told ≡ by_parity → lent_even ≡ at_even → lent_odd ≡ at_odd → AreEvenNumbers told lent_even lent_odd numbers → AreEvenNumbers by_parity at_even at_odd numbers
+pub even_lent : (by_parity told : Bool) (at_even at_odd lent_even lent_odd : List Bool) (numbers : List ℕ) → told ≡ by_parity → lent_even ≡ at_even
+    → lent_odd ≡ at_odd → AreEvenNumbers told lent_even lent_odd numbers → AreEvenNumbers by_parity at_even at_odd numbers
 even_lent by_parity told at_even at_odd lent_even lent_odd numbers e f g h =
     subst (λ (b : Bool). AreEvenNumbers b at_even at_odd numbers) e (subst (λ (xs : List Bool). AreEvenNumbers told xs at_odd numbers) f (subst (λ (xs : List Bool). AreEvenNumbers told lent_even xs numbers) g h))
 

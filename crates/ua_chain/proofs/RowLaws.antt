@@ -36,14 +36,21 @@ part_in_all n ps m p vs l h w =
     let within = (part_within n ps m p l h).1 in
     all_weaker (λ (v : Vector). length v ≡ length (all_fillings n ps)) (λ (v : Vector). p.to ≤ length v) (λ v e. omega (arith, within, e)) vs w
 
-pub parts_in_all : (n : ℕ) (ps : List VariablePattern) (pair : PatternPair) (p q : Part) (vs : List Vector) → pair.first < length ps → pair.second < length ps → IsPartOf n ps pair.first p → IsPartOf n ps pair.second q → HaveWidth n ps vs → AllByRecursion (λ (v : Vector). (p.to ≤ length v) × (q.to ≤ length v)) vs
+pub parts_in_all : (n : ℕ) (ps : List VariablePattern) (pair : PatternPair) (p q : Part) (vs : List Vector) → pair.first < length ps
+    → pair.second < length ps → IsPartOf n ps pair.first p → IsPartOf n ps pair.second q → HaveWidth n ps vs
+    → AllByRecursion (λ (v : Vector). (p.to ≤ length v) × (q.to ≤ length v)) vs
 parts_in_all n ps pair p q vs l m h k w =
     let one = (part_within n ps pair.first p l h).1 in
     let two = (part_within n ps pair.second q m k).1 in
     all_weaker (λ (v : Vector). length v ≡ length (all_fillings n ps)) (λ (v : Vector). (p.to ≤ length v) × (q.to ≤ length v)) (λ v e. (omega (arith, one, e), omega (arith, two, e))) vs w
 
 -- the rows with the values of place 0 are the allowed ones
-pub own_rows_from : (n : ℕ) (kind : ChainKind) (rows : List Row) (m : ℕ) (p : Part) (values lent : List ℕ) (r : Result (Vec Bool Global) AllocError) → kind.own ≡ own_of kind.patterns (Some m) → m < length kind.patterns → IsPartOf n kind.patterns m p → lent ≡ values → values ≡ projection n (pattern_at kind.patterns m).variables (slice_index (pattern_at kind.patterns m).places 0) → IfOk r (λ allowed. length allowed.items ≡ length rows) → IfOk r (λ allowed. (i : ℕ) (v : Vector) → slice_get (vectors_of rows) i ≡ Some v → IsAllowed allowed.items i ↔ (entries_at p v ≡ lent)) → IfOk r (λ allowed. AreOwnRows n kind (vectors_of rows) allowed.items)
+pub own_rows_from : (n : ℕ) (kind : ChainKind) (rows : List Row) (m : ℕ) (p : Part) (values lent : List ℕ) (r : Result (Vec Bool Global) AllocError)
+    → kind.own ≡ own_of kind.patterns (Some m) → m < length kind.patterns → IsPartOf n kind.patterns m p → lent ≡ values
+    → values ≡ projection n (pattern_at kind.patterns m).variables (slice_index (pattern_at kind.patterns m).places 0)
+    → IfOk r (λ allowed. length allowed.items ≡ length rows)
+    → IfOk r (λ allowed. (i : ℕ) (v : Vector) → slice_get (vectors_of rows) i ≡ Some v → IsAllowed allowed.items i ↔ (entries_at p v ≡ lent))
+    → IfOk r (λ allowed. AreOwnRows n kind (vectors_of rows) allowed.items)
 own_rows_from n kind rows m p values lent (Ok allowed) own low part same are count h = record {
   number = Some m;
   own_is = own;
@@ -57,7 +64,8 @@ own_rows_from n kind rows m p values lent (Ok allowed) own low part same are cou
 }
 own_rows_from n kind rows m p values lent (Err e) own low part same are count h = tt
 
-pub links_from : (n : ℕ) (ps : List VariablePattern) (pair : PatternPair) (vs : List Vector) (p q : Part) (links : LinkLists) → pair.first < length ps → pair.second < length ps → IsPartOf n ps pair.first p → IsPartOf n ps pair.second q → AreLinksBy vs p q links → AreLinksAt n ps pair vs links
+pub links_from : (n : ℕ) (ps : List VariablePattern) (pair : PatternPair) (vs : List Vector) (p q : Part) (links : LinkLists) → pair.first < length ps
+    → pair.second < length ps → IsPartOf n ps pair.first p → IsPartOf n ps pair.second q → AreLinksBy vs p q links → AreLinksAt n ps pair vs links
 links_from n ps pair vs p q links l m a b h = record {
   count = h.count;
   few = h.few;
@@ -68,7 +76,9 @@ links_from n ps pair vs p q links l m a b h = record {
       );
 }
 
-pub links_from_ok : (n : ℕ) (ps : List VariablePattern) (pair : PatternPair) (vs : List Vector) (p q : Part) (r : Result LinkLists AllocError) → pair.first < length ps → pair.second < length ps → IsPartOf n ps pair.first p → IsPartOf n ps pair.second q → IfOk r (AreLinksBy vs p q) → IfOk r (AreLinksAt n ps pair vs)
+pub links_from_ok : (n : ℕ) (ps : List VariablePattern) (pair : PatternPair) (vs : List Vector) (p q : Part) (r : Result LinkLists AllocError)
+    → pair.first < length ps → pair.second < length ps → IsPartOf n ps pair.first p → IsPartOf n ps pair.second q → IfOk r (AreLinksBy vs p q)
+    → IfOk r (AreLinksAt n ps pair vs)
 links_from_ok n ps pair vs p q (Ok links) l m a b h = links_from n ps pair vs p q links l m a b h
 links_from_ok n ps pair vs p q (Err e) l m a b h = tt
 
@@ -88,7 +98,9 @@ own_both a ps (Some m) t l = (
   λ h. part_of_term a ps m t l ∙ part_from_satisfied a (record { pattern = pattern_at ps m; value = slice_index (pattern_at ps m).places 0 }) t h.0,
 )
 
-linked_both : (a : FiniteAlgebra) (ps : List VariablePattern) (pair : PatternPair) (d e : Tree) → pair.first < length ps → pair.second < length ps → (pattern_at ps pair.first).variables ≡ (pattern_at ps pair.second).variables → (part_at a.size ps pair.first (vector_of a ps d) ≡ part_at a.size ps pair.second (vector_of a ps e)) ↔ AreLinked a (link_of ps pair) d e
+linked_both : (a : FiniteAlgebra) (ps : List VariablePattern) (pair : PatternPair) (d e : Tree) → pair.first < length ps → pair.second < length ps
+    → (pattern_at ps pair.first).variables ≡ (pattern_at ps pair.second).variables
+    → (part_at a.size ps pair.first (vector_of a ps d) ≡ part_at a.size ps pair.second (vector_of a ps e)) ↔ AreLinked a (link_of ps pair) d e
 linked_both a ps pair d e l m same = (
   λ h. linked_from_parts a (link_of ps pair) d e same (sym (part_of_term a ps pair.first d l) ∙ h ∙ part_of_term a ps pair.second e m),
   λ h. part_of_term a ps pair.first d l ∙ parts_from_linked a (link_of ps pair) d e same h ∙ sym (part_of_term a ps pair.second e m),
@@ -101,7 +113,9 @@ pub record IsPairOf (ps : List VariablePattern) (l : Link) (pair : PatternPair) 
   pub second : pair.second < length ps
   pub same : (pattern_at ps pair.first).variables ≡ (pattern_at ps pair.second).variables
 
-links_both : (a : FiniteAlgebra) (kind : ChainKind) (vs : List Vector) (l : Link) (pair : PatternPair) (links : LinkLists) → IsPairOf kind.patterns l pair → AreLinksAt a.size kind.patterns pair vs links → (d e : Tree) (i j : ℕ) → IsRowOf a kind vs d i → IsRowOf a kind vs e j → Joins links i j ↔ AreLinked a l d e
+links_both : (a : FiniteAlgebra) (kind : ChainKind) (vs : List Vector) (l : Link) (pair : PatternPair) (links : LinkLists)
+    → IsPairOf kind.patterns l pair → AreLinksAt a.size kind.patterns pair vs links → (d e : Tree) (i j : ℕ) → IsRowOf a kind vs d i
+    → IsRowOf a kind vs e j → Joins links i j ↔ AreLinked a l d e
 links_both a kind vs l pair links p h d e i j x y =
     let joined = h.joins i j (vector_of a kind.patterns d) (vector_of a kind.patterns e) x.stands y.stands in
     let both = linked_both a kind.patterns pair d e p.first p.second p.same in (
@@ -109,7 +123,10 @@ links_both a kind vs l pair links p h d e i j x y =
       λ w. joined.1 (both.1 (subst (λ (k : Link). AreLinked a k d e) p.link_is w)),
     )
 
-pub chart_from : (a : FiniteAlgebra) (kind : ChainKind) (vs : List Vector) (allowed : List Bool) (even odd : LinkLists) (ep op : PatternPair) → ((v : Vector) → Contains vs v ↔ Sg (power_of a kind) (generators_of a kind) v) → IsIncreasing vs → AreOwnRows a.size kind vs allowed → IsPairOf kind.patterns kind.even ep → IsPairOf kind.patterns kind.odd op → AreLinksAt a.size kind.patterns ep vs even → AreLinksAt a.size kind.patterns op vs odd → IsChart a kind vs allowed even odd
+pub chart_from : (a : FiniteAlgebra) (kind : ChainKind) (vs : List Vector) (allowed : List Bool) (even odd : LinkLists) (ep op : PatternPair)
+    → ((v : Vector) → Contains vs v ↔ Sg (power_of a kind) (generators_of a kind) v) → IsIncreasing vs → AreOwnRows a.size kind vs allowed
+    → IsPairOf kind.patterns kind.even ep → IsPairOf kind.patterns kind.odd op → AreLinksAt a.size kind.patterns ep vs even
+    → AreLinksAt a.size kind.patterns op vs odd → IsChart a kind vs allowed even odd
 chart_from a kind vs allowed even odd ep op exact inc own pe po le lo = record {
   exact = exact;
   once = λ i j v x y. one_row vs (increasing_different vs inc) i j v x y;
@@ -125,7 +142,8 @@ chart_from a kind vs allowed even odd ep op exact inc own pe po le lo = record {
 }
 
 -- each vector has an entry for each filling
-pub have_width : (a : FiniteAlgebra) (kind : ChainKind) (vs : List Vector) → IsKind kind → 0 < length (all_fillings a.size kind.patterns) → ((v : Vector) → Contains vs v → Sg (power_of a kind) (generators_of a kind) v) → HaveWidth a.size kind.patterns vs
+pub have_width : (a : FiniteAlgebra) (kind : ChainKind) (vs : List Vector) → IsKind kind → 0 < length (all_fillings a.size kind.patterns)
+    → ((v : Vector) → Contains vs v → Sg (power_of a kind) (generators_of a kind) v) → HaveWidth a.size kind.patterns vs
 have_width a kind [] k wide h = tt
 have_width a kind (v ∷ vs) k wide h =
     let t = term_of_member a kind v k wide (h v (0, omega arith, refl)) in (

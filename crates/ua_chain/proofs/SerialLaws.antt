@@ -56,7 +56,9 @@ generator_by_rank : (ks ranks : List ℕ) (o : Origin) (j : ℕ) → by_rank ks 
 generator_by_rank ks ranks (Gen i) j e = e
 generator_by_rank ks ranks (Op f args) j e = cc
 
-pub serial_generator : (p : Product) (gens : List Vector) (rows : List Row) (i j : ℕ) (v : Vector) → IsSerialListing p gens rows → slice_get (vectors_of rows) i ≡ Some v → slice_get gens j ≡ Some v → ((k : ℕ) → k < j → slice_get gens k ≡ Some v → ⊥) → origin_at rows i ≡ Gen j
+pub serial_generator : (p : Product) (gens : List Vector) (rows : List Row) (i j : ℕ) (v : Vector) → IsSerialListing p gens rows
+    → slice_get (vectors_of rows) i ≡ Some v → slice_get gens j ≡ Some v → ((k : ℕ) → k < j → slice_get gens k ≡ Some v → ⊥)
+    → origin_at rows i ≡ Gen j
 serial_generator p gens rows i j v s at e first =
     let row = mapped_from (λ (r : Row). r.vector) rows i v at in
     let r = row.0 in

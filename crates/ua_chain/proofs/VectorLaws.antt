@@ -15,7 +15,8 @@ use Rattle.ua_identity.proofs.KindLaws.{some_fillings}
 use Rattle.ua_identity.proofs.ChainLaws.{fillings_assign, generator_count}
 
 -- what stands at a place is an element
-place_fits : (a : FiniteAlgebra) (places j : ℕ) (fs : List (List ℕ)) → j < places → ((xs : List ℕ) → Contains fs xs → IsAssignment a.size places xs) → AllZip (λ (b : FiniteAlgebra) x. x < b.size) (replicate (length fs) a) (place_vector fs j)
+place_fits : (a : FiniteAlgebra) (places j : ℕ) (fs : List (List ℕ)) → j < places → ((xs : List ℕ) → Contains fs xs → IsAssignment a.size places xs)
+    → AllZip (λ (b : FiniteAlgebra) x. x < b.size) (replicate (length fs) a) (place_vector fs j)
 place_fits a places j [] l h = tt
 place_fits a places j (xs ∷ fs) l h =
     let here = h xs (Contains-head xs fs) in

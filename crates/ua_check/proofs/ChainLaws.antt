@@ -13,7 +13,7 @@ use Rattle.ua_table.specs.declared.origins.Origin.{Origin}
 use Rattle.ua_table.specs.Terms.{Tree, IsTerm}
 use Rattle.ua_table.specs.Refusals.{refusal_if, first_refusal}
 use Rattle.ua_table.proofs.Lists.{all_from_places}
-use Rattle.ua_table.proofs.RefusalLemmas.{passed}
+use Rattle.ua_table.proofs.RefusalLaws.{passed}
 use Rattle.ua_table.specs.Sequences.{Alternates, BeginsWith, EndsWith}
 use Rattle.ua_term.specs.Steps.{written_term}
 use Rattle.ua_identity.specs.Chains.{ChainKind, AreLinked, IsOwn, IsPlace, IsChain}
@@ -132,7 +132,9 @@ written_all term a places n (steps ∷ terms) some none =
     (term a places (Some n) steps (some_length (length steps) s.0) h.0, written_all term a places (n + 1) terms s.1 h.1)
 
 -- steps without a flaw, of which there are some, and at most so many
-terms_written : StepsAreSteps → (a : FiniteAlgebra) (most n : ℕ) (terms : List (List CertStep)) → list_any (λ (steps : List CertStep). length steps == 0) terms ≡ false → AllByRecursion (λ (steps : List CertStep). length steps ≤ most) terms → first_refusal (map (term_flaw a 3) (enumerate_from n terms)) ≡ None
+terms_written : StepsAreSteps → (a : FiniteAlgebra) (most n : ℕ) (terms : List (List CertStep))
+    → list_any (λ (steps : List CertStep). length steps == 0) terms ≡ false → AllByRecursion (λ (steps : List CertStep). length steps ≤ most) terms
+    → first_refusal (map (term_flaw a 3) (enumerate_from n terms)) ≡ None
     → AllByRecursion (AreStepsWithin a most) (map (origins_of a) terms)
 terms_written are a most n [] some few none = tt
 terms_written are a most n (steps ∷ terms) some few none =
@@ -143,7 +145,9 @@ terms_written are a most n (steps ∷ terms) some few none =
     let low = few.0 in
     (record { some = omega (arith, long, count); few = omega (arith, low, count); steps = are a 3 (Some n) steps h.0 }, terms_written are a most (n + 1) terms s.1 few.1 h.1)
 
-pub are_term_steps : StepsAreSteps → (a : FiniteAlgebra) (most : ℕ) (terms : List (List CertStep)) → is_without_term terms ≡ false → AllByRecursion (λ (steps : List CertStep). length steps ≤ most) terms → terms_flaw a 3 terms ≡ None → AllByRecursion (AreStepsWithin a most) (map (origins_of a) terms)
+pub are_term_steps : StepsAreSteps → (a : FiniteAlgebra) (most : ℕ) (terms : List (List CertStep)) → is_without_term terms ≡ false
+    → AllByRecursion (λ (steps : List CertStep). length steps ≤ most) terms → terms_flaw a 3 terms ≡ None
+    → AllByRecursion (AreStepsWithin a most) (map (origins_of a) terms)
 are_term_steps are a most terms some few none = terms_written are a most 0 terms (or_parts (length terms == 0) (list_any (λ (steps : List CertStep). length steps == 0) terms) some).1 few none
 
 pub three_places : (name : ChainName) → (kind_of name).places ≡ 3
@@ -158,7 +162,8 @@ chain_narrow a kind w low e = below (chain_width a kind) (length-replicate (leng
     below n same = grind (arith, nat_tests)
 
 -- what is left where the terms have steps
-pub chain_told : (a : FiniteAlgebra) (kind : ChainKind) (terms : List (List CertStep)) (list : List (List Origin)) → kind.places ≡ 3 → (nat_lt WIDTH (chain_width a kind) || is_without_term terms) ≡ false → terms_flaw a 3 terms ≡ None → list ≡ map (origins_of a) terms
+pub chain_told : (a : FiniteAlgebra) (kind : ChainKind) (terms : List (List CertStep)) (list : List (List Origin)) → kind.places ≡ 3
+    → (nat_lt WIDTH (chain_width a kind) || is_without_term terms) ≡ false → terms_flaw a 3 terms ≡ None → list ≡ map (origins_of a) terms
     → links_flaw a kind (map (written_term (arities_of a)) list) ≡ first_refusal (chain_lines a kind terms)
 chain_told a kind terms list three fits fine read =
     let trees : map (written_term (arities_of a)) list ≡ map (last_term a) terms = ap (map (written_term (arities_of a))) read ∙ map-map (written_term (arities_of a)) (origins_of a) terms in
@@ -178,5 +183,9 @@ chain_holds term a name terms none =
     let some = or_parts (length terms == 0) (list_any (λ (steps : List CertStep). length steps == 0) terms) shape.1 in
     let long = some_length (length terms) some.0 in
     let count = length-map terms (last_term a) in
-    let good = λ (i : ℕ) (t : Tree) (at : slice_get trees i ≡ Some t). (let z : 0 + i ≡ i = omega arith in ap (λ k. is_in_chain a kind trees k t) (sym z) ∙ each_good (is_in_chain a kind trees) 0 trees (option_none flaw.Link (first_bad (is_in_chain a kind trees) 0 trees) l.1.1.0) i t at) in
+    let good =
+    λ (i : ℕ) (t : Tree) (at : slice_get trees i ≡ Some t).
+    (let z : 0 + i ≡ i = omega arith in
+    ap (λ k. is_in_chain a kind trees k t) (sym z)
+    ∙ each_good (is_in_chain a kind trees) 0 trees (option_none flaw.Link (first_bad (is_in_chain a kind trees) 0 trees) l.1.1.0) i t at) in
     are_chain a kind trees good (omega (arith, long, count)) (written_all term a kind.places 0 terms some.1 l.1.0)

@@ -13,7 +13,7 @@ use Rattle.ua_table.specs.Terms.{IsTerm}
 use Rattle.ua_table.specs.Generated.{Sg}
 use Rattle.ua_table.specs.Refusals.{refusal_if, first_refusal}
 use Rattle.ua_table.proofs.Lists.{all_map, all_from_contains}
-use Rattle.ua_table.proofs.RefusalLemmas.{passed}
+use Rattle.ua_table.proofs.RefusalLaws.{passed}
 use Rattle.ua_term.specs.Steps.{written_term}
 use Rattle.ua_identity.specs.declared.limits.TheConstants.{PLACES}
 use Rattle.ua_identity.specs.Identities.{TermIdentity}
@@ -66,11 +66,15 @@ places_fit a name k none =
     not_false (has_places name k) (or_parts (not (has_places name k)) (nat_lt WIDTH (length (condition_power a (condition_of name k)))) (refusal_none (is_no_condition a name k) flaw.Width none)).0
 
 -- what is left where the condition has its terms, and the steps are steps
-pub condition_told : (a : FiniteAlgebra) (name : CondName) (k : ℕ) (c : TermCondition) (steps : List CertStep) (os : List Origin) → c ≡ condition_of name k → os ≡ origins_of a steps → refusal_if (is_no_condition a name k) flaw.Width ≡ None → (length steps == 0) ≡ false → steps_flaw a k None steps ≡ None
+pub condition_told : (a : FiniteAlgebra) (name : CondName) (k : ℕ) (c : TermCondition) (steps : List CertStep) (os : List Origin)
+    → c ≡ condition_of name k → os ≡ origins_of a steps → refusal_if (is_no_condition a name k) flaw.Width ≡ None → (length steps == 0) ≡ false
+    → steps_flaw a k None steps ≡ None
     → identities_flaw a c.identities (written_term (arities_of a) os) ≡ condition_flaw a name k steps
 condition_told a name k c steps os same read fits some fine =
     let width : refusal_if (is_no_condition a name k || (length steps == 0)) flaw.Width ≡ None = ap (λ b. refusal_if b flaw.Width) (ap (λ b. b || (length steps == 0)) (refusal_none (is_no_condition a name k) flaw.Width fits) ∙ some) in
-    let left : identities_flaw a (condition_of name k).identities (last_term a steps) ≡ first_refusal (identities_flaw a (condition_of name k).identities (last_term a steps) ∷ []) = alone (identities_flaw a (condition_of name k).identities (last_term a steps)) in
+    let left : identities_flaw a (condition_of name k).identities (last_term a steps)
+    ≡ first_refusal (identities_flaw a (condition_of name k).identities (last_term a steps) ∷ []) =
+    alone (identities_flaw a (condition_of name k).identities (last_term a steps)) in
     ap (λ (t : TermCondition). identities_flaw a t.identities (written_term (arities_of a) os)) same
     ∙ ap (λ (zs : List Origin). identities_flaw a (condition_of name k).identities (written_term (arities_of a) zs)) read
     ∙ left
@@ -92,7 +96,10 @@ condition_holds are term a name k steps none =
 pub power_is : (a : FiniteAlgebra) (name : CondName) (k : ℕ) → power a (width_of a name k) ≡ condition_power a (condition_of name k)
 power_is a name k = ap (λ n. replicate n a) (length-replicate (length (all_fillings a.size (patterns_of (condition_of name k)))) a)
 
-pub no_condition_holds : LackedIsOutside → (a : FiniteAlgebra) (name : CondName) (k : ℕ) (rows : List Vector) → (Sg (condition_power a (condition_of name k)) (argument_vectors a (condition_of name k)) (value_vector a (condition_of name k)) ↔ IsMet a (condition_of name k)) → no_condition_flaw a name k rows ≡ None → HasNoTerm a name k
+pub no_condition_holds : LackedIsOutside → (a : FiniteAlgebra) (name : CondName) (k : ℕ) (rows : List Vector)
+    → (Sg (condition_power a (condition_of name k)) (argument_vectors a (condition_of name k)) (value_vector a (condition_of name k)) ↔ IsMet a
+    (condition_of name k))
+    → no_condition_flaw a name k rows ≡ None → HasNoTerm a name k
 no_condition_holds outside a name k rows law none met =
     let c = condition_of name k in
     outside a (width_of a name k) (argument_vectors a c) rows (value_vector a c)

@@ -12,7 +12,7 @@ use Rattle.ua_table.specs.Terms.{Tree, Generator, IsTerm}
 use Rattle.ua_table.specs.Generated.{Sg}
 use Rattle.ua_table.specs.Refusals.{refusal_if}
 use Rattle.ua_table.proofs.Lists.{found, Contains-slice_get, all_at}
-use Rattle.ua_table.proofs.RefusalLemmas.{refusal_if-false}
+use Rattle.ua_table.proofs.RefusalLaws.{refusal_if-false}
 use Rattle.ua_table.specs.Sequences.{Alternates, EndsWith, ends_even}
 use Rattle.ua_identity.specs.Chains.{AreLinked, IsOwn, IsPlace, IsBeginning, IsChain, is_among_even, IsReached, generators_of, AreReached}
 use Rattle.ua_identity.specs.Patterns.{all_fillings, vector_of}
@@ -96,7 +96,9 @@ module _ (a : FiniteAlgebra) (name : ChainName) where
   end_not_reached : (even : Bool) → IsReached a (kind_of name) even (place_of a (kind_of name) (kind_of name).end) → HasNoChain a name → ⊥
   unfolding vec
   end_not_reached even r none =
-      let reaches : EndsWith (λ t. vector_of a (kind_of name).patterns t ≡ vec a name (Generator (kind_of name).end)) r.terms = subst (λ v. EndsWith (λ t. vector_of a (kind_of name).patterns t ≡ v) r.terms) (sym (end_is a name (Generator (kind_of name).end) (λ xs h. refl))) r.reaches in
+      let reaches : EndsWith (λ t. vector_of a (kind_of name).patterns t ≡ vec a name (Generator (kind_of name).end)) r.terms =
+      subst (λ v. EndsWith (λ t. vector_of a (kind_of name).patterns t ≡ v) r.terms)
+      (sym (end_is a name (Generator (kind_of name).end) (λ xs h. refl))) r.reaches in
       let c = ended r.terms r.beginning reaches in
       none c.0 c.1
 
@@ -116,15 +118,23 @@ module _ (a : FiniteAlgebra) (name : ChainName) (rows : List Vector) (even odd :
       record { term = t.0; is_term = t.1; vector = t.2 }
 
   -- a row that is reached leads to another, by the link of its side
-  led : (side : Bool) (i : ℕ) (v u : Vector) (at : slice_get rows i ≡ Some v) → is_own_row a.size (kind_of name) v ≡ true → (r : IsReached a (kind_of name) side u) → (ends_even r.terms ≡ true → leads a.size (kind_of name) (kind_of name).even u v ≡ true) → (ends_even r.terms ≡ false → leads a.size (kind_of name) (kind_of name).odd u v ≡ true)
+  led : (side : Bool) (i : ℕ) (v u : Vector) (at : slice_get rows i ≡ Some v) → is_own_row a.size (kind_of name) v ≡ true
+      → (r : IsReached a (kind_of name) side u) → (ends_even r.terms ≡ true → leads a.size (kind_of name) (kind_of name).even u v ≡ true)
+      → (ends_even r.terms ≡ false → leads a.size (kind_of name) (kind_of name).odd u v ≡ true)
       → IsReached a (kind_of name) (is_among_even (kind_of name) (r.terms ++ (term_of i v at).term ∷ [])) v
   led side i v u at own r over back =
       let t = term_of i v at in
       let mine = own_term a name t.term (subst (λ z. is_own_row a.size (kind_of name) z ≡ true) (sym t.vector) own) in
       subst (IsReached a (kind_of name) (is_among_even (kind_of name) (r.terms ++ t.term ∷ []))) t.vector
       (goes_on a name side u t.term r t.is_term mine
-      (λ e d same. linked_even a name d t.term (subst (λ z. leads a.size (kind_of name) (kind_of name).even z (vec a name t.term) ≡ true) (sym same) (subst (λ z. leads a.size (kind_of name) (kind_of name).even u z ≡ true) (sym t.vector) (over e))))
-      (λ e d same. linked_odd a name d t.term (subst (λ z. leads a.size (kind_of name) (kind_of name).odd z (vec a name t.term) ≡ true) (sym same) (subst (λ z. leads a.size (kind_of name) (kind_of name).odd u z ≡ true) (sym t.vector) (back e)))))
+      (λ e d same.
+      linked_even a name d t.term
+      (subst (λ z. leads a.size (kind_of name) (kind_of name).even z (vec a name t.term) ≡ true) (sym same)
+      (subst (λ z. leads a.size (kind_of name) (kind_of name).even u z ≡ true) (sym t.vector) (over e))))
+      (λ e d same.
+      linked_odd a name d t.term
+      (subst (λ z. leads a.size (kind_of name) (kind_of name).odd z (vec a name t.term) ≡ true) (sym same)
+      (subst (λ z. leads a.size (kind_of name) (kind_of name).odd u z ≡ true) (sym t.vector) (back e)))))
 
   row_at : (p : ℕ) → p < length rows → (u : Vector) × (slice_get rows p ≡ Some u)
   row_at p l = found rows p l
@@ -138,7 +148,8 @@ module _ (a : FiniteAlgebra) (name : ChainName) (rows : List Vector) (even odd :
       let is = same_is v (place_of a (kind_of name) (kind_of name).end) same in
       let no_even : holds_position even i ≡ true → ⊥ = λ h. end_not_reached a name true (subst (IsReached a (kind_of name) true) is ((evens.exact i v at).0 (held_is even i h))) none in
       let no_odd : holds_position odd i ≡ true → ⊥ = λ h. end_not_reached a name false (subst (IsReached a (kind_of name) false) is ((odds.exact i v at).0 (held_is odd i h))) none in
-      and_from (not (holds_position even i)) (not (holds_position (odd_positions (kind_of name) even odd) i)) (not_held (holds_position even i) no_even) (not_held (holds_position (odd_positions (kind_of name) even odd) i) (other name no_even no_odd)))
+      and_from (not (holds_position even i)) (not (holds_position (odd_positions (kind_of name) even odd) i))
+      (not_held (holds_position even i) no_even) (not_held (holds_position (odd_positions (kind_of name) even odd) i) (other name no_even no_odd)))
     where
       other : (n : ChainName) → (holds_position even i ≡ true → ⊥) → (holds_position odd i ≡ true → ⊥) → holds_position (odd_positions (kind_of n) even odd) i ≡ true → ⊥
       other Jonsson e o = o
@@ -148,50 +159,56 @@ module _ (a : FiniteAlgebra) (name : ChainName) (rows : List Vector) (even odd :
 
 -- those of a kind whose sides are told apart
 module _ (a : FiniteAlgebra) (rows : List Vector) (even odd : List ℕ) (some : 0 < length (all_fillings a.size (kind_of Jonsson).patterns))
-    (exact : AreExact a (chain_width a (kind_of Jonsson)) (generators_of a (kind_of Jonsson)) rows) (evens : AreReached a (kind_of Jonsson) true rows even) (odds : AreReached a (kind_of Jonsson) false rows odd) (none : HasNoChain a Jonsson) where
-  from_even : (i : ℕ) (v : Vector) → slice_get rows i ≡ Some v → is_own_row a.size (kind_of Jonsson) v ≡ true → is_led_to a.size (kind_of Jonsson) (kind_of Jonsson).even rows even v ≡ true → holds_position odd i ≡ true
-  from_even i v at own h =
-      let q = led_from (λ p. leads a.size (kind_of Jonsson) (kind_of Jonsson).even (slice_index_or rows p []) v) even h in
-      let u = found rows q.0 (all_at (λ p. p < length rows) even q.0 evens.within q.1) in
-      let from : leads a.size (kind_of Jonsson) (kind_of Jonsson).even u.0 v ≡ true = ap (λ z. leads a.size (kind_of Jonsson) (kind_of Jonsson).even z v) (sym (get_or_from_slice_get rows q.0 u.0 [] u.1)) ∙ q.2 in
-      let r = (evens.exact q.0 u.0 u.1).0 q.1 in
-      let side : ends_even r.terms ≡ true = left_true (ends_even r.terms) r.parity in
-      let next = led a Jonsson rows even odd some exact evens odds none true i v u.0 at own r (λ e. from) (λ e. absurd (apart side e)) in
-      let t = (term_of a Jonsson rows even odd some exact evens odds none i v at).term in
-      let flips : is_among_even (kind_of Jonsson) (r.terms ++ t ∷ []) ≡ false = ap (λ b. b || false) (ends_other r.terms t ∙ ap not side) in
-      is_held odd i ((odds.exact i v at).1 (subst (λ b. IsReached a (kind_of Jonsson) b v) flips next))
-    where
-      left_true : (b : Bool) → (b || false) ≡ true → b ≡ true
-      left_true true e = refl
-      left_true false e = cc
+    (exact : AreExact a (chain_width a (kind_of Jonsson)) (generators_of a (kind_of Jonsson)) rows)
+    (evens : AreReached a (kind_of Jonsson) true rows even) (odds : AreReached a (kind_of Jonsson) false rows odd) (none : HasNoChain a Jonsson)
+  where
+    from_even : (i : ℕ) (v : Vector) → slice_get rows i ≡ Some v → is_own_row a.size (kind_of Jonsson) v ≡ true → is_led_to a.size (kind_of Jonsson) (kind_of Jonsson).even rows even v ≡ true → holds_position odd i ≡ true
+    from_even i v at own h =
+        let q = led_from (λ p. leads a.size (kind_of Jonsson) (kind_of Jonsson).even (slice_index_or rows p []) v) even h in
+        let u = found rows q.0 (all_at (λ p. p < length rows) even q.0 evens.within q.1) in
+        let from : leads a.size (kind_of Jonsson) (kind_of Jonsson).even u.0 v ≡ true = ap (λ z. leads a.size (kind_of Jonsson) (kind_of Jonsson).even z v) (sym (get_or_from_slice_get rows q.0 u.0 [] u.1)) ∙ q.2 in
+        let r = (evens.exact q.0 u.0 u.1).0 q.1 in
+        let side : ends_even r.terms ≡ true = left_true (ends_even r.terms) r.parity in
+        let next = led a Jonsson rows even odd some exact evens odds none true i v u.0 at own r (λ e. from) (λ e. absurd (apart side e)) in
+        let t = (term_of a Jonsson rows even odd some exact evens odds none i v at).term in
+        let flips : is_among_even (kind_of Jonsson) (r.terms ++ t ∷ []) ≡ false = ap (λ b. b || false) (ends_other r.terms t ∙ ap not side) in
+        is_held odd i ((odds.exact i v at).1 (subst (λ b. IsReached a (kind_of Jonsson) b v) flips next))
+      where
+        left_true : (b : Bool) → (b || false) ≡ true → b ≡ true
+        left_true true e = refl
+        left_true false e = cc
 
-      apart : {b : Bool} → b ≡ true → b ≡ false → ⊥
-      apart e f = cc
+        apart : {b : Bool} → b ≡ true → b ≡ false → ⊥
+        apart e f = cc
 
-  from_odd : (i : ℕ) (v : Vector) → slice_get rows i ≡ Some v → is_own_row a.size (kind_of Jonsson) v ≡ true → is_led_to a.size (kind_of Jonsson) (kind_of Jonsson).odd rows odd v ≡ true → holds_position even i ≡ true
-  from_odd i v at own h =
-      let q = led_from (λ p. leads a.size (kind_of Jonsson) (kind_of Jonsson).odd (slice_index_or rows p []) v) odd h in
-      let u = found rows q.0 (all_at (λ p. p < length rows) odd q.0 odds.within q.1) in
-      let from : leads a.size (kind_of Jonsson) (kind_of Jonsson).odd u.0 v ≡ true = ap (λ z. leads a.size (kind_of Jonsson) (kind_of Jonsson).odd z v) (sym (get_or_from_slice_get rows q.0 u.0 [] u.1)) ∙ q.2 in
-      let r = (odds.exact q.0 u.0 u.1).0 q.1 in
-      let side : ends_even r.terms ≡ false = left_false (ends_even r.terms) r.parity in
-      let next = led a Jonsson rows even odd some exact evens odds none false i v u.0 at own r (λ e. absurd (apart e side)) (λ e. from) in
-      let t = (term_of a Jonsson rows even odd some exact evens odds none i v at).term in
-      let flips : is_among_even (kind_of Jonsson) (r.terms ++ t ∷ []) ≡ true = ap (λ b. b || false) (ends_other r.terms t ∙ ap not side) in
-      is_held even i ((evens.exact i v at).1 (subst (λ b. IsReached a (kind_of Jonsson) b v) flips next))
-    where
-      left_false : (b : Bool) → (b || false) ≡ false → b ≡ false
-      left_false true e = cc
-      left_false false e = refl
+    from_odd : (i : ℕ) (v : Vector) → slice_get rows i ≡ Some v → is_own_row a.size (kind_of Jonsson) v ≡ true → is_led_to a.size (kind_of Jonsson) (kind_of Jonsson).odd rows odd v ≡ true → holds_position even i ≡ true
+    from_odd i v at own h =
+        let q = led_from (λ p. leads a.size (kind_of Jonsson) (kind_of Jonsson).odd (slice_index_or rows p []) v) odd h in
+        let u = found rows q.0 (all_at (λ p. p < length rows) odd q.0 odds.within q.1) in
+        let from : leads a.size (kind_of Jonsson) (kind_of Jonsson).odd u.0 v ≡ true = ap (λ z. leads a.size (kind_of Jonsson) (kind_of Jonsson).odd z v) (sym (get_or_from_slice_get rows q.0 u.0 [] u.1)) ∙ q.2 in
+        let r = (odds.exact q.0 u.0 u.1).0 q.1 in
+        let side : ends_even r.terms ≡ false = left_false (ends_even r.terms) r.parity in
+        let next = led a Jonsson rows even odd some exact evens odds none false i v u.0 at own r (λ e. absurd (apart e side)) (λ e. from) in
+        let t = (term_of a Jonsson rows even odd some exact evens odds none i v at).term in
+        let flips : is_among_even (kind_of Jonsson) (r.terms ++ t ∷ []) ≡ true = ap (λ b. b || false) (ends_other r.terms t ∙ ap not side) in
+        is_held even i ((evens.exact i v at).1 (subst (λ b. IsReached a (kind_of Jonsson) b v) flips next))
+      where
+        left_false : (b : Bool) → (b || false) ≡ false → b ≡ false
+        left_false true e = cc
+        left_false false e = refl
 
-      apart : {b : Bool} → b ≡ true → b ≡ false → ⊥
-      apart e f = cc
+        apart : {b : Bool} → b ≡ true → b ≡ false → ⊥
+        apart e f = cc
 
-  followed_jonsson : (i : ℕ) (v : Vector) → slice_get rows i ≡ Some v → is_followed a.size (kind_of Jonsson) rows even odd i v ≡ true
-  followed_jonsson i v at = where_so (is_own_row a.size (kind_of Jonsson) v) ((holds_position odd i || not (is_led_to a.size (kind_of Jonsson) (kind_of Jonsson).even rows even v)) && (holds_position even i || not (is_led_to a.size (kind_of Jonsson) (kind_of Jonsson).odd rows odd v))) (λ own.
-      and_from (holds_position odd i || not (is_led_to a.size (kind_of Jonsson) (kind_of Jonsson).even rows even v)) (holds_position even i || not (is_led_to a.size (kind_of Jonsson) (kind_of Jonsson).odd rows odd v))
-      (or_not (holds_position odd i) (is_led_to a.size (kind_of Jonsson) (kind_of Jonsson).even rows even v) (from_even i v at own))
-      (or_not (holds_position even i) (is_led_to a.size (kind_of Jonsson) (kind_of Jonsson).odd rows odd v) (from_odd i v at own)))
+    followed_jonsson : (i : ℕ) (v : Vector) → slice_get rows i ≡ Some v → is_followed a.size (kind_of Jonsson) rows even odd i v ≡ true
+    followed_jonsson i v at =
+        where_so (is_own_row a.size (kind_of Jonsson) v)
+        ((holds_position odd i || not (is_led_to a.size (kind_of Jonsson) (kind_of Jonsson).even rows even v))
+        && (holds_position even i || not (is_led_to a.size (kind_of Jonsson) (kind_of Jonsson).odd rows odd v)))
+        (λ own.
+        and_from (holds_position odd i || not (is_led_to a.size (kind_of Jonsson) (kind_of Jonsson).even rows even v)) (holds_position even i || not (is_led_to a.size (kind_of Jonsson) (kind_of Jonsson).odd rows odd v))
+        (or_not (holds_position odd i) (is_led_to a.size (kind_of Jonsson) (kind_of Jonsson).even rows even v) (from_even i v at own))
+        (or_not (holds_position even i) (is_led_to a.size (kind_of Jonsson) (kind_of Jonsson).odd rows odd v) (from_odd i v at own)))
 
 -- those of a kind whose sides are not
 module _ (a : FiniteAlgebra) (rows : List Vector) (even odd : List ℕ) (some : 0 < length (all_fillings a.size (kind_of Hm).patterns))
@@ -216,7 +233,9 @@ module _ (a : FiniteAlgebra) (rows : List Vector) (even odd : List ℕ) (some : 
       (or_not (holds_position even i) (is_led_to a.size (kind_of Hm) (kind_of Hm).even rows even v) (from_any i v at))
       (or_not (holds_position even i) (is_led_to a.size (kind_of Hm) (kind_of Hm).odd rows even v) (from_any i v at))
 
-follows_fine : (a : FiniteAlgebra) (name : ChainName) (rows : List Vector) (even odd : List ℕ) → 0 < length (all_fillings a.size (kind_of name).patterns) → AreExact a (chain_width a (kind_of name)) (generators_of a (kind_of name)) rows → AreReached a (kind_of name) true rows even → AreReached a (kind_of name) false rows odd → HasNoChain a name
+follows_fine : (a : FiniteAlgebra) (name : ChainName) (rows : List Vector) (even odd : List ℕ)
+    → 0 < length (all_fillings a.size (kind_of name).patterns) → AreExact a (chain_width a (kind_of name)) (generators_of a (kind_of name)) rows
+    → AreReached a (kind_of name) true rows even → AreReached a (kind_of name) false rows odd → HasNoChain a name
     → (i : ℕ) (v : Vector) → slice_get rows i ≡ Some v → is_followed a.size (kind_of name) rows even (odd_positions (kind_of name) even odd) i v ≡ true
 follows_fine a Jonsson rows even odd some exact evens odds none i v at = followed_jonsson a rows even odd some exact evens odds none i v at
 follows_fine a Hm rows even odd some exact evens odds none i v at = followed_hm a rows even odd some exact evens odds none i v at
@@ -226,7 +245,9 @@ follows_fine a Hm rows even odd some exact evens odds none i v at = followed_hm 
 each_row : (good : ℕ → Vector → Bool) (rows : List Vector) → ((i : ℕ) (v : Vector) → slice_get rows i ≡ Some v → good i v ≡ true) → row_flaw good rows ≡ None
 each_row good rows h = no_option flaw.Reached (first_bad good 0 rows) (none_bad good 0 rows (λ i v at. (let z : 0 + i ≡ i = omega arith in ap (λ k. good k v) z ∙ h i v at)))
 
-pub flawless_no_chain : (a : FiniteAlgebra) (name : ChainName) (rows : List Vector) (even odd : List ℕ) → VectorsAreFlawless → ExactIsFlawless → 0 < a.size → chain_width a (kind_of name) ≤ WIDTH → IsIncreasing rows → AllByRecursion (IsVector (power a (chain_width a (kind_of name)))) rows → AreExact a (chain_width a (kind_of name)) (generators_of a (kind_of name)) rows
+pub flawless_no_chain : (a : FiniteAlgebra) (name : ChainName) (rows : List Vector) (even odd : List ℕ) → VectorsAreFlawless → ExactIsFlawless
+    → 0 < a.size → chain_width a (kind_of name) ≤ WIDTH → IsIncreasing rows → AllByRecursion (IsVector (power a (chain_width a (kind_of name)))) rows
+    → AreExact a (chain_width a (kind_of name)) (generators_of a (kind_of name)) rows
     → AreReached a (kind_of name) true rows even → AreReached a (kind_of name) false rows odd → HasNoChain a name → no_chain_flaw a name rows even odd ≡ None
 flawless_no_chain a name rows even odd fine closed size narrow inc vectors exact evens odds none =
     let some = some_fillings a.size (kind_of name) (is_kind name) size in
@@ -236,7 +257,8 @@ flawless_no_chain a name rows even odd fine closed size narrow inc vectors exact
         (fine a (chain_width a (kind_of name)) Rows rows vectors, (closed a (chain_width a (kind_of name)) (generators_of a (kind_of name)) rows inc exact, tt)),
       ),
       (
-        no_line (positions_flaw (length rows) even ∷ positions_flaw (length rows) odd ∷ parity_flaw (kind_of name) odd ∷ []) (no_position_flaw a name true rows even evens, (no_position_flaw a name false rows odd odds, (no_parity_flaw a name rows odd odds, tt))),
+        no_line (positions_flaw (length rows) even ∷ positions_flaw (length rows) odd ∷ parity_flaw (kind_of name) odd ∷ [])
+            (no_position_flaw a name true rows even evens, (no_position_flaw a name false rows odd odds, (no_parity_flaw a name rows odd odds, tt))),
         (
           no_line (reached_lines a.size (kind_of name) (place_of a (kind_of name) 0) (place_of a (kind_of name) (kind_of name).end) rows even (odd_positions (kind_of name) even odd)) (
             each_row (is_started (place_of a (kind_of name) 0) even) rows (start_fine a name rows even odd some exact evens odds none),

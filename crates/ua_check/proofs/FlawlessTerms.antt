@@ -14,7 +14,7 @@ use Rattle.ua_table.specs.Tables.{IsAlgebraTable}
 use Rattle.ua_table.specs.Terms.{Tree, eval}
 use Rattle.ua_table.specs.Refusals.{first_refusal}
 use Rattle.ua_table.proofs.Lists.{found, All-slice_get}
-use Rattle.ua_table.proofs.RefusalLemmas.{passed, refusal_if-false}
+use Rattle.ua_table.proofs.RefusalLaws.{passed, refusal_if-false}
 use Rattle.ua_term.specs.Steps.{AreSteps, written_term}
 use Rattle.ua_term.specs.Assignments.{assignments}
 use Rattle.ua_term.proofs.AssignmentLaws.{assignment_from, read_all}
@@ -69,7 +69,8 @@ fits a name k places few = or_from (not (has_places name k)) (nat_lt WIDTH (leng
     within : (n : ℕ) → n ≤ WIDTH → nat_lt WIDTH n ≡ false
     within n l = grind (arith, nat_tests)
 
-pub flawless_condition : WrittenIsFlawless → WrittenIsRead → (a : FiniteAlgebra) → IsAlgebraTable a → (name : CondName) (k : ℕ) (os : List Origin) → has_places name k ≡ true → length (condition_power a (condition_of name k)) ≤ WIDTH → 0 < length os → AreSteps (arities_of a) k os
+pub flawless_condition : WrittenIsFlawless → WrittenIsRead → (a : FiniteAlgebra) → IsAlgebraTable a → (name : CondName) (k : ℕ) (os : List Origin)
+    → has_places name k ≡ true → length (condition_power a (condition_of name k)) ≤ WIDTH → 0 < length os → AreSteps (arities_of a) k os
     → Meets a (written_term (arities_of a) os) (condition_of name k) → condition_flaw a name k (written_steps a os) ≡ None
 flawless_condition fine read a table name k os places few some steps meets =
     no_line (condition_lines a name k (written_steps a os)) (
@@ -80,20 +81,25 @@ flawless_condition fine read a table name k os places few some steps meets =
       ),
     )
 
-pub flawless_no_condition : VectorsAreFlawless → LackingIsFlawless → (a : FiniteAlgebra) (name : CondName) (k : ℕ) (rows : List Vector) → has_places name k ≡ true → length (condition_power a (condition_of name k)) ≤ WIDTH → IsIncreasing rows → AllByRecursion (IsVector (power a (width_of a name k))) rows
+pub flawless_no_condition : VectorsAreFlawless → LackingIsFlawless → (a : FiniteAlgebra) (name : CondName) (k : ℕ) (rows : List Vector)
+    → has_places name k ≡ true → length (condition_power a (condition_of name k)) ≤ WIDTH → IsIncreasing rows
+    → AllByRecursion (IsVector (power a (width_of a name k))) rows
     → AreExact a (width_of a name k) (argument_vectors a (condition_of name k)) rows → (Contains rows (value_vector a (condition_of name k)) → ⊥) → no_condition_flaw a name k rows ≡ None
 flawless_no_condition fine lacking a name k rows places few inc vectors exact absent =
     no_line (no_condition_lines a name k rows) (
       refusal_if-false (is_no_condition a name k) flaw.Width (fits a name k places few),
       (
         fine a (width_of a name k) Rows rows vectors,
-        none_of (outside_lines a (width_of a name k) (argument_vectors a (condition_of name k)) rows (value_vector a (condition_of name k))) (lacking a (width_of a name k) (argument_vectors a (condition_of name k)) rows (value_vector a (condition_of name k)) inc exact absent),
+        none_of (outside_lines a (width_of a name k) (argument_vectors a (condition_of name k)) rows (value_vector a (condition_of name k)))
+            (lacking a (width_of a name k) (argument_vectors a (condition_of name k)) rows (value_vector a (condition_of name k)) inc exact absent),
       ),
     )
 
 -- ---- chains
 
-no_term_flaw : WrittenIsFlawless → (a : FiniteAlgebra) → IsAlgebraTable a → (places n : ℕ) (lists : List (List Origin)) → AllByRecursion (AreSteps (arities_of a) places) lists → first_refusal (map (term_flaw a places) (enumerate_from n (map (written_steps a) lists))) ≡ None
+no_term_flaw : WrittenIsFlawless → (a : FiniteAlgebra) → IsAlgebraTable a → (places n : ℕ) (lists : List (List Origin))
+    → AllByRecursion (AreSteps (arities_of a) places) lists
+    → first_refusal (map (term_flaw a places) (enumerate_from n (map (written_steps a) lists))) ≡ None
 no_term_flaw fine a table places n [] h = refl
 no_term_flaw fine a table places n (os ∷ lists) h =
     passed (steps_flaw a places (Some n) (written_steps a os)) (map (term_flaw a places) (enumerate_from (n + 1) (map (written_steps a) lists))) (fine a places (Some n) os table h.0)
@@ -104,7 +110,9 @@ none_empty : (a : FiniteAlgebra) (lists : List (List Origin)) → AllByRecursion
 none_empty a [] h = refl
 none_empty a (os ∷ lists) h = or_from (length (written_steps a os) == 0) (list_any (λ (steps : List CertStep). length steps == 0) (map (written_steps a) lists)) (some_steps a os h.0) (none_empty a lists h.1)
 
-terms_written : WrittenIsRead → (a : FiniteAlgebra) → IsAlgebraTable a → (places : ℕ) (lists : List (List Origin)) → AllByRecursion (AreSteps (arities_of a) places) lists → map (last_term a) (map (written_steps a) lists) ≡ map (written_term (arities_of a)) lists
+terms_written : WrittenIsRead → (a : FiniteAlgebra) → IsAlgebraTable a → (places : ℕ) (lists : List (List Origin))
+    → AllByRecursion (AreSteps (arities_of a) places) lists
+    → map (last_term a) (map (written_steps a) lists) ≡ map (written_term (arities_of a)) lists
 terms_written read a table places [] h = refl
 terms_written read a table places (os ∷ lists) h =
     let here = last_written read a table places os h.0 in
@@ -146,7 +154,11 @@ module _ (a : FiniteAlgebra) (kind : ChainKind) (terms : List Tree) (chain : IsC
   passes_place j t h = ap is_none (satisfied_none a t (place_identity kind.places j) (λ xs k. ap (λ ys. eval a ys t) (read_all xs kind.places k.count) ∙ h xs k))
 
   passes_link : (l : Link) (d e : Tree) → AreLinked a l d e → are_linked a l d e ≡ true
-  passes_link l d e h = ap is_none (none_found (is_unlinked a l d e) (assignments a.size l.pattern.variables) (λ xs c. ap not (is_equal (at_pattern a l.pattern d xs) (at_pattern a l.next e xs) (h xs (assignment_from a.size l.pattern.variables xs c)))))
+  passes_link l d e h =
+      ap is_none
+      (none_found (is_unlinked a l d e) (assignments a.size l.pattern.variables)
+      (λ xs c.
+      ap not (is_equal (at_pattern a l.pattern d xs) (at_pattern a l.next e xs) (h xs (assignment_from a.size l.pattern.variables xs c)))))
 
   unless_so : (b c : Bool) → (b ≡ false → c ≡ true) → (b || c) ≡ true
   unless_so true c h = refl
@@ -195,7 +207,9 @@ module _ (a : FiniteAlgebra) (kind : ChainKind) (terms : List Tree) (chain : IsC
   no_link_flaw : links_flaw a kind terms ≡ None
   no_link_flaw = no_option flaw.Link (first_bad (is_in_chain a kind terms) 0 terms) (none_bad (is_in_chain a kind terms) 0 terms (λ i t at. (let z : 0 + i ≡ i = omega arith in ap (λ k. is_in_chain a kind terms k t) z ∙ in_chain i t at)))
 
-pub flawless_chain : WrittenIsFlawless → WrittenIsRead → (a : FiniteAlgebra) → IsAlgebraTable a → (name : ChainName) (lists : List (List Origin)) → chain_width a (kind_of name) ≤ WIDTH → AllByRecursion (λ (os : List Origin). 0 < length os) lists → AllByRecursion (AreSteps (arities_of a) (kind_of name).places) lists
+pub flawless_chain : WrittenIsFlawless → WrittenIsRead → (a : FiniteAlgebra) → IsAlgebraTable a → (name : ChainName) (lists : List (List Origin))
+    → chain_width a (kind_of name) ≤ WIDTH → AllByRecursion (λ (os : List Origin). 0 < length os) lists
+    → AllByRecursion (AreSteps (arities_of a) (kind_of name).places) lists
     → IsChain a (kind_of name) (map (written_term (arities_of a)) lists) → chain_flaw a name (map (written_steps a) lists) ≡ None
 flawless_chain fine read a table name lists narrow some steps chain =
     let terms : List (List CertStep) = map (written_steps a) lists in

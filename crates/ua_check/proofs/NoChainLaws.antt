@@ -66,12 +66,18 @@ module _ (a : FiniteAlgebra) where
 
   pub even_leads : (name : ChainName) (d e : Tree) → AreLinked a (kind_of name).even d e → leads a.size (kind_of name) (kind_of name).even (vec name d) (vec name e) ≡ true
   unfolding vec
-  even_leads Jonsson d e h = is_same_vector _ _ (part_is a.size (kind_of Jonsson).patterns 1 xxy (λ xs. eval a xs d) refl ∙ parts_from_linked a (kind_of Jonsson).even d e refl h ∙ sym (part_is a.size (kind_of Jonsson).patterns 1 xxy (λ xs. eval a xs e) refl))
+  even_leads Jonsson d e h =
+      is_same_vector _ _
+      (part_is a.size (kind_of Jonsson).patterns 1 xxy (λ xs. eval a xs d) refl ∙ parts_from_linked a (kind_of Jonsson).even d e refl h
+      ∙ sym (part_is a.size (kind_of Jonsson).patterns 1 xxy (λ xs. eval a xs e) refl))
   even_leads Hm d e h = is_same_vector _ _ (part_is a.size (kind_of Hm).patterns 0 xxy (λ xs. eval a xs d) refl ∙ parts_from_linked a (kind_of Hm).even d e refl h ∙ sym (part_is a.size (kind_of Hm).patterns 1 xyy (λ xs. eval a xs e) refl))
 
   pub odd_leads : (name : ChainName) (d e : Tree) → AreLinked a (kind_of name).odd d e → leads a.size (kind_of name) (kind_of name).odd (vec name d) (vec name e) ≡ true
   unfolding vec
-  odd_leads Jonsson d e h = is_same_vector _ _ (part_is a.size (kind_of Jonsson).patterns 2 xyy (λ xs. eval a xs d) refl ∙ parts_from_linked a (kind_of Jonsson).odd d e refl h ∙ sym (part_is a.size (kind_of Jonsson).patterns 2 xyy (λ xs. eval a xs e) refl))
+  odd_leads Jonsson d e h =
+      is_same_vector _ _
+      (part_is a.size (kind_of Jonsson).patterns 2 xyy (λ xs. eval a xs d) refl ∙ parts_from_linked a (kind_of Jonsson).odd d e refl h
+      ∙ sym (part_is a.size (kind_of Jonsson).patterns 2 xyy (λ xs. eval a xs e) refl))
   odd_leads Hm d e h = is_same_vector _ _ (part_is a.size (kind_of Hm).patterns 0 xxy (λ xs. eval a xs d) refl ∙ parts_from_linked a (kind_of Hm).odd d e refl h ∙ sym (part_is a.size (kind_of Hm).patterns 1 xyy (λ xs. eval a xs e) refl))
 
   own_row : (name : ChainName) (t : Tree) → IsOwn a (kind_of name) t → is_own_row a.size (kind_of name) (vec name t) ≡ true
@@ -92,7 +98,8 @@ module _ (a : FiniteAlgebra) where
 -- ---- no chain
 
 -- climbs by two links in turn from one side to the other
-climbed : (E O : Tree → Tree → Type 0) (Good P Q R : Tree → Type 0) (goal : Type 0) → ((d e : Tree) → P d → Good e → E d e → Q e) → ((d e : Tree) → Q d → Good e → O d e → P e) → ((t : Tree) → P t → R t → goal) → ((t : Tree) → Q t → R t → goal)
+climbed : (E O : Tree → Tree → Type 0) (Good P Q R : Tree → Type 0) (goal : Type 0) → ((d e : Tree) → P d → Good e → E d e → Q e)
+    → ((d e : Tree) → Q d → Good e → O d e → P e) → ((t : Tree) → P t → R t → goal) → ((t : Tree) → Q t → R t → goal)
     → (t : Tree) (ts : List Tree) → P t → AllByRecursion Good ts → Alternates E O (t ∷ ts) → EndsWith R (t ∷ ts) → goal
 climbed E O Good P Q R goal over back here there t [] p good links ends = here t p ends
 climbed E O Good P Q R goal over back here there t (u ∷ ts) p good links ends = climbed O E Good Q P R goal back over there here u ts (over t u p good.0 links.0) good.1 links.1 ends
@@ -102,7 +109,10 @@ record IsGood (a : FiniteAlgebra) (name : ChainName) (t : Tree) : Type 0 where
   is_term : IsTerm (arities_of a) (kind_of name).places t
   own : IsOwn a (kind_of name) t
 
-module _ (a : FiniteAlgebra) (name : ChainName) (rows : List Vector) (even odd : List ℕ) (hold : RowsHoldAll) (some : 0 < length (all_fillings a.size (kind_of name).patterns)) (closed : closed_flaw a (chain_width a (kind_of name)) (generators_of a (kind_of name)) rows ≡ None) (reached : reached_flaw a (kind_of name) rows even odd ≡ None) where
+module _ (a : FiniteAlgebra) (name : ChainName) (rows : List Vector) (even odd : List ℕ) (hold : RowsHoldAll)
+    (some : 0 < length (all_fillings a.size (kind_of name).patterns))
+    (closed : closed_flaw a (chain_width a (kind_of name)) (generators_of a (kind_of name)) rows ≡ None)
+    (reached : reached_flaw a (kind_of name) rows even odd ≡ None) where
   wide : ℕ
   wide = length (all_fillings a.size (kind_of name).patterns)
 
@@ -135,10 +145,17 @@ module _ (a : FiniteAlgebra) (name : ChainName) (rows : List Vector) (even odd :
   begins t good h =
       let r = row_of t good.is_term in
       let test = row_fine (is_started (place_of a (kind_of name) 0) even) rows tests.0 r.place (vec a name t) r.stands in
-      record { place = r.place; stands = r.stands; held = after_not (is_same (vec a name t) (place_of a (kind_of name) 0)) (holds_position even r.place) test (is_same_vector (vec a name t) (place_of a (kind_of name) 0) (start_is a name t h)) }
+      record {
+        place = r.place;
+        stands = r.stands;
+        held = after_not (is_same (vec a name t) (place_of a (kind_of name) 0)) (holds_position even r.place)
+            test (is_same_vector (vec a name t) (place_of a (kind_of name) 0) (start_is a name t h));
+      }
 
   led : (link : Link) (ps : List ℕ) (d e : Tree) → Stands ps d → leads a.size (kind_of name) link (vec a name d) (vec a name e) ≡ true → is_led_to a.size (kind_of name) link rows ps (vec a name e) ≡ true
-  led link ps d e s h = any_at (λ p. leads a.size (kind_of name) link (get_or rows p []) (vec a name e)) ps s.place s.held (ap (λ v. leads a.size (kind_of name) link v (vec a name e)) (get_or_from_slice_get rows s.place (vec a name d) [] s.stands) ∙ h)
+  led link ps d e s h =
+      any_at (λ p. leads a.size (kind_of name) link (get_or rows p []) (vec a name e)) ps s.place s.held
+      (ap (λ v. leads a.size (kind_of name) link v (vec a name e)) (get_or_from_slice_get rows s.place (vec a name d) [] s.stands) ∙ h)
 
   -- what the test of a row that is led to says
   record Followed (i : ℕ) (v : Vector) : Type 0 where
@@ -150,7 +167,11 @@ module _ (a : FiniteAlgebra) (name : ChainName) (rows : List Vector) (even odd :
       let r = row_of t good.is_term in
       let v = vec a name t in
       let test = row_fine (is_followed a.size (kind_of name) rows even odd) rows tests.1.0 r.place v r.stands in
-      let sides = after_not (is_own_row a.size (kind_of name) v) ((holds_position odd r.place || not (is_led_to a.size (kind_of name) (kind_of name).even rows even v)) && (holds_position even r.place || not (is_led_to a.size (kind_of name) (kind_of name).odd rows odd v))) test (own_row a name t good.own) in
+      let sides =
+      after_not (is_own_row a.size (kind_of name) v)
+      ((holds_position odd r.place || not (is_led_to a.size (kind_of name) (kind_of name).even rows even v))
+      && (holds_position even r.place || not (is_led_to a.size (kind_of name) (kind_of name).odd rows odd v)))
+      test (own_row a name t good.own) in
       let each = both (holds_position odd r.place || not (is_led_to a.size (kind_of name) (kind_of name).even rows even v)) (holds_position even r.place || not (is_led_to a.size (kind_of name) (kind_of name).odd rows odd v)) sides in
       record {
         over = after_or (holds_position odd r.place) (is_led_to a.size (kind_of name) (kind_of name).even rows even v) each.0;
@@ -192,5 +213,9 @@ module _ (a : FiniteAlgebra) (name : ChainName) (rows : List Vector) (even odd :
 pub no_chain_holds : (a : FiniteAlgebra) (name : ChainName) (rows : List Vector) (even odd : List ℕ) → RowsHoldAll → 0 < a.size → no_chain_flaw a name rows even odd ≡ None → HasNoChain a name
 no_chain_holds a name rows even odd hold some none =
     let l = none_of (no_chain_lines a (kind_of name) rows even odd) none in
-    let r = none_of (refusal_if (nat_lt WIDTH (chain_width a (kind_of name))) flaw.Width ∷ vectors_flaw a.size (chain_width a (kind_of name)) Rows rows ∷ closed_flaw a (chain_width a (kind_of name)) (generators_of a (kind_of name)) rows ∷ []) l.0 in
+    let r =
+    none_of
+    (refusal_if (nat_lt WIDTH (chain_width a (kind_of name))) flaw.Width ∷ vectors_flaw a.size (chain_width a (kind_of name)) Rows rows
+    ∷ closed_flaw a (chain_width a (kind_of name)) (generators_of a (kind_of name)) rows ∷ [])
+    l.0 in
     no_chain a name rows even (odd_positions (kind_of name) even odd) hold (some_fillings a.size (kind_of name) (is_kind name) some) r.1.1.0 l.1.1.0

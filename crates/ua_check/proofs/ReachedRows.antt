@@ -8,7 +8,7 @@ use Rattle.std.proofs.lemmas.Option.{slice_get_within, get_or_from_slice_get}
 use Rattle.ua_table.specs.Algebras.{Vector, FiniteAlgebra, arities_of}
 use Rattle.ua_table.specs.Terms.{Tree, Generator, IsTerm, eval}
 use Rattle.ua_table.proofs.Lists.{found, Contains-head, Contains-tail, Contains-cases, Contains-none, All-slice_get, all_append}
-use Rattle.ua_table.proofs.RefusalLemmas.{refusal_if-false}
+use Rattle.ua_table.proofs.RefusalLaws.{refusal_if-false}
 use Rattle.ua_table.specs.Sequences.{Alternates, BeginsWith, EndsWith, ends_even}
 use Rattle.ua_identity.specs.Identities.{xxy, xyx, xyy}
 use Rattle.ua_identity.specs.Chains.{AreLinked, IsOwn, IsPlace, is_among_even, IsReached, AreReached}
@@ -91,14 +91,17 @@ ends_other [] x = refl
 ends_other (y ∷ ys) x = ap not (ends_other ys x)
 
 -- the last of the list is linked to one more: by the first link where it stands at an even index
-link_more : {X : Type 0} (E O : X → X → Type 0) (L : X → Type 0) (xs : List X) (x : X) → Alternates E O xs → EndsWith L xs → (ends_even xs ≡ true → (d : X) → L d → E d x) → (ends_even xs ≡ false → (d : X) → L d → O d x) → Alternates E O (xs ++ x ∷ [])
+link_more : {X : Type 0} (E O : X → X → Type 0) (L : X → Type 0) (xs : List X) (x : X) → Alternates E O xs → EndsWith L xs
+    → (ends_even xs ≡ true → (d : X) → L d → E d x) → (ends_even xs ≡ false → (d : X) → L d → O d x) → Alternates E O (xs ++ x ∷ [])
 link_more E O L [] x h l e o = absurd l
 link_more E O L (d ∷ []) x h l e o = (e refl d l, tt)
 link_more E O L (c ∷ d ∷ rest) x h l e o = (h.0, link_more O E L (d ∷ rest) x h.1 l (λ k. o (ap not k)) (λ k. e (ap not k)))
 
 module _ (a : FiniteAlgebra) (name : ChainName) where
   -- a beginning goes on to a term that is linked to its last
-  pub goes_on : (even : Bool) (v : Vector) (e : Tree) → (r : IsReached a (kind_of name) even v) → IsTerm (arities_of a) (kind_of name).places e → IsOwn a (kind_of name) e → (ends_even r.terms ≡ true → (d : Tree) → vec a name d ≡ v → AreLinked a (kind_of name).even d e) → (ends_even r.terms ≡ false → (d : Tree) → vec a name d ≡ v → AreLinked a (kind_of name).odd d e)
+  pub goes_on : (even : Bool) (v : Vector) (e : Tree) → (r : IsReached a (kind_of name) even v) → IsTerm (arities_of a) (kind_of name).places e
+      → IsOwn a (kind_of name) e → (ends_even r.terms ≡ true → (d : Tree) → vec a name d ≡ v → AreLinked a (kind_of name).even d e)
+      → (ends_even r.terms ≡ false → (d : Tree) → vec a name d ≡ v → AreLinked a (kind_of name).odd d e)
       → IsReached a (kind_of name) (is_among_even (kind_of name) (r.terms ++ e ∷ [])) (vec a name e)
   unfolding vec
   goes_on even v e r is_term own over back = record {
@@ -117,12 +120,18 @@ module _ (a : FiniteAlgebra) (name : ChainName) where
 
 pub linked_even : (a : FiniteAlgebra) (name : ChainName) (d e : Tree) → leads a.size (kind_of name) (kind_of name).even (vec a name d) (vec a name e) ≡ true → AreLinked a (kind_of name).even d e
 unfolding vec
-linked_even a Jonsson d e h = linked_from_parts a (kind_of Jonsson).even d e refl (sym (part_is a.size (kind_of Jonsson).patterns 1 xxy (λ xs. eval a xs d) refl) ∙ same_is _ _ h ∙ part_is a.size (kind_of Jonsson).patterns 1 xxy (λ xs. eval a xs e) refl)
+linked_even a Jonsson d e h =
+    linked_from_parts a (kind_of Jonsson).even d e refl
+    (sym (part_is a.size (kind_of Jonsson).patterns 1 xxy (λ xs. eval a xs d) refl) ∙ same_is _ _ h
+    ∙ part_is a.size (kind_of Jonsson).patterns 1 xxy (λ xs. eval a xs e) refl)
 linked_even a Hm d e h = linked_from_parts a (kind_of Hm).even d e refl (sym (part_is a.size (kind_of Hm).patterns 0 xxy (λ xs. eval a xs d) refl) ∙ same_is _ _ h ∙ part_is a.size (kind_of Hm).patterns 1 xyy (λ xs. eval a xs e) refl)
 
 pub linked_odd : (a : FiniteAlgebra) (name : ChainName) (d e : Tree) → leads a.size (kind_of name) (kind_of name).odd (vec a name d) (vec a name e) ≡ true → AreLinked a (kind_of name).odd d e
 unfolding vec
-linked_odd a Jonsson d e h = linked_from_parts a (kind_of Jonsson).odd d e refl (sym (part_is a.size (kind_of Jonsson).patterns 2 xyy (λ xs. eval a xs d) refl) ∙ same_is _ _ h ∙ part_is a.size (kind_of Jonsson).patterns 2 xyy (λ xs. eval a xs e) refl)
+linked_odd a Jonsson d e h =
+    linked_from_parts a (kind_of Jonsson).odd d e refl
+    (sym (part_is a.size (kind_of Jonsson).patterns 2 xyy (λ xs. eval a xs d) refl) ∙ same_is _ _ h
+    ∙ part_is a.size (kind_of Jonsson).patterns 2 xyy (λ xs. eval a xs e) refl)
 linked_odd a Hm d e h = linked_from_parts a (kind_of Hm).odd d e refl (sym (part_is a.size (kind_of Hm).patterns 0 xxy (λ xs. eval a xs d) refl) ∙ same_is _ _ h ∙ part_is a.size (kind_of Hm).patterns 1 xyy (λ xs. eval a xs e) refl)
 
 pub leads_even : (a : FiniteAlgebra) (name : ChainName) (d e : Tree) → AreLinked a (kind_of name).even d e → leads a.size (kind_of name) (kind_of name).even (vec a name d) (vec a name e) ≡ true

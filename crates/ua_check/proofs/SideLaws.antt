@@ -67,7 +67,9 @@ module _ (c : Chart) (l : Link) (s : Positions) (h : IsSide c l s) (i : ℕ) whe
       let same = same_is (entries_at c l.pattern from.0) (part c.size c.kind.now l.next (row_at c i)) from.2 in
       subst (Contains s.entries.now.items) (same ∙ sym e) (h.entries.entries.held from.0 low marked)
 
-  pub led : (v : Vector) (r : Option ℕ) (b : Bool) → v ≡ part c.size c.kind.now l.next (row_at c i) → b ≡ is_some r → IfSome r (λ k. slice_get s.entries.now.items k ≡ Some v) → IfNone r (¬ Contains s.entries.now.items v) → b ≡ is_led_to c.size c.kind.now l c.rows.now.items s.list.now (row_at c i)
+  pub led : (v : Vector) (r : Option ℕ) (b : Bool) → v ≡ part c.size c.kind.now l.next (row_at c i) → b ≡ is_some r
+      → IfSome r (λ k. slice_get s.entries.now.items k ≡ Some v) → IfNone r (¬ Contains s.entries.now.items v)
+      → b ≡ is_led_to c.size c.kind.now l c.rows.now.items s.list.now (row_at c i)
   led v r b e is found absent =
       let there = contains_by r b s.entries.now.items v is found absent in
       let answer : Bool = is_led_to c.size c.kind.now l c.rows.now.items s.list.now (row_at c i) in

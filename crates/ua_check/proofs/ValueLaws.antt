@@ -13,7 +13,7 @@ use Rattle.ua_table.specs.Origins.{IsOrigin}
 use Rattle.ua_table.proofs.Lists.{all_push}
 use Rattle.ua_term.specs.Steps.{AreSteps, terms_at, term_after, unfolded, written_term}
 use Rattle.ua_term.proofs.StepLaws.{step_at, unfolded_more, length_from}
-use Rattle.ua_term.proofs.TreeLemmas.{operation_facts}
+use Rattle.ua_term.proofs.TreeLaws.{operation_facts}
 use Rattle.ua_check.specs.inner.Equations.{element_of}
 
 -- ---- their values
@@ -34,7 +34,9 @@ module _ (a : FiniteAlgebra) (xs : List ℕ) where
   abbrev pub Valued : List Origin → ℕ → List ℕ → Type 0
   Valued steps i values = take i values ≡ map (eval a xs) (unfolded (arities_of a) (take i steps))
 
-  pub value_more : (gens : ℕ) (steps : List Origin) (i : ℕ) (o : Origin) (values : List ℕ) (v : ℕ) → AreSteps (arities_of a) gens steps → i < length steps → o ≡ get_or steps i o → i < length values → Valued steps i values → v ≡ element_of a xs (take i values) o → Valued steps (i + 1) (set values i v)
+  pub value_more : (gens : ℕ) (steps : List Origin) (i : ℕ) (o : Origin) (values : List ℕ) (v : ℕ) → AreSteps (arities_of a) gens steps
+      → i < length steps → o ≡ get_or steps i o → i < length values → Valued steps i values → v ≡ element_of a xs (take i values) o
+      → Valued steps (i + 1) (set values i v)
   value_more gens steps i o values v are l at room known e =
       let ks = arities_of a in
       let ts = unfolded ks (take i steps) in
@@ -61,14 +63,17 @@ module _ (a : FiniteAlgebra) (xs : List ℕ) where
 whole : (values args entries : List ℕ) (j : ℕ) → j ≤ length args → length args ≤ j → take j entries ≡ map (slice_index values) (take j args) → take (length args) entries ≡ map (slice_index values) args
 whole values args entries j l m e = let at : length args ≡ j = omega (arith, l, m) in ap (λ n. take n entries) at ∙ e ∙ ap (map (slice_index values)) (take_all j args m)
 
-pub entries_below : (n : ℕ) (values args entries : List ℕ) (j : ℕ) → j ≤ length args → length args ≤ j → take j entries ≡ map (slice_index values) (take j args) → AllByRecursion (λ x. x < length values) args → AllByRecursion (λ x. x < n) values → AllByRecursion (λ x. x < n) (take (length args) entries)
+pub entries_below : (n : ℕ) (values args entries : List ℕ) (j : ℕ) → j ≤ length args → length args ≤ j
+    → take j entries ≡ map (slice_index values) (take j args) → AllByRecursion (λ x. x < length values) args → AllByRecursion (λ x. x < n) values
+    → AllByRecursion (λ x. x < n) (take (length args) entries)
 entries_below n values args entries j l m e named h = subst (AllByRecursion (λ x. x < n)) (sym (whole values args entries j l m e)) (each args named)
   where
     each : (xs : List ℕ) → AllByRecursion (λ x. x < length values) xs → AllByRecursion (λ x. x < n) (map (slice_index values) xs)
     each [] k = tt
     each (x ∷ xs) k = (All-from_recursion (λ y. y < n) values h x 0 k.0, each xs k.1)
 
-pub operation_value : (a : FiniteAlgebra) (f : ℕ) (o : Operation) (values args entries : List ℕ) (j : ℕ) → IsAlgebraTable a → slice_get a.operations f ≡ Some o → j ≤ length args → length args ≤ j → take j entries ≡ map (slice_index values) (take j args)
+pub operation_value : (a : FiniteAlgebra) (f : ℕ) (o : Operation) (values args entries : List ℕ) (j : ℕ) → IsAlgebraTable a
+    → slice_get a.operations f ≡ Some o → j ≤ length args → length args ≤ j → take j entries ≡ map (slice_index values) (take j args)
     → slice_index o.values (numeral o.size (take (length args) entries)) ≡ value_at a f (map (slice_index values) args)
 operation_value a f o values args entries j h g l m e =
     let facts = operation_facts a f o h g in

@@ -72,9 +72,13 @@ module _ (a : FiniteAlgebra) (k : ℕ) (kind : CloneKind) (ps : List Point) wher
   tells some points b w (Err error) may = tt
 
   -- what is made of the last step is what the steps write
-  pub made_agrees : (s : StepList) (limit : ℕ) (p : Poly) → WriteAgreeing a k kind ps s → Some (polynomial_of k p) ≡ within limit (step_term s.arities s.items (length s.items - 1)) → variables_of p ≤ k → IsPoly a k p × IsPolynomial a k kind (polynomial_of k p) × AgreesWith a ps (polynomial_of k p)
+  pub made_agrees : (s : StepList) (limit : ℕ) (p : Poly) → WriteAgreeing a k kind ps s
+      → Some (polynomial_of k p) ≡ within limit (step_term s.arities s.items (length s.items - 1)) → variables_of p ≤ k
+      → IsPoly a k p × IsPolynomial a k kind (polynomial_of k p) × AgreesWith a ps (polynomial_of k p)
   made_agrees s limit p h e low =
-      let same : polynomial_of k p ≡ h.polynomial = within_is limit (step_term s.arities s.items (length s.items - 1)) (polynomial_of k p) e ∙ get_or_from_slice_get (unfolded s.arities s.items) (length s.items - 1) h.polynomial (Generator 0) h.last in
+      let same : polynomial_of k p ≡ h.polynomial =
+      within_is limit (step_term s.arities s.items (length s.items - 1)) (polynomial_of k p) e
+      ∙ get_or_from_slice_get (unfolded s.arities s.items) (length s.items - 1) h.polynomial (Generator 0) h.last in
       let is : IsPolynomial a k kind (polynomial_of k p) = subst (IsPolynomial a k kind) (sym same) h.is_polynomial in
       let few = few_elements kind a.size in (
         record { variables = low; polynomial = term_wider (arities_of a) (k + named_elements kind a.size) (k + a.size) (polynomial_of k p) (omega (arith, few)) is },

@@ -12,7 +12,7 @@ use Rattle.ua_table.specs.Terms.{Tree, Generator, Application, count_of, IsTerm,
 use Rattle.ua_table.proofs.Choices.{greatest_low, greatest_tops, range_low}
 use Rattle.ua_table.proofs.Lists.{all_append, all_at, all_from_contains, all_map}
 use Rattle.ua_term.specs.Trees.{trees, node_count, nodes_of}
-use Rattle.ua_term.proofs.TreeLemmas.{operation_facts, all_below}
+use Rattle.ua_term.proofs.TreeLaws.{operation_facts, all_below}
 use Rattle.ua_clone.specs.declared.kinds.CloneKind.TheVariants.{Polynomials}
 use Rattle.ua_clone.specs.declared.polynomials.Poly.{Poly}
 use Rattle.ua_clone.specs.declared.polynomials.Poly.TheOpen as layers
@@ -94,7 +94,10 @@ applies a k p f v e h =
           let trees_long = length-map v.items (polynomial_of k) in
           record {
             variables = omega (arith, here, low, most, named);
-            polynomial = subst (IsPolynomial a k Polynomials) tree (All-from_recursion (IsPolynomial a k Polynomials) (map (polynomial_of k) v.items) (trees_each (arities_of a) (k + a.size) (map (polynomial_of k) v.items) is.2) i (Generator 0) (omega (arith, l, trees_long)));
+            polynomial =
+                subst (IsPolynomial a k Polynomials) tree
+                (All-from_recursion (IsPolynomial a k Polynomials) (map (polynomial_of k) v.items)
+                (trees_each (arities_of a) (k + a.size) (map (polynomial_of k) v.items) is.2) i (Generator 0) (omega (arith, l, trees_long)));
           };
       terms = is.2;
     }
@@ -117,7 +120,8 @@ poly_values : (a : FiniteAlgebra) (xs : List ℕ) (k : ℕ) (ps : List Poly) →
 poly_values a xs k ps = trees_values a xs (map (polynomial_of k) ps) ∙ map-map (eval a xs) (polynomial_of k) ps
 
 -- the value where an operation is applied
-pub applied_value : (a : FiniteAlgebra) (xs : List ℕ) (k : ℕ) (p : Poly) (f : ℕ) (o : Operation) (v : _) (values : List ℕ) → p ≡ Op f v → IsAlgebraTable a → slice_get a.operations f ≡ Some o → values ≡ map (λ (q : Poly). eval a xs (polynomial_of k q)) v.items
+pub applied_value : (a : FiniteAlgebra) (xs : List ℕ) (k : ℕ) (p : Poly) (f : ℕ) (o : Operation) (v : _) (values : List ℕ) → p ≡ Op f v
+    → IsAlgebraTable a → slice_get a.operations f ≡ Some o → values ≡ map (λ (q : Poly). eval a xs (polynomial_of k q)) v.items
     → slice_index o.values (numeral o.size values) ≡ eval a xs (polynomial_of k p)
 applied_value a xs k p f o v values e h g same =
     let facts = operation_facts a f o h g in
@@ -134,7 +138,9 @@ module _ (a : FiniteAlgebra) (args : List ℕ) where
   all_long : length all ≡ length args + a.size
   all_long = length-append args (range_with_len 0 a.size) ∙ ap (λ n. length args + n) (length-range_with_len 0 a.size)
 
-  pub values_below : (ps : List Poly) → IsAlgebra a → AllByRecursion (λ x. x < a.size) args → AreTerms (arities_of a) (length args + a.size) (trees (map (polynomial_of (length args)) ps)) → AllByRecursion (λ x. x < a.size) (map (λ (p : Poly). polynomial_value a args (polynomial_of (length args) p)) ps)
+  pub values_below : (ps : List Poly) → IsAlgebra a → AllByRecursion (λ x. x < a.size) args
+      → AreTerms (arities_of a) (length args + a.size) (trees (map (polynomial_of (length args)) ps))
+      → AllByRecursion (λ x. x < a.size) (map (λ (p : Poly). polynomial_value a args (polynomial_of (length args) p)) ps)
   values_below ps h below terms =
       let ts = trees (map (polynomial_of (length args)) ps) in
       let elements : AllByRecursion (λ x. x < a.size) (range_with_len 0 a.size) = all_from_contains (λ x. x < a.size) (range_with_len 0 a.size) (λ x c. let low = (range_low 0 a.size x c).1 in omega (arith, low)) in

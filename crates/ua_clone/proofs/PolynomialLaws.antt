@@ -10,9 +10,9 @@ use Rattle.ua_term.proofs.AssignmentLaws.{maps_agree}
 use Rattle.ua_table.specs.Algebras.{Vector, FiniteAlgebra, IsVector, arities_of, arities, column, value_at}
 use Rattle.ua_table.specs.Generated.{Sg}
 use Rattle.ua_table.specs.Terms.{Tree, Generator, Application, Trees, none, more, IsTerm, AreTerms, term_value, term_values, eval, eval_all}
-use Rattle.ua_table.proofs.ApplyLemmas.{length-apply}
+use Rattle.ua_table.proofs.ApplyLaws.{length-apply}
 use Rattle.ua_table.proofs.Choices.{range_low}
-use Rattle.ua_table.proofs.FrameLemmas.{arities_of_power, in_power}
+use Rattle.ua_table.proofs.FrameLaws.{arities_of_power, in_power}
 use Rattle.ua_table.proofs.Lists.{all_append, all_at, all_from_contains, all_map, all_weaker, slice_get-replicate}
 use Rattle.ua_table.proofs.TermLaws.{value_is_eval}
 use Rattle.ua_identity.proofs.PatternLaws.{agree_maps}
@@ -143,7 +143,10 @@ module _ (a : FiniteAlgebra) (k : ℕ) (kind : CloneKind) (ps : List Point) wher
   variable_admitted i low points =
       in_power a (length ps) (variable_vector ps i) (length-map ps (λ (p : Point). slice_index p.arguments i))
       (all_map (λ x. x < a.size) (λ (p : Point). slice_index p.arguments i) ps
-      (all_weaker (IsPoint a.size k) (λ (p : Point). slice_index p.arguments i < a.size) (λ p h. All-from_recursion (λ x. x < a.size) p.arguments h.assignment.elements i 0 (let long = h.assignment.count in omega (arith, low, long))) ps points))
+      (all_weaker (IsPoint a.size k) (λ (p : Point). slice_index p.arguments i < a.size)
+      (λ p h.
+      All-from_recursion (λ x. x < a.size) p.arguments h.assignment.elements i 0 (let long = h.assignment.count in omega (arith, low, long)))
+      ps points))
 
   element_admitted : (c : ℕ) → c < a.size → IsVector (point_power a ps) (element_vector ps c)
   element_admitted c low = in_power a (length ps) (element_vector ps c) (length-replicate (length ps) c) (same (length ps))

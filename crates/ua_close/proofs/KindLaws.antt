@@ -8,7 +8,7 @@ use Rattle.ua_table.specs.Algebras.{Vector, FiniteAlgebra, Product, IsProduct, I
 use Rattle.ua_table.specs.Generated.{Sg, HasMoreThan}
 use Rattle.ua_table.specs.Listings.{Row, vectors_of, IsListing, IsClosedListing}
 use Rattle.ua_table.specs.Numbering.{choices}
-use Rattle.ua_table.proofs.ApplyLemmas.{IsVector-apply}
+use Rattle.ua_table.proofs.ApplyLaws.{IsVector-apply}
 use Rattle.ua_table.proofs.Choices.{IsChoice, chosen, choice_from, range_low}
 use Rattle.ua_table.proofs.GeneratedLaws.{Sg-least}
 use Rattle.ua_table.proofs.ListingLaws.{vector_in, length-le_from_members, exceeding_has_more}

@@ -30,7 +30,8 @@ use Rattle.ua_log.proofs.RowSteps.{bound_up, longer_words}
 use Rattle.ua_log.proofs.ClaimSteps.{claim_words, no_halt, few_claims, or_bit}
 use Rattle.ua_work.specs.Values.{values}
 use Rattle.ua_work.specs.Harvests.{IsPlanOf}
-use Rattle.ua_close.specs.Steps.{read, numbered, in_order, machine_from, machine_in, Table, plain, erased, IsSame, IsAt, own, next_row, moved, loaded, exchanged, Becomes, May, LoadFound, LoadEmpty, LoadBelow, PutWon, PutLost, LoadIdle, LoadKnow, ClaimWon, ClaimLost, HaltSet}
+use Rattle.ua_close.specs.Steps.{read, numbered, in_order, machine_from, machine_in, Table, plain, erased, IsSame, IsAt, own, next_row, moved, loaded, exchanged, Becomes, May}
+use Rattle.ua_close.specs.Steps.{LoadFound, LoadEmpty, LoadBelow, PutWon, PutLost, LoadIdle, LoadKnow, ClaimWon, ClaimLost, HaltSet}
 use Rattle.ua_work.proofs.RowValues.{values_push, length-values}
 use Rattle.ua_close.proofs.LogLaws.{plan_origin}
 use Rattle.ua_close.proofs.StepWords.{swapped_hit, swapped_miss, AreRead, are_read}
@@ -56,7 +57,11 @@ module _ (p : Product) (gens : List Vector) (plan : Plan) (of : IsPlanOf p gens 
   -- a step that changes one view is this event, where the machine of the words after it is that of the event
   by_event : (s : Table) (id i n : ℕ) (me m : Token) (a : IsAt plan s id me) (new : Worker) (kind : EventKind) (log : List Origin) (c : ℕ) (h : Bool)
       → m.0.all ≡ new ∷ kept_of me.0.all → new.number ≡ (own me).number → AreRead plan (set s.words i n) log c h
-      → IsSame (record (machine_from p gens log c h (numbered s.views)) { workers = set (in_order (numbered s.views)) (own me).number (read false new).worker }) (effect (task_of p gens plan.budget) (machine_from p gens a.rule.log a.rule.claims a.rule.halted (numbered s.views)) (own me).number (read false (own me)).worker kind)
+      → IsSame
+      (record (machine_from p gens log c h (numbered s.views))
+      { workers = set (in_order (numbered s.views)) (own me).number (read false new).worker })
+      (effect (task_of p gens plan.budget) (machine_from p gens a.rule.log a.rule.claims a.rule.halted (numbered s.views)) (own me).number
+      (read false (own me)).worker kind)
       → Becomes p gens plan s (moved s i n id me m) (own me).number kind
   by_event s id i n me m a new kind log c h all number words same =
       let M = machine_from p gens a.rule.log a.rule.claims a.rule.halted (numbered s.views) in
@@ -157,7 +162,9 @@ module _ (p : Product) (gens : List Vector) (plan : Plan) (of : IsPlanOf p gens 
         subst (λ (t : Table). Becomes p gens plan s t (own me).number (Put o)) (sym same)
             (by_event s id i new me m a (adds (own me) o) (Put o) (log ++ o ∷ []) c h (ap (λ (v : View). v.all) won.view) refl (subst (λ (l : List ℕ). AreRead plan l (log ++ o ∷ []) c h) written words)
             (same_parts _ _ (values_push p gens log o) refl refl refl
-            (plain_set ws (own me).number (read false (adds (own me) o)).worker (record (read false (own me)).worker { seen = k + 1; puts = (own me).puts ++ length (values p gens log) ∷ []; idle = false }) (put_by (own me) o (length (values p gens log)) (all ∙ sym rows))))),
+            (plain_set ws (own me).number (read false (adds (own me) o)).worker
+            (record (read false (own me)).worker { seen = k + 1; puts = (own me).puts ++ length (values p gens log) ∷ []; idle = false })
+            (put_by (own me) o (length (values p gens log)) (all ∙ sym rows))))),
         (λ fresh.
             let records : (machine_in p gens plan s).rows ≡ values p gens log = ap (λ (q : Machine). q.rows) (machine_is p gens plan s log c h (words_read plan s id me a)) in
             by_guard s id me a (Put o) (
@@ -219,7 +226,10 @@ module _ (p : Product) (gens : List Vector) (plan : Plan) (of : IsPlanOf p gens 
       let next : suc old ≡ a.rule.claims + 1 = omega (arith, is) in (
         subst (λ (t : Table). Becomes p gens plan s t (own me).number Claim) (sym same)
             (by_event s id 0 (suc old) me m a (claims_slice (own me) old) Claim a.rule.log (suc old) false (ap (λ (v : View). v.all) view) refl words
-            (same_parts _ _ refl refl next (sym free.0) (plain_set (in_order (numbered s.views)) (own me).number (read false (claims_slice (own me) old)).worker (record (read false (own me)).worker { slices = (own me).slices ++ a.rule.claims ∷ []; busy = Some a.rule.claims; known = a.rule.claims + 1; idle = false })
+            (same_parts _ _ refl refl next (sym free.0) (plain_set (in_order (numbered s.views)) (own me).number
+            (read false (claims_slice (own me) old)).worker
+            (record (read false (own me)).worker
+            { slices = (own me).slices ++ a.rule.claims ∷ []; busy = Some a.rule.claims; known = a.rule.claims + 1; idle = false })
             (claimed_by (own me) old a.rule.claims is)))),
         by_guard s id me a Claim (refl, free.0, subst (λ (ks : List ℕ). a.rule.claims < bound ks seen) of.shape (subst (λ (n : ℕ). n < bound plan.shape seen) is below)),
       )

@@ -11,7 +11,7 @@ use lib.ListN.{get_elem?}
 use Rattle.ua_table.specs.Counting.{one_if, total, numbers_below}
 use Rattle.ua_table.proofs.Counts.{total-append, total-map, length-numbers_below, one_if-same, one_if-other}
 use Rattle.ua_table.proofs.Lists.{Contains-head, Contains-tail, Contains-cases, Contains-none, slice_get-push}
-use Rattle.ua_rows.proofs.RowLemmas.{at_longer}
+use Rattle.ua_rows.proofs.RowLaws.{at_longer}
 use Rattle.ua_log.specs.declared.views.Worker.{Worker}
 use Rattle.ua_log.specs.declared.views.View.{View}
 use Rattle.ua_log.specs.Boards.{workers}

@@ -44,7 +44,8 @@ pub record AreRead (plan : Plan) (words : List ℕ) (log : List Origin) (claims 
   pub claims_are : claims_in words ≡ claims
   pub halt : halt_in words ≡ halted
 
-pub are_read : (plan : Plan) (words : List ℕ) (log : List Origin) (c : ℕ) (h : Bool) → IsPlan plan → AreWords plan words log c h → length log ≤ plan.budget → ((k : ℕ) (o : Origin) → slice_get log k ≡ Some o → MayStand plan k o) → c < 2 ^ 63 → AreRead plan words log c h
+pub are_read : (plan : Plan) (words : List ℕ) (log : List Origin) (c : ℕ) (h : Bool) → IsPlan plan → AreWords plan words log c h
+    → length log ≤ plan.budget → ((k : ℕ) (o : Origin) → slice_get log k ≡ Some o → MayStand plan k o) → c < 2 ^ 63 → AreRead plan words log c h
 are_read plan words log c h p w room stands small =
     let rest = drop (first_row plan) words in
     let d : length rest ≡ plan.budget = let x = length-drop (first_row plan) words in let n = w.count in omega (arith, x, n) in

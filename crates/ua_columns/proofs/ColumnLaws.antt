@@ -51,7 +51,10 @@ words_within false width parts words is are = omega (arith, is, are)
 pub key_same : (in_bytes : Bool) (words : ℕ) (one other : List (List (List ℕ))) (r : ℕ) → ((x : ℕ) → entry_of one r x ≡ entry_of other r x) → key_of in_bytes words one r ≡ key_of in_bytes words other r
 key_same in_bytes words one other r same =
     map_range_same (λ j. word_of (base in_bytes) (digits in_bytes) one r (digits in_bytes * j)) (λ j. word_of (base in_bytes) (digits in_bytes) other r (digits in_bytes * j)) 0 words
-    (λ j low. ap (number_l (base in_bytes)) (map_range_same (λ c. entry_of one r (digits in_bytes * (0 + j) + c)) (λ c. entry_of other r (digits in_bytes * (0 + j) + c)) 0 (digits in_bytes) (λ c small. same (digits in_bytes * (0 + j) + (0 + c)))))
+    (λ j low.
+    ap (number_l (base in_bytes))
+    (map_range_same (λ c. entry_of one r (digits in_bytes * (0 + j) + c)) (λ c. entry_of other r (digits in_bytes * (0 + j) + c)) 0
+    (digits in_bytes) (λ c small. same (digits in_bytes * (0 + j) + (0 + c)))))
 
 -- ---- blocks
 
@@ -66,14 +69,17 @@ block_same tiles more parts blocks b low whole front =
 block_of_row : (i count blocks : ℕ) → i < count → count ≤ 16 * blocks → i / 16 < blocks
 block_of_row i count blocks low within = omega (arith, low, within)
 
-pub vectors_same : (width : ℕ) (tiles more : List (List (List ℕ))) (count blocks : ℕ) → count ≤ 16 * blocks → blocks * tiles_for width ≤ length tiles → take (length tiles) more ≡ tiles → vectors_in width more count ≡ vectors_in width tiles count
+pub vectors_same : (width : ℕ) (tiles more : List (List (List ℕ))) (count blocks : ℕ) → count ≤ 16 * blocks → blocks * tiles_for width ≤ length tiles
+    → take (length tiles) more ≡ tiles → vectors_in width more count ≡ vectors_in width tiles count
 vectors_same width tiles more count blocks within whole front =
     map_range_same (vector_in width more) (vector_in width tiles) 0 count
     (λ i low. ap (λ (block : List (List (List ℕ))). map (entry_of block ((0 + i) % 16)) (range_with_len 0 width))
     (block_same tiles more (tiles_for width) blocks ((0 + i) / 16) (let e : 0 + i < count = omega (arith, low) in block_of_row (0 + i) count blocks e within) whole front))
 
 -- room was made: tiles and blocks, keys with another capacity, another front
-pub columns_roomy : (width : ℕ) (in_bytes : Bool) (parts words count blocks : ℕ) (tiles : List (List (List ℕ))) (keys : Vec ℕ Global) (key front : List ℕ) (ready : Bool) → AreColumns width in_bytes parts words count blocks tiles keys key front ready
+pub columns_roomy : (width : ℕ) (in_bytes : Bool) (parts words count blocks : ℕ) (tiles : List (List (List ℕ))) (keys : Vec ℕ Global)
+    (key front : List ℕ) (ready : Bool)
+    → AreColumns width in_bytes parts words count blocks tiles keys key front ready
     → (blocks' : ℕ) (more : List (List (List ℕ))) (keys' : Vec ℕ Global) (front' : List ℕ) (ready' : Bool)
     → take (length tiles) more ≡ tiles → ((n : ℕ) → 0 < n → AreBelow n tiles → AreBelow n more) → blocks' * parts ≤ length more → count ≤ 16 * blocks' → 16 * blocks' ≤ count + 16
     → keys'.items ≡ keys.items → 0 < length front' → AllByRecursion (λ r. r ≤ count - 1) front' → (IsTrue ready' → HasRoom words count blocks' keys')

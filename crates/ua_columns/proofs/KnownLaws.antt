@@ -43,11 +43,15 @@ half_digits f lines block values are long small are_words j r below low =
         subst (λ (q : ℕ × (ℕ × ℕ)). slice_index (slice_index_or (slice_index_or lines q.0 []) q.1.0 []) (slice_index (slice_index_or (slice_index_or block q.0 []) q.1.0 []) r) ≡ 16 ^ q.1.1 * looked c) (λ i. (place i, (rest i, parity i)))
         (are.scaled (16 * j + c) (entry_of block r (16 * j + c)) within (entry_low 16 block r (16 * j + c) (omega arith) small))
 
-pub byte_digits : (f : ℕ → ℕ → ℕ) (lines block : List (List (List ℕ))) (values : List (List ℕ)) → AreByteLines f lines → length lines ≡ 4 * length block → length values ≤ 2 * length block → AreBelow 64 block → AreByteWords lines block values → AreDigits true f block values
+pub byte_digits : (f : ℕ → ℕ → ℕ) (lines block : List (List (List ℕ))) (values : List (List ℕ)) → AreByteLines f lines
+    → length lines ≡ 4 * length block → length values ≤ 2 * length block → AreBelow 64 block → AreByteWords lines block values
+    → AreDigits true f block values
 byte_digits f lines block values are long within small are_words j r below low =
     ap (λ (ws : List ℕ). slice_index ws r) (are_words j below)
     ∙ get_or-map-range_with_len (byte_word_at (slice_range lines (4 * (j / 2)) (4 * (j / 2) + 4)) (slice_index_or block (j / 2) []) (8 * (j % 2))) 0 16 r r 0 low (omega arith)
-    ∙ ap (number_l 256) (map_range_same (λ c. looked_across (slice_range lines (4 * (j / 2)) (4 * (j / 2) + 4)) (slice_index_or block (j / 2) []) r (8 * (j % 2) + c)) (λ c. f (8 * j + c) (entry_of block r (8 * j + c))) 0 8 (λ c column. value (0 + c) (omega (arith, column))))
+    ∙ ap (number_l 256)
+    (map_range_same (λ c. looked_across (slice_range lines (4 * (j / 2)) (4 * (j / 2) + 4)) (slice_index_or block (j / 2) []) r (8 * (j % 2) + c))
+    (λ c. f (8 * j + c) (entry_of block r (8 * j + c))) 0 8 (λ c column. value (0 + c) (omega (arith, column))))
   where
     value : (c : ℕ) → c < 8 → looked_across (slice_range lines (4 * (j / 2)) (4 * (j / 2) + 4)) (slice_index_or block (j / 2) []) r (8 * (j % 2) + c) ≡ f (8 * j + c) (entry_of block r (8 * j + c))
     value c column =
@@ -125,7 +129,8 @@ block_low n tiles parts b low =
     let P = AllByRecursion (AllByRecursion (λ x. x < n)) in
     all_take P (b * parts + parts - b * parts) (drop (b * parts) tiles) (all_drop P tiles (b * parts) low)
 
-module _ (width : ℕ) (in_bytes : Bool) (parts words count blocks : ℕ) (tiles : List (List (List ℕ))) (keys : Vec ℕ Global) (key front : List ℕ) (ready : Bool) (h : AreColumns width in_bytes parts words count blocks tiles keys key front ready) where
+module _ (width : ℕ) (in_bytes : Bool) (parts words count blocks : ℕ) (tiles : List (List (List ℕ))) (keys : Vec ℕ Global) (key front : List ℕ)
+    (ready : Bool) (h : AreColumns width in_bytes parts words count blocks tiles keys key front ready) where
   pub vector_at : (i : ℕ) → i < count → slice_index_or (vectors_in width tiles count) i [] ≡ vector_in width tiles i
   vector_at i low = get_or-map-range_with_len (vector_in width tiles) 0 count i i [] low (omega arith)
 

@@ -56,9 +56,18 @@ module _ (parts count : ℕ) (tiles more : List (List (List ℕ))) (v : Vector) 
   pub pushed_vectors : (width : ℕ) → parts ≡ tiles_for width → length v ≡ width → vectors_in width more (count + 1) ≡ vectors_in width tiles count ++ v ∷ []
   pushed_vectors width are long =
       let vector_at : List (List (List ℕ)) → ℕ → Vector = λ ts i. map (entry_of (block_of ts parts (i / 16)) (i % 16)) (range_with_len 0 width) in
-      let is : (ts : List (List (List ℕ))) (n : ℕ) → vectors_in width ts n ≡ map (vector_at ts) (range_with_len 0 n) = λ ts n. ap (λ w. map (λ i. map (entry_of (block_of ts w (i / 16)) (i % 16)) (range_with_len 0 width)) (range_with_len 0 n)) (sym are) in
+      let is : (ts : List (List (List ℕ))) (n : ℕ) → vectors_in width ts n ≡ map (vector_at ts) (range_with_len 0 n) =
+      λ ts n. ap (λ w. map (λ i. map (entry_of (block_of ts w (i / 16)) (i % 16)) (range_with_len 0 width)) (range_with_len 0 n)) (sym are) in
       is more (count + 1) ∙ map-range_with_len_more (vector_at more) 0 count count (let z : 0 + count ≡ count = omega arith in z)
-      ∙ (λ j. map_range_same (vector_at more) (vector_at tiles) 0 count (λ i low. map_range_same (entry_of (block_of more parts ((0 + i) / 16)) ((0 + i) % 16)) (entry_of (block_of tiles parts ((0 + i) / 16)) ((0 + i) % 16)) 0 width (λ x below. entry_before (0 + i) (0 + x) (omega (arith, low)))) j ++ last j ∷ [])
+      ∙
+      (λ j.
+      map_range_same (vector_at more) (vector_at tiles) 0 count
+      (λ i low.
+      map_range_same (entry_of (block_of more parts ((0 + i) / 16)) ((0 + i) % 16))
+      (entry_of (block_of tiles parts ((0 + i) / 16)) ((0 + i) % 16)) 0 width
+      (λ x below. entry_before (0 + i) (0 + x) (omega (arith, low))))
+      j
+      ++ last j ∷ [])
       ∙ ap (λ (vs : List Vector). vs ++ v ∷ []) (sym (is tiles count))
     where
       last : map (entry_of (block_of more parts (count / 16)) (count % 16)) (range_with_len 0 width) ≡ v
@@ -82,7 +91,9 @@ key_last keys key words count long one =
     ∙ ap (λ m. take words (drop m (keys ++ key))) (sym long) ∙ ap (take words) (drop-append_seam keys key)
     ∙ take_all words key (omega (arith, one))
 
-pub pushed_columns : (width : ℕ) (in_bytes : Bool) (parts words count blocks : ℕ) (tiles : List (List (List ℕ))) (keys : Vec ℕ Global) (key front : List ℕ) (ready : Bool) → AreColumns width in_bytes parts words count blocks tiles keys key front ready
+pub pushed_columns : (width : ℕ) (in_bytes : Bool) (parts words count blocks : ℕ) (tiles : List (List (List ℕ))) (keys : Vec ℕ Global)
+    (key front : List ℕ) (ready : Bool)
+    → AreColumns width in_bytes parts words count blocks tiles keys key front ready
     → (more : List (List (List ℕ))) (v : Vector) (keys' : Vec ℕ Global) (key' front' : List ℕ)
     → IsEntered parts count tiles more v → AreBelow (limit in_bytes) more → 0 < length front' → AllByRecursion (λ r. r ≤ count) front' → count < 16 * blocks → count + 1 < 2 ^ 32
     → key' ≡ key_of in_bytes words (block_of more parts (count / 16)) (count % 16) → keys'.items ≡ keys.items ++ key' → length key' ≡ words

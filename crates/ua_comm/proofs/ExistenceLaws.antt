@@ -29,7 +29,17 @@ module _ (a : FiniteAlgebra) (alg : IsAlgebra a) (ms : List Vector) (four : AllB
       ⊎_elim
       (λ e. inl (λ s. record { left = at 2 (omega arith); right = at 3 (omega arith); same = e }))
       (λ n. ⊎_elim
-      (λ first. inr (record { x = slice_index m 2; y = slice_index m 3; left = at 2 (omega arith); right = at 3 (omega arith); apart = n; forced = λ q cq all. all_at (Goes q) ms m all c (h.within q cq all (slice_index m 0) (slice_index m 1) first) }))
+      (λ first.
+      inr
+      (record {
+        x = slice_index m 2;
+        y = slice_index m 3;
+        left = at 2 (omega arith);
+        right = at 3 (omega arith);
+        apart = n;
+        forced = λ q cq all.
+            all_at (Goes q) ms m all c (h.within q cq all (slice_index m 0) (slice_index m 1) first);
+      }))
       (λ other. inl (λ s. absurd (other s)))
       (same_or p (slice_index m 0) (slice_index m 1)))
       (cases_eq (slice_index p (slice_index m 2)) (slice_index p (slice_index m 3)))

@@ -40,7 +40,8 @@ taken_failing a delta new m c four f h = record {
 
 -- ---- one matrix more of a sweep
 
-module _ (a : FiniteAlgebra) (matrices : List Vector) (start old new : Partition) (i : ℕ) (w : i < length matrices) (growing : IsGrowing a matrices old) (above : LiesBelow start old) (h : IsTakenIn a old (slice_index_or matrices i []) new) where
+module _ (a : FiniteAlgebra) (matrices : List Vector) (start old new : Partition) (i : ℕ) (w : i < length matrices)
+    (growing : IsGrowing a matrices old) (above : LiesBelow start old) (h : IsTakenIn a old (slice_index_or matrices i []) new) where
   pub swept_growing : IsGrowing a matrices new
   swept_growing = record {
     congruence = h.congruence;

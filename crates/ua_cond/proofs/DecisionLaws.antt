@@ -29,7 +29,11 @@ module _ (a : FiniteAlgebra) (c : TermCondition) where
   value = value_vector a c
 
   -- steps to the vector of the values write a term that meets the condition
-  pub steps_write : (s : StepList) → ((t : Tree) → (IsTerm (arities power) (length arguments) t × (term_value power arguments t ≡ value)) ↔ (IsTerm (arities_of a) c.arity t × Meets a t c)) → AreStepsTo power arguments value s → WriteMeeting a c s
+  pub steps_write : (s : StepList)
+      → ((t : Tree)
+      → (IsTerm (arities power) (length arguments) t × (term_value power arguments t ≡ value)) ↔
+      (IsTerm (arities_of a) c.arity t × Meets a t c))
+      → AreStepsTo power arguments value s → WriteMeeting a c s
   steps_write s written h =
       let i = length s.items - 1 in
       let m = mapped_from (term_value power arguments) (unfolded (arities power) s.items) i value h.value in

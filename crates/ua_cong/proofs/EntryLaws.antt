@@ -18,7 +18,8 @@ use Rattle.ua_cong.specs.inner.Principals.{HasPrincipal}
 
 -- ---- a row is entered
 
-module _ (a : FiniteAlgebra) (old new : Known) (first second : ℕ) (row : Partition) (known : IsKnown a old) (elements : AreElements a (first, second)) (principal : IsPrincipal a (first, second, row)) (e : GoesOnWith old.rows.items row new.rows.items) where
+module _ (a : FiniteAlgebra) (old new : Known) (first second : ℕ) (row : Partition) (known : IsKnown a old) (elements : AreElements a (first, second))
+    (principal : IsPrincipal a (first, second, row)) (e : GoesOnWith old.rows.items row new.rows.items) where
   -- what is known of a pair stays so
   kept_pair : (entry : ℕ × ℕ × ℕ) → IsKnownPair a old.rows.items entry → IsKnownPair a new.rows.items entry
   kept_pair entry h =

@@ -7,7 +7,7 @@ use Rattle.std.proofs.lemmas.List.FromFn.{length-range_with_len}
 use Rattle.ua_table.specs.Algebras.{FiniteAlgebra, IsAlgebra, arities_of, value_at}
 use Rattle.ua_table.specs.Counting.{total}
 use Rattle.ua_table.specs.Numbering.{choices}
-use Rattle.ua_table.proofs.ApplyLemmas.{value-below}
+use Rattle.ua_table.proofs.ApplyLaws.{value-below}
 use Rattle.ua_table.proofs.Choices.{IsChoice, chosen, in_range, range_low}
 use Rattle.ua_table.proofs.Lists.{Contains-head, Contains-tail, all_at, AllZip-length}
 use Rattle.ua_part.specs.Partitions.{Partition, IsPartition, SameBlock, LiesBelow, identity_on, merged}

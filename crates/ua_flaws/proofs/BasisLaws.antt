@@ -9,7 +9,7 @@ use Rattle.std.proofs.lemmas.List.Elements.{Contains-get_or}
 use Rattle.ua_table.specs.Algebras.{Vector, FiniteAlgebra, Product, IsAlgebra, arities, apply, power}
 use Rattle.ua_table.proofs.Lists.{all_replicate, Contains-head, Contains-tail}
 use Rattle.ua_table.proofs.Choices.{IsChoice, choice_from, range_low}
-use Rattle.ua_table.proofs.AlgebraLemmas.{power_product}
+use Rattle.ua_table.proofs.AlgebraLaws.{power_product}
 use Rattle.ua_term.specs.Assignments.{assignments}
 use Rattle.ua_bases.specs.Associative.{IsAssociativeIn, IsAssociative}
 use Rattle.ua_bases.specs.Bases.{IsClosedUnder}

@@ -35,7 +35,8 @@ pub closed_from : (p : Product) (rows : List Vector) → missing p rows ≡ None
 closed_from p rows none f args low arity held =
     let f_in : Contains (range_with_len 0 (length (arities p))) f = in_range 0 (length (arities p)) f (omega arith) (omega (arith, low)) in
     let here : missing_of p rows f ≡ None = each_none _ _ none (Contains-map (missing_of p rows) f (range_with_len 0 (length (arities p))) f_in) in
-    let nothing : find (is_missing p rows f) (assignments (length rows) (slice_index (arities p) f)) ≡ None = option_none (λ (tuple : List ℕ). (f, tuple)) (find (is_missing p rows f) (assignments (length rows) (slice_index (arities p) f))) here in
+    let nothing : find (is_missing p rows f) (assignments (length rows) (slice_index (arities p) f)) ≡ None =
+    option_none (λ (tuple : List ℕ). (f, tuple)) (find (is_missing p rows f) (assignments (length rows) (slice_index (arities p) f))) here in
     let choice : IsChoice (replicate (slice_index (arities p) f) (range_with_len 0 (length rows))) (positions rows args held)
     = subst (λ k. IsChoice (replicate k (range_with_len 0 (length rows))) (positions rows args held)) arity (positions_chosen rows args held) in
     let stands = find_none (is_missing p rows f) (assignments (length rows) (slice_index (arities p) f)) (positions rows args held) nothing (chosen _ (positions rows args held) choice) in

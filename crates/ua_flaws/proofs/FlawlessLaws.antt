@@ -26,8 +26,8 @@ use Rattle.ua_table.proofs.Lists.{found, mapped_at, mapped_from, Contains-head, 
 use Rattle.ua_table.proofs.Counts.{one_if-same, times-Contains}
 use Rattle.ua_table.proofs.GeneratedLaws.{generator_in, result_in}
 use Rattle.ua_table.proofs.Choices.{range_low}
-use Rattle.ua_table.proofs.RefusalLemmas.{refusal_if-false}
-use Rattle.ua_table.proofs.FrameLemmas.{arities_of_power}
+use Rattle.ua_table.proofs.RefusalLaws.{refusal_if-false}
+use Rattle.ua_table.proofs.FrameLaws.{arities_of_power}
 use Rattle.ua_term.specs.Meanings.{operation_number, has_operation}
 use Rattle.ua_term.specs.Steps.{AreStepsFrom, AreSteps, step_values, step_term, unfolded}
 use Rattle.ua_term.specs.Printing.{name_at}
@@ -44,7 +44,8 @@ use Rattle.ua_flaws.specs.Steps.{is_generator, arity_named, is_step, origin_of, 
 use Rattle.ua_flaws.specs.Shapes.{is_vector}
 use Rattle.ua_flaws.specs.Closing.{is_missing, missing_of, missing}
 use Rattle.ua_flaws.specs.Answers.{AreExact, IsPowerListing}
-use Rattle.ua_flaws.specs.Flaws.{vectors_flaw, steps_flaw, follows, order_flaw, is_rank, first_or_short, ranks_flaw, is_made, origins_flaw, generators_flaw, results_flaw, closed_flaw, outside_lines, gives_target, member_lines, member_flaw, not_member_lines, not_member_flaw, listing_lines, listing_flaw}
+use Rattle.ua_flaws.specs.Flaws.{vectors_flaw, steps_flaw, follows, order_flaw, is_rank, first_or_short, ranks_flaw, is_made, origins_flaw, generators_flaw, results_flaw}
+use Rattle.ua_flaws.specs.Flaws.{closed_flaw, outside_lines, gives_target, member_lines, member_flaw, not_member_lines, not_member_flaw, listing_lines, listing_flaw}
 use Rattle.ua_flaws.proofs.FirstLaws.{among_is, both}
 use Rattle.ua_flaws.proofs.PassLaws.{is_below, is_equal, are_below, is_same_vector, is_there, no_line, no_option, none_bad, none_found}
 
@@ -153,7 +154,14 @@ module _ (a : FiniteAlgebra) (table : IsAlgebraTable a) where
           no_vector_flaw a width Gens gens vectors,
           (
             no_vector_flaw a width Target (target ∷ []) (one, tt),
-            (no_step_flaw (length gens) None os steps, (refusal_if-false (not (gives_target a width gens (written_steps a os) target)) flaw.Target (ap not (is_same_vector (term_value (power a width) gens (last_term a (written_steps a os))) target gives)), tt)),
+            (
+              no_step_flaw (length gens) None os steps,
+              (
+                refusal_if-false (not (gives_target a width gens (written_steps a os) target)) flaw.Target
+                    (ap not (is_same_vector (term_value (power a width) gens (last_term a (written_steps a os))) target gives)),
+                tt,
+              ),
+            ),
           ),
         ),
       )
@@ -227,7 +235,9 @@ enough good n xs e h =
     )
 
 pub no_rank_flaw : (rows : List Vector) (ranks : List ℕ) → length rows ≡ length ranks → EachOnceBelow (length rows) ranks → ranks_flaw rows ranks ≡ None
-no_rank_flaw rows ranks count once = no_option flaw.Rank (first_or_short (first_bad (is_rank (length rows) ranks) 0 (take (length rows) ranks)) (length rows) (length ranks)) (enough (is_rank (length rows) ranks) (length rows) ranks count (once_each (length rows) ranks once))
+no_rank_flaw rows ranks count once =
+    no_option flaw.Rank (first_or_short (first_bad (is_rank (length rows) ranks) 0 (take (length rows) ranks)) (length rows) (length ranks))
+    (enough (is_rank (length rows) ranks) (length rows) ranks count (once_each (length rows) ranks once))
 
 -- ---- rows that are exactly what is generated
 
@@ -246,7 +256,9 @@ positions_generated a width gens rows exact (x ∷ xs) low =
     let v = found rows x low.0 in
     (subst (Sg (power a width) gens) (sym (get_or_from_slice_get rows x v.0 [] v.1)) (exact.generated v.0 (Contains-slice_get rows x v.0 v.1)), positions_generated a width gens rows exact xs low.1)
 
-result_there : (a : FiniteAlgebra) (width : ℕ) (gens rows : List Vector) → AreExact a width gens rows → (f : ℕ) (tuple : List ℕ) → f < length (arities (power a width)) → IsAssignment (length rows) (slice_index (arities (power a width)) f) tuple → is_missing (power a width) rows f tuple ≡ false
+result_there : (a : FiniteAlgebra) (width : ℕ) (gens rows : List Vector) → AreExact a width gens rows → (f : ℕ) (tuple : List ℕ)
+    → f < length (arities (power a width)) → IsAssignment (length rows) (slice_index (arities (power a width)) f) tuple
+    → is_missing (power a width) rows f tuple ≡ false
 result_there a width gens rows exact f tuple low h =
     let args = positions_generated a width gens rows exact tuple h.elements in
     let long : length (rows_at rows tuple) ≡ slice_index (arities (power a width)) f = length-map tuple (λ x. slice_index_or rows x []) ∙ h.count in
@@ -279,13 +291,15 @@ not_there rows v h = cases (is_among rows v) refl
     cases false e = refl
     cases true e = absurd (h (among_is rows v e))
 
-pub no_outside_flaw : (a : FiniteAlgebra) (width : ℕ) (gens rows : List Vector) (target : Vector) → IsIncreasing rows → AreExact a width gens rows → (Contains rows target → ⊥) → AllByRecursion (λ o. o ≡ None) (outside_lines a width gens rows target)
+pub no_outside_flaw : (a : FiniteAlgebra) (width : ℕ) (gens rows : List Vector) (target : Vector) → IsIncreasing rows → AreExact a width gens rows
+    → (Contains rows target → ⊥) → AllByRecursion (λ o. o ≡ None) (outside_lines a width gens rows target)
 no_outside_flaw a width gens rows target inc exact absent =
     (no_closed_flaw a width gens rows inc exact, (refusal_if-false (is_among rows target) flaw.Target (not_there rows target absent), tt))
 
 -- ---- a listing
 
-pub flawless_not_member : (a : FiniteAlgebra) (gens : List Vector) (rows : List Row) (target : Vector) (width : ℕ) → IsPowerListing a width gens rows → IsVector (power a width) target → (Contains (vectors_of rows) target → ⊥) → not_member_flaw a gens (vectors_of rows) target width ≡ None
+pub flawless_not_member : (a : FiniteAlgebra) (gens : List Vector) (rows : List Row) (target : Vector) (width : ℕ) → IsPowerListing a width gens rows
+    → IsVector (power a width) target → (Contains (vectors_of rows) target → ⊥) → not_member_flaw a gens (vectors_of rows) target width ≡ None
 flawless_not_member a gens rows target width l one absent =
     no_line (not_member_lines a gens (vectors_of rows) target width) (
       refusal_if-false (is_outside width WIDTH) flaw.Width (right_width width l.wide.0 l.wide.1),
@@ -306,17 +320,28 @@ module _ (a : FiniteAlgebra) (table : IsAlgebraTable a) (width : ℕ) (gens : Li
       let made = All-slice_get (IsMadeFrom (power a width) gens rows) rows i r.0 l.listing.origins r.1 in
       let ks : arities (power a width) ≡ arities_of a = arities_of_power a width l.wide.0 in
       let long : length rows ≡ length (vectors_of rows) = sym (length-map rows (λ (w : Row). w.vector)) in
-      let origin : IsOrigin (arities_of a) (length gens) (length (vectors_of rows)) r.0.origin = subst (λ n. IsOrigin (arities_of a) (length gens) n r.0.origin) long (subst (λ zs. IsOrigin zs (length gens) (length rows) r.0.origin) ks made.origin) in
+      let origin : IsOrigin (arities_of a) (length gens) (length (vectors_of rows)) r.0.origin =
+      subst (λ n. IsOrigin (arities_of a) (length gens) n r.0.origin) long
+      (subst (λ zs. IsOrigin zs (length gens) (length rows) r.0.origin) ks made.origin) in
       let w = written a table (length gens) (length (vectors_of rows)) r.0.origin origin in
       let vector : slice_index_or (vectors_of rows) i [] ≡ r.0.vector = get_or_from_slice_get (vectors_of rows) i r.0.vector [] (mapped_at (λ (x : Row). x.vector) rows i r.0 r.1) in
       let rank : slice_index (ranks_of rows) i ≡ r.0.rank = get_or_from_slice_get (ranks_of rows) i r.0.rank 0 (mapped_at (λ (x : Row). x.rank) rows i r.0 r.1) in
       let earlier : AllByRecursion (λ x. slice_index (ranks_of rows) x < slice_index (ranks_of rows) i) (rows_named (written_step a r.0.origin))
       = subst (λ n. AllByRecursion (λ x. slice_index (ranks_of rows) x < n) (rows_named (written_step a r.0.origin))) (sym rank)
       (subst (AllByRecursion (λ x. slice_index (ranks_of rows) x < r.0.rank)) (sym (w.rows ∙ ap (λ zs. arguments_of zs r.0.origin) (sym ks))) made.earlier) in
-      let value : origin_value (power a width) gens (vectors_of rows) (origin_of a (written_step a r.0.origin)) ≡ slice_index_or (vectors_of rows) i [] = ap (origin_value (power a width) gens (vectors_of rows)) w.origin ∙ made.value ∙ sym vector in
+      let value : origin_value (power a width) gens (vectors_of rows) (origin_of a (written_step a r.0.origin))
+      ≡ slice_index_or (vectors_of rows) i [] =
+      ap (origin_value (power a width) gens (vectors_of rows)) w.origin ∙ made.value ∙ sym vector in
       subst (λ s. is_made a width gens (vectors_of rows) (ranks_of rows) i s ≡ true) r.2
-      (and_from (is_step a (length gens) (length (vectors_of rows)) (written_step a r.0.origin)) (list_all (λ x. nat_lt (slice_index (ranks_of rows) x) (slice_index (ranks_of rows) i)) (rows_named (written_step a r.0.origin)) && is_same (origin_value (power a width) gens (vectors_of rows) (origin_of a (written_step a r.0.origin))) (slice_index_or (vectors_of rows) i [])) w.step
-      (and_from (list_all (λ x. nat_lt (slice_index (ranks_of rows) x) (slice_index (ranks_of rows) i)) (rows_named (written_step a r.0.origin))) (is_same (origin_value (power a width) gens (vectors_of rows) (origin_of a (written_step a r.0.origin))) (slice_index_or (vectors_of rows) i [])) (ranks_below (slice_index (ranks_of rows) i) (rows_named (written_step a r.0.origin)) earlier)
+      (and_from (is_step a (length gens) (length (vectors_of rows)) (written_step a r.0.origin))
+      (list_all (λ x. nat_lt (slice_index (ranks_of rows) x) (slice_index (ranks_of rows) i)) (rows_named (written_step a r.0.origin))
+      && is_same (origin_value (power a width) gens (vectors_of rows) (origin_of a (written_step a r.0.origin)))
+      (slice_index_or (vectors_of rows) i []))
+      w.step
+      (and_from (list_all (λ x. nat_lt (slice_index (ranks_of rows) x) (slice_index (ranks_of rows) i)) (rows_named (written_step a r.0.origin)))
+      (is_same (origin_value (power a width) gens (vectors_of rows) (origin_of a (written_step a r.0.origin)))
+      (slice_index_or (vectors_of rows) i []))
+      (ranks_below (slice_index (ranks_of rows) i) (rows_named (written_step a r.0.origin)) earlier)
       (is_same_vector (origin_value (power a width) gens (vectors_of rows) (origin_of a (written_step a r.0.origin))) (slice_index_or (vectors_of rows) i []) value)))
 
   no_origin_flaw : origins_flaw a width gens (vectors_of rows) (ranks_of rows) (row_steps a rows) ≡ None

@@ -6,7 +6,7 @@ use Rattle.ua_table.specs.declared.origins.Origin.{Origin}
 use Rattle.ua_table.specs.declared.origins.Origin.TheVariants.{Gen, Op}
 use Rattle.ua_table.specs.Algebras.{Vector, FiniteAlgebra, Product, arities, arities_of, apply, power}
 use Rattle.ua_table.specs.Origins.{IsOrigin, arguments_of, origin_value}
-use Rattle.ua_table.proofs.FrameLemmas.{arities_of_power}
+use Rattle.ua_table.proofs.FrameLaws.{arities_of_power}
 use Rattle.ua_rows.specs.RowLists.{rows_at}
 use Rattle.ua_term.specs.Meanings.{operation_number}
 use Rattle.ua_cert.specs.declared.certs.CertStep.{CertStep}
@@ -53,7 +53,10 @@ generator_read a gens n s i p = cases (is_generator s) p.origin
     cases false e = absurd (apart i (operation_number a s.word) (s.args ++ replicate (4 - length s.args) 0) (sym e))
 
 module _ (a : FiniteAlgebra) (width : ℕ) (gens rows : List Vector) (ranks : List ℕ) (i : ℕ) (s : CertStep) where
-  made_by : (b c d : Bool) → is_step a (length gens) (length rows) s ≡ b → list_all (λ x. nat_lt (slice_index ranks x) (slice_index ranks i)) (rows_named s) ≡ c → is_same (origin_value (power a width) gens rows (origin_of a s)) (slice_index_or rows i []) ≡ d → is_made a width gens rows ranks i s ≡ (b && (c && d))
+  made_by : (b c d : Bool) → is_step a (length gens) (length rows) s ≡ b
+      → list_all (λ x. nat_lt (slice_index ranks x) (slice_index ranks i)) (rows_named s) ≡ c
+      → is_same (origin_value (power a width) gens rows (origin_of a s)) (slice_index_or rows i []) ≡ d
+      → is_made a width gens rows ranks i s ≡ (b && (c && d))
   made_by b c d eb ec ed = ap (λ x. x && (list_all (λ y. nat_lt (slice_index ranks y) (slice_index ranks i)) (rows_named s) && is_same (origin_value (power a width) gens rows (origin_of a s)) (slice_index_or rows i []))) eb
       ∙ ap (λ x. b && (x && is_same (origin_value (power a width) gens rows (origin_of a s)) (slice_index_or rows i []))) ec ∙ ap (λ x. b && (c && x)) ed
 
@@ -72,7 +75,9 @@ module _ (a : FiniteAlgebra) (width : ℕ) (gens rows : List Vector) (ranks : Li
       sym (made_by true false (is_same (origin_value (power a width) gens rows (origin_of a s)) (slice_index_or rows i [])) p.step (ap (list_all (λ x. nat_lt (slice_index ranks x) (slice_index ranks i))) o.rows ∙ h) refl)
 
   -- an operation
-  pub made_operation : (op : ℕ) (args : List ℕ) (v row : Vector) (d : Bool) → 0 < width → Passed a (length gens) (length rows) s (Op op args) → list_all (λ x. nat_lt (slice_index ranks x) (slice_index ranks i)) s.args ≡ true → v ≡ apply (power a width) op (rows_at rows s.args) → slice_index_or rows i [] ≡ row → d ≡ is_same v row → d ≡ is_made a width gens rows ranks i s
+  pub made_operation : (op : ℕ) (args : List ℕ) (v row : Vector) (d : Bool) → 0 < width → Passed a (length gens) (length rows) s (Op op args)
+      → list_all (λ x. nat_lt (slice_index ranks x) (slice_index ranks i)) s.args ≡ true → v ≡ apply (power a width) op (rows_at rows s.args)
+      → slice_index_or rows i [] ≡ row → d ≡ is_same v row → d ≡ is_made a width gens rows ranks i s
   made_operation op args v row d some p h ev er e =
       let o = operation_read a (length gens) (length rows) s op args p in
       let taken : take (slice_index (arities (power a width)) op) args ≡ s.args = ap (λ (ks : List ℕ). take (slice_index ks op) args) (arities_of_power a width some) ∙ o.taken in
@@ -89,7 +94,8 @@ passed_at a g m n k s o q r eg en er eo e =
 pub all_named : (a : FiniteAlgebra) (gens n m : ℕ) (s : CertStep) (op : ℕ) (args : List ℕ) → Passed a gens n s (Op op args) → n ≡ m → AllByRecursion (λ x. x < m) s.args
 all_named a gens n m s op args p e = subst (λ k. AllByRecursion (λ x. x < k) s.args) e (operation_read a gens n s op args p).named
 
-pub arity_in : (a : FiniteAlgebra) (width : ℕ) (q : Product) (gens n : ℕ) (s : CertStep) (op : ℕ) (args : List ℕ) → Passed a gens n s (Op op args) → q ≡ power a width → 0 < width → (op < length (arities q)) × (length s.args ≡ slice_index (arities q) op)
+pub arity_in : (a : FiniteAlgebra) (width : ℕ) (q : Product) (gens n : ℕ) (s : CertStep) (op : ℕ) (args : List ℕ) → Passed a gens n s (Op op args)
+    → q ≡ power a width → 0 < width → (op < length (arities q)) × (length s.args ≡ slice_index (arities q) op)
 arity_in a width q gens n s op args p e some =
     let o = operation_read a gens n s op args p in
     let ks : arities_of a ≡ arities q = sym (ap arities e ∙ arities_of_power a width some) in

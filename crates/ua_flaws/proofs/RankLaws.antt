@@ -121,7 +121,10 @@ ranks_once rows ranks none =
     let count : length rows ≡ length ranks = like_lengths (length rows) (length ranks) (first_none _ _ parts.1).0 in
     let whole : take (length rows) ranks ≡ ranks = ap (λ n. take n ranks) count ∙ take_all (length ranks) ranks (omega arith) in
     let fine : first_bad (is_rank (length rows) ranks) 0 ranks ≡ None = ap (first_bad (is_rank (length rows) ranks) 0) (sym whole) ∙ parts.0 in
-    let good : (i x : ℕ) → slice_get ranks i ≡ Some x → is_rank (length rows) ranks i x ≡ true = λ i x at. (let z : 0 + i ≡ i = omega arith in ap (λ k. is_rank (length rows) ranks k x) (sym z) ∙ each_good (is_rank (length rows) ranks) 0 ranks fine i x at) in
+    let good : (i x : ℕ) → slice_get ranks i ≡ Some x → is_rank (length rows) ranks i x ≡ true =
+    λ i x at.
+    (let z : 0 + i ≡ i = omega arith in
+    ap (λ k. is_rank (length rows) ranks k x) (sym z) ∙ each_good (is_rank (length rows) ranks) 0 ranks fine i x at) in
     record {
       count = count;
       once = each_once (length rows) ranks (sym count)
@@ -178,11 +181,14 @@ module _ (rows : List Vector) (ranks : List ℕ) where
   abbrev pub bad_ranks_from : ℕ → Option ℕ
   bad_ranks_from i = first_bad (is_rank (length rows) ranks) i (drop i (take (length rows) ranks))
 
-  pub rank_bad : (i x : ℕ) → i < length rows → i < length ranks → x ≡ get_or ranks i 0 → is_rank (length rows) ranks i x ≡ false → first_bad (is_rank (length rows) ranks) 0 (take (length rows) ranks) ≡ bad_ranks_from i → ranks_flaw rows ranks ≡ Some (flaw.Rank i)
+  pub rank_bad : (i x : ℕ) → i < length rows → i < length ranks → x ≡ get_or ranks i 0 → is_rank (length rows) ranks i x ≡ false
+      → first_bad (is_rank (length rows) ranks) 0 (take (length rows) ranks) ≡ bad_ranks_from i → ranks_flaw rows ranks ≡ Some (flaw.Rank i)
   rank_bad i x h l at bad rest =
       let here = bad_here (is_rank (length rows) ranks) (take (length rows) ranks) i x 0 (taken_long (length rows) ranks i h l) (at ∙ sym (get_or-take (length rows) ranks i 0 h)) bad in
       ap (λ o. option_map flaw.Rank (first_or_short o (length rows) (length ranks))) (rest ∙ here)
 
-  pub rank_good : (i x : ℕ) → i < length rows → i < length ranks → x ≡ get_or ranks i 0 → is_rank (length rows) ranks i x ≡ true → first_bad (is_rank (length rows) ranks) 0 (take (length rows) ranks) ≡ bad_ranks_from i → first_bad (is_rank (length rows) ranks) 0 (take (length rows) ranks) ≡ bad_ranks_from (i + 1)
+  pub rank_good : (i x : ℕ) → i < length rows → i < length ranks → x ≡ get_or ranks i 0 → is_rank (length rows) ranks i x ≡ true
+      → first_bad (is_rank (length rows) ranks) 0 (take (length rows) ranks) ≡ bad_ranks_from i
+      → first_bad (is_rank (length rows) ranks) 0 (take (length rows) ranks) ≡ bad_ranks_from (i + 1)
   rank_good i x h l at good rest =
       rest ∙ bad_later (is_rank (length rows) ranks) (take (length rows) ranks) i x 0 (taken_long (length rows) ranks i h l) (at ∙ sym (get_or-take (length rows) ranks i 0 h)) good

@@ -8,7 +8,7 @@ use Rattle.std.proofs.lemmas.Option.{get_or_from_slice_get}
 use Rattle.ua_table.specs.Algebras.{Vector, Operation, FiniteAlgebra, Product, arities, power}
 use Rattle.ua_table.specs.Refusals.{first_refusal}
 use Rattle.ua_table.proofs.Lists.{mapped_at}
-use Rattle.ua_table.proofs.FrameLemmas.{arities_of_power}
+use Rattle.ua_table.proofs.FrameLaws.{arities_of_power}
 use Rattle.ua_term.specs.Assignments.{assignments}
 use Rattle.ua_flaws.specs.inner.Firsts.{first_behind}
 use Rattle.ua_flaws.specs.Closing.{is_missing, missing_of, missing}

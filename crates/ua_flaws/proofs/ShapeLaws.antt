@@ -23,7 +23,7 @@ use Rattle.std.specs.List.{AllByRecursion, list_all}
 use Rattle.std.proofs.lemmas.Bool.Decides.{nat_tests}
 use Rattle.std.proofs.lemmas.Bool.{or_parts}
 use Rattle.ua_table.specs.Algebras.{Vector}
-use Rattle.ua_table.proofs.FrameLemmas.{arities_of_power}
+use Rattle.ua_table.proofs.FrameLaws.{arities_of_power}
 use Rattle.ua_flaws.specs.Shapes.{is_vector, IsOver}
 use Rattle.ua_flaws.proofs.FirstLaws.{both, all_below, option_none}
 
@@ -58,7 +58,8 @@ pub vectors_of_power : (a : FiniteAlgebra) (size width : ℕ) (vs : List Vector)
 vectors_of_power a size width vs e all = all_weaker (IsOver size width) (IsVector (power a width)) (λ v o. vector_of_power a width v o.count (subst (λ n. AllByRecursion (λ x. x < n) v) e o.elements)) vs all
 
 -- the rows of a certificate with the operations of their power
-pub table_over : (a : FiniteAlgebra) (ops : Product) (list : RowList) (rows : List Vector) (size width : ℕ) → ops ≡ power a width → list.width ≡ width → list.items ≡ rows → 0 < width → size ≡ a.size → AllByRecursion (IsOver size width) rows → IsTableOver a ops list
+pub table_over : (a : FiniteAlgebra) (ops : Product) (list : RowList) (rows : List Vector) (size width : ℕ) → ops ≡ power a width → list.width ≡ width
+    → list.items ≡ rows → 0 < width → size ≡ a.size → AllByRecursion (IsOver size width) rows → IsTableOver a ops list
 table_over a ops list rows size width product w items s e all = record {
   product = product ∙ ap (power a) (sym w);
   some = omega (arith, s, w);
@@ -75,7 +76,9 @@ vectors_over a p size width gens items product e same all =
     subst (λ vs. AllByRecursion (IsVector p) vs) (sym same) (subst (λ q. AllByRecursion (IsVector q) gens) (sym product) (vectors_of_power a size width gens e all))
 
 -- steps without a flaw are steps of the power
-pub steps_over : (a : FiniteAlgebra) (p : Product) (width : ℕ) (gens items : List Vector) (steps : List CertStep) (os : List Origin) → p ≡ power a width → is_outside width WIDTH ≡ false → items ≡ gens → os ≡ origins_of a steps → steps_flaw a (length gens) None steps ≡ None → AreSteps (arities p) (length items) os
+pub steps_over : (a : FiniteAlgebra) (p : Product) (width : ℕ) (gens items : List Vector) (steps : List CertStep) (os : List Origin)
+    → p ≡ power a width → is_outside width WIDTH ≡ false → items ≡ gens → os ≡ origins_of a steps → steps_flaw a (length gens) None steps ≡ None
+    → AreSteps (arities p) (length items) os
 steps_over a p width gens items steps os product inside same read none =
     let ks : arities_of a ≡ arities p = sym (ap arities product ∙ arities_of_power a width (wide width inside)) in
     let are : AreSteps (arities_of a) (length gens) (origins_of a steps) = steps_read a (length gens) 0 steps (option_none (flaw.Step None) (first_bad (is_step a (length gens)) 0 steps) none) in

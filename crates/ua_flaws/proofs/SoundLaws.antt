@@ -17,7 +17,7 @@ use Rattle.ua_table.specs.Listings.{Row, vectors_of, ranks_of, IsMadeFrom, IsLis
 use Rattle.ua_table.specs.Refusals.{refusal_if, first_refusal, is_outside}
 use Rattle.ua_table.proofs.GeneratedLaws.{Sg-least}
 use Rattle.ua_table.proofs.ListingLaws.{vector_in}
-use Rattle.ua_table.proofs.FrameLemmas.{arities_of_power}
+use Rattle.ua_table.proofs.FrameLaws.{arities_of_power}
 use Rattle.ua_table.proofs.Lists.{all_from_places}
 use Rattle.ua_term.specs.Steps.{AreSteps}
 use Rattle.ua_term.proofs.StepLaws.{step_is_term}
@@ -28,7 +28,8 @@ use Rattle.ua_flaws.specs.declared.flaws.Flaw.TheVariants as flaw
 use Rattle.ua_flaws.specs.Firsts.{first_bad, unlike_lengths, is_same, is_among}
 use Rattle.ua_flaws.specs.Steps.{is_step, origin_of, origins_of, last_term, rows_named}
 use Rattle.ua_flaws.specs.Closing.{missing}
-use Rattle.ua_flaws.specs.Flaws.{vectors_flaw, steps_flaw, is_made, first_or_short, origins_flaw, order_flaw, generators_flaw, results_flaw, closed_flaw, outside_lines, gives_target, member_lines, member_flaw, not_member_flaw, listing_lines, listing_flaw}
+use Rattle.ua_flaws.specs.Flaws.{vectors_flaw, steps_flaw, is_made, first_or_short, origins_flaw, order_flaw, generators_flaw, results_flaw, closed_flaw, outside_lines, gives_target}
+use Rattle.ua_flaws.specs.Flaws.{member_lines, member_flaw, not_member_flaw, listing_lines, listing_flaw}
 use Rattle.ua_flaws.specs.Properties.{WritesMember, IsNoMember, rows_from, ListsAll}
 use Rattle.ua_flaws.proofs.FirstLaws.{both, not_false, some_length, same_is, among_is, refusal_none, option_none, none_of, behind_none, each_good, like_lengths}
 use Rattle.ua_flaws.proofs.ClosingLaws.{closed_from}
@@ -65,7 +66,11 @@ outside_holds a width gens rows target none s =
 
 pub not_member_holds : (a : FiniteAlgebra) (gens rows : List Vector) (target : Vector) (width : ℕ) → not_member_flaw a gens rows target width ≡ None → IsNoMember a gens target width
 not_member_holds a gens rows target width none =
-    outside_holds a width gens rows target (behind_none (refusal_if (is_outside width WIDTH) flaw.Width ∷ vectors_flaw a.size width Gens gens ∷ vectors_flaw a.size width Rows rows ∷ vectors_flaw a.size width Target (target ∷ []) ∷ []) (outside_lines a width gens rows target) none)
+    outside_holds a width gens rows target
+    (behind_none
+    (refusal_if (is_outside width WIDTH) flaw.Width ∷ vectors_flaw a.size width Gens gens ∷ vectors_flaw a.size width Rows rows
+    ∷ vectors_flaw a.size width Target (target ∷ []) ∷ [])
+    (outside_lines a width gens rows target) none)
 
 -- ---- a vector that is generated
 
@@ -118,7 +123,9 @@ record RowsAre (a : FiniteAlgebra) (rows : List Vector) (ranks : List ℕ) (orig
   ranks_are : ranks_of (rows_from a rows ranks origins) ≡ ranks
   each : (i : ℕ) (r : Row) → slice_get (rows_from a rows ranks origins) i ≡ Some r → RowAt a rows ranks origins i r
 
-each_row : (a : FiniteAlgebra) (v : Vector) (vs : List Vector) (r : ℕ) (ranks : List ℕ) (o : CertStep) (origins : List CertStep) → RowsAre a vs ranks origins → (i : ℕ) (w : Row) → slice_get (rows_from a (v ∷ vs) (r ∷ ranks) (o ∷ origins)) i ≡ Some w → RowAt a (v ∷ vs) (r ∷ ranks) (o ∷ origins) i w
+each_row : (a : FiniteAlgebra) (v : Vector) (vs : List Vector) (r : ℕ) (ranks : List ℕ) (o : CertStep) (origins : List CertStep)
+    → RowsAre a vs ranks origins → (i : ℕ) (w : Row) → slice_get (rows_from a (v ∷ vs) (r ∷ ranks) (o ∷ origins)) i ≡ Some w
+    → RowAt a (v ∷ vs) (r ∷ ranks) (o ∷ origins) i w
 each_row a v vs r ranks o origins rest zero w at =
     let there : Some (record { vector = v; rank = r; origin = origin_of a o }) ≡ Some w = at in
     let same : record { vector = v; rank = r; origin = origin_of a o } ≡ w = cc in
@@ -174,7 +181,11 @@ module _ (a : FiniteAlgebra) (width : ℕ) (gens rows : List Vector) (ranks : Li
       let are = rows_are a rows ranks origins like in
       let here = are.each i r at in
       let ks : arities_of a ≡ arities (power a width) = sym (arities_of_power a width some) in
-      let e1 = both (is_step a (length gens) (length rows) here.step) (list_all (λ x. nat_lt (slice_index ranks x) (slice_index ranks i)) (rows_named here.step) && is_same (origin_value (power a width) gens rows (origin_of a here.step)) (slice_index_or rows i [])) (made.each i here.step here.origin_at) in
+      let e1 =
+      both (is_step a (length gens) (length rows) here.step)
+      (list_all (λ x. nat_lt (slice_index ranks x) (slice_index ranks i)) (rows_named here.step)
+      && is_same (origin_value (power a width) gens rows (origin_of a here.step)) (slice_index_or rows i []))
+      (made.each i here.step here.origin_at) in
       let e2 = both (list_all (λ x. nat_lt (slice_index ranks x) (slice_index ranks i)) (rows_named here.step)) (is_same (origin_value (power a width) gens rows (origin_of a here.step)) (slice_index_or rows i [])) e1.1 in
       let read = step_read a (length gens) (length rows) here.step e1.0 in
       let long : length rows ≡ length (rows_from a rows ranks origins) = ap length (sym are.vectors) ∙ length-map (rows_from a rows ranks origins) (λ (w : Row). w.vector) in

@@ -67,7 +67,11 @@ module _ (a : FiniteAlgebra) (gens n : ℕ) (s : CertStep) where
       parts : IsOrigin (arities_of a) gens n (origin_of a s) × (arguments_of (arities_of a) (origin_of a s) ≡ rows_named s)
       parts = elim (is_generator s) as (λ b. is_generator s ≡ b
           → cond b ((length s.args == 1) && list_all (λ x. nat_lt x gens) s.args) (has_operation a s.word && ((length s.args == arity_named a s) && list_all (λ x. nat_lt x n) s.args)) ≡ true
-          → IsOrigin (arities_of a) gens n (cond b (Gen (slice_index s.args 0)) (Op (operation_number a s.word) (s.args ++ replicate (4 - length s.args) 0))) × (arguments_of (arities_of a) (cond b (Gen (slice_index s.args 0)) (Op (operation_number a s.word) (s.args ++ replicate (4 - length s.args) 0))) ≡ cond b [] s.args)) [
+          → IsOrigin (arities_of a) gens n
+          (cond b (Gen (slice_index s.args 0)) (Op (operation_number a s.word) (s.args ++ replicate (4 - length s.args) 0)))
+          × (arguments_of (arities_of a)
+          (cond b (Gen (slice_index s.args 0)) (Op (operation_number a s.word) (s.args ++ replicate (4 - length s.args) 0)))
+          ≡ cond b [] s.args)) [
             | true ↦ λ g h. (let x = both _ _ h in (first_below s.args gens x.0 x.1, refl))
             | false ↦ λ g h. operation_read g h
           ] refl e

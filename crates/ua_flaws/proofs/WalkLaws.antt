@@ -93,13 +93,16 @@ module _ (q : List ℕ → Bool) (n : ℕ) where
       ap (from begin k i) m ∙ from_more begin k i (n - (i + 1))
 
   -- something is found at this number, or nothing
-  pub found_here : (whole : Option (List ℕ)) (begin next : List ℕ) (k i : ℕ) (o : Option (List ℕ)) (g : List ℕ → List ℕ) → i < n → next ≡ begin ++ i ∷ [] → whole ≡ from begin k i (n - i) → option_map g o ≡ first_behind q n next k → is_some o ≡ true → option_map g o ≡ whole
+  pub found_here : (whole : Option (List ℕ)) (begin next : List ℕ) (k i : ℕ) (o : Option (List ℕ)) (g : List ℕ → List ℕ) → i < n
+      → next ≡ begin ++ i ∷ [] → whole ≡ from begin k i (n - i) → option_map g o ≡ first_behind q n next k → is_some o ≡ true → option_map g o ≡ whole
   found_here whole begin next k i None g h m e here some = cc
   found_here whole begin next k i (Some x) g h m e here some =
       let at : Some (g x) ≡ first_behind q n (begin ++ i ∷ []) k = here ∙ ap (λ b. first_behind q n b k) m in
       sym (e ∙ one_more begin k i h ∙ ap (λ o. option_or o (from begin k (i + 1) (n - (i + 1)))) (sym at))
 
-  pub found_not : (whole : Option (List ℕ)) (begin next : List ℕ) (k i : ℕ) (o : Option (List ℕ)) (g : List ℕ → List ℕ) → i < n → next ≡ begin ++ i ∷ [] → whole ≡ from begin k i (n - i) → option_map g o ≡ first_behind q n next k → is_some o ≡ false → whole ≡ from begin k (i + 1) (n - (i + 1))
+  pub found_not : (whole : Option (List ℕ)) (begin next : List ℕ) (k i : ℕ) (o : Option (List ℕ)) (g : List ℕ → List ℕ) → i < n
+      → next ≡ begin ++ i ∷ [] → whole ≡ from begin k i (n - i) → option_map g o ≡ first_behind q n next k → is_some o ≡ false
+      → whole ≡ from begin k (i + 1) (n - (i + 1))
   found_not whole begin next k i (Some x) g h m e here none = cc
   found_not whole begin next k i None g h m e here none =
       let at : None ≡ first_behind q n (begin ++ i ∷ []) k = here ∙ ap (λ b. first_behind q n b k) m in

@@ -53,7 +53,10 @@ ranks_flaw rows ranks = option_map flaw.Rank (first_or_short (first_bad (is_rank
 
 -- the origin is one over the rows, its arguments have smaller ranks, and it gives row i
 abbrev pub is_made : FiniteAlgebra → ℕ → List Vector → List Vector → List ℕ → ℕ → CertStep → Bool
-is_made a width gens rows ranks i o = is_step a (length gens) (length rows) o && (list_all (λ x. nat_lt (slice_index ranks x) (slice_index ranks i)) (rows_named o) && is_same (origin_value (power a width) gens rows (origin_of a o)) (slice_index_or rows i []))
+is_made a width gens rows ranks i o =
+    is_step a (length gens) (length rows) o
+    && (list_all (λ x. nat_lt (slice_index ranks x) (slice_index ranks i)) (rows_named o)
+    && is_same (origin_value (power a width) gens rows (origin_of a o)) (slice_index_or rows i []))
 
 -- an origin that does not make its row
 abbrev pub origins_flaw : FiniteAlgebra → ℕ → List Vector → List Vector → List ℕ → List CertStep → Option Flaw

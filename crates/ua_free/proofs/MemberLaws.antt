@@ -10,7 +10,7 @@ use Rattle.ua_table.specs.Algebras.{Vector, FiniteAlgebra, IsVector, arities_of,
 use Rattle.ua_table.specs.Terms.{Tree, IsTerm, eval}
 use Rattle.ua_table.specs.Generated.{Sg}
 use Rattle.ua_table.proofs.Choices.{range_low}
-use Rattle.ua_table.proofs.FrameLemmas.{arities_of_power, in_power}
+use Rattle.ua_table.proofs.FrameLaws.{arities_of_power, in_power}
 use Rattle.ua_table.proofs.Lists.{all_at, all_map, all_from_contains}
 use Rattle.ua_term.specs.Assignments.{assignments, projection, projections, power_of_assignments, term_operation}
 use Rattle.ua_term.proofs.AssignmentLaws.{length_assignments, assignment_in, assignment_from, value_is_operation, maps_agree}

@@ -8,7 +8,7 @@ use Rattle.std.specs.declared.cmp.Ordering.TheVariants.{Less, Equal, Greater}
 use Rattle.std.proofs.lemmas.Bool.{cases_lt, cases_eq}
 use Rattle.std.proofs.Math.Nat.{mul-le-mul_right}
 use Rattle.ua_table.specs.Algebras.{numeral}
-use Rattle.ua_table.proofs.ApplyLemmas.{numeral-below}
+use Rattle.ua_table.proofs.ApplyLaws.{numeral-below}
 use Rattle.ua_table.proofs.Codes.{numeral-cons}
 
 equal_less : Equal ≡ Less → ⊥

@@ -9,7 +9,7 @@ use Rattle.ua_table.specs.Terms.{Tree, Generator, IsTerm, eval}
 use Rattle.ua_table.specs.Generated.{Sg}
 use Rattle.std.proofs.lemmas.List.FromFn.{length-map-range_with_len}
 use Rattle.ua_table.proofs.Lists.{Contains-map, Contains-map_from, Contains-flat_map, Contains-flat_map_from, all_at, all_set, all_weaker}
-use Rattle.ua_table.proofs.FrameLemmas.{arities_of_power}
+use Rattle.ua_table.proofs.FrameLaws.{arities_of_power}
 use Rattle.std.proofs.lemmas.List.Elements.{All-from_recursion}
 use Rattle.ua_term.specs.Assignments.{IsAssignment, assignments}
 use Rattle.ua_term.proofs.AssignmentLaws.{assignment_from, assignment_in, maps_agree}
@@ -31,7 +31,8 @@ pub generator_count : (a : FiniteAlgebra) (ps : List VariablePattern) (places : 
 generator_count a ps places = length-map-range_with_len (place_vector (all_fillings a.size ps)) 0 places
 
 -- the vector of a term is a member, and each member is the vector of a term
-pub member_of_term : (a : FiniteAlgebra) (kind : ChainKind) (t : Tree) → IsKind kind → 0 < length (all_fillings a.size kind.patterns) → IsTerm (arities_of a) kind.places t → Sg (pattern_power a kind.patterns) (generators a kind.patterns kind.places) (vector_of a kind.patterns t)
+pub member_of_term : (a : FiniteAlgebra) (kind : ChainKind) (t : Tree) → IsKind kind → 0 < length (all_fillings a.size kind.patterns)
+    → IsTerm (arities_of a) kind.places t → Sg (pattern_power a kind.patterns) (generators a kind.patterns kind.places) (vector_of a kind.patterns t)
 member_of_term a kind t k wide h =
     let fs = all_fillings a.size kind.patterns in
     record {
@@ -40,10 +41,14 @@ member_of_term a kind t k wide h =
       value = value_is_vector a fs kind.places t (all_filled kind.places a.size kind.patterns k.patterns) h;
     }
 
-pub term_of_member : (a : FiniteAlgebra) (kind : ChainKind) (v : Vector) → IsKind kind → 0 < length (all_fillings a.size kind.patterns) → Sg (pattern_power a kind.patterns) (generators a kind.patterns kind.places) v → (t : Tree) × IsTerm (arities_of a) kind.places t × (vector_of a kind.patterns t ≡ v)
+pub term_of_member : (a : FiniteAlgebra) (kind : ChainKind) (v : Vector) → IsKind kind → 0 < length (all_fillings a.size kind.patterns)
+    → Sg (pattern_power a kind.patterns) (generators a kind.patterns kind.places) v
+    → (t : Tree) × IsTerm (arities_of a) kind.places t × (vector_of a kind.patterns t ≡ v)
 term_of_member a kind v k wide s =
     let fs = all_fillings a.size kind.patterns in
-    let is : IsTerm (arities_of a) kind.places s.term = subst (λ (ks : List ℕ). IsTerm ks kind.places s.term) (arities_of_power a (length fs) wide) (subst (λ n. IsTerm (arities (pattern_power a kind.patterns)) n s.term) (generator_count a kind.patterns kind.places) s.is_term) in
+    let is : IsTerm (arities_of a) kind.places s.term =
+    subst (λ (ks : List ℕ). IsTerm ks kind.places s.term) (arities_of_power a (length fs) wide)
+    (subst (λ n. IsTerm (arities (pattern_power a kind.patterns)) n s.term) (generator_count a kind.patterns kind.places) s.is_term) in
     (s.term, is, sym (value_is_vector a fs kind.places s.term (all_filled kind.places a.size kind.patterns k.patterns) is) ∙ s.value)
 
 -- ---- places
@@ -119,7 +124,8 @@ ends_at_first a kind k same xs h =
     (All-from_recursion (λ u. u < a.size) xs h.elements kind.end 0 (omega arith))
 
 -- so all places have the same vector
-pub same_vectors : (a : FiniteAlgebra) (kind : ChainKind) (i j : ℕ) → IsKind kind → i < kind.places → j < kind.places → ((x y : ℕ) → x < a.size → y < a.size → x ≡ y) → vector_of a kind.patterns (Generator i) ≡ vector_of a kind.patterns (Generator j)
+pub same_vectors : (a : FiniteAlgebra) (kind : ChainKind) (i j : ℕ) → IsKind kind → i < kind.places → j < kind.places
+    → ((x y : ℕ) → x < a.size → y < a.size → x ≡ y) → vector_of a kind.patterns (Generator i) ≡ vector_of a kind.patterns (Generator j)
 same_vectors a kind i j k li lj one =
     maps_agree (λ ys. slice_index ys i) (λ ys. slice_index ys j) (all_fillings a.size kind.patterns) (λ ys c.
     let h = fillings_assign a kind.places kind.patterns ys k.patterns c in

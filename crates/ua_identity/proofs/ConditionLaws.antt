@@ -10,7 +10,7 @@ use Rattle.ua_table.specs.Algebras.{Vector, FiniteAlgebra, IsVector, arities_of,
 use Rattle.ua_table.specs.Terms.{Tree, IsTerm, eval, term_value}
 use Rattle.ua_table.specs.Generated.{Sg}
 use Rattle.ua_table.proofs.Choices.{range_low}
-use Rattle.ua_table.proofs.FrameLemmas.{arities_of_power, in_power}
+use Rattle.ua_table.proofs.FrameLaws.{arities_of_power, in_power}
 use Rattle.ua_table.proofs.Lists.{all_map, all_append, all_from_contains, all_weaker}
 use Rattle.ua_term.specs.Assignments.{assignments, projection}
 use Rattle.ua_term.proofs.AssignmentLaws.{length_assignments, assignment_from}
@@ -27,7 +27,10 @@ abbrev pub FillPlaces : ℕ → List VariablePattern → Type 0
 FillPlaces places ps = AllByRecursion (λ (p : VariablePattern). length p.places ≡ places) ps
 
 filled_one : (places n : ℕ) (p : VariablePattern) → length p.places ≡ places → AreFilled places (fillings n p)
-filled_one places n p e = all_map (λ (xs : List ℕ). length xs ≡ places) (filled p) (assignments n p.variables) (all_from_contains (λ (xs : List ℕ). length (filled p xs) ≡ places) (assignments n p.variables) (λ xs c. length-map p.places (slice_index xs) ∙ e))
+filled_one places n p e =
+    all_map (λ (xs : List ℕ). length xs ≡ places) (filled p) (assignments n p.variables)
+    (all_from_contains (λ (xs : List ℕ). length (filled p xs) ≡ places) (assignments n p.variables)
+    (λ xs c. length-map p.places (slice_index xs) ∙ e))
 
 pub filled_all : (places n : ℕ) (ps : List VariablePattern) → FillPlaces places ps → AreFilled places (all_fillings n ps)
 filled_all places n [] h = tt

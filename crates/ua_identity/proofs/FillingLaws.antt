@@ -54,7 +54,9 @@ start_narrow n ps k =
     omega (arith, whole, parts)
 
 -- what stands at a place under one pattern more
-pub place_more : (n : ℕ) (ps : List VariablePattern) (i j : ℕ) (p : VariablePattern) → i < length ps → p ≡ get_or ps i p → j < length p.places → place_vector (all_fillings n (take (i + 1) ps)) j ≡ place_vector (all_fillings n (take i ps)) j ++ projection n p.variables (slice_index p.places j)
+pub place_more : (n : ℕ) (ps : List VariablePattern) (i j : ℕ) (p : VariablePattern) → i < length ps → p ≡ get_or ps i p → j < length p.places
+    → place_vector (all_fillings n (take (i + 1) ps)) j
+    ≡ place_vector (all_fillings n (take i ps)) j ++ projection n p.variables (slice_index p.places j)
 place_more n ps i j p l e low =
     let at = λ (xs : List ℕ). slice_index xs j in
     ap (λ (fs : List (List ℕ)). map at fs) (pieces_more (fillings n) ps i p l ∙ ap (λ (q : VariablePattern). all_fillings n (take i ps) ++ fillings n q) (sym e))

@@ -78,7 +78,10 @@ is_day = record {
 
 number_in : (n j : ℕ) → j < n → Contains (numbers_below n) j
 number_in zero j l = absurd (omega (arith, l))
-number_in (suc n) j l = ⊎_elim (λ low. Contains-append_left (numbers_below n) (n ∷ []) j (number_in n j low)) (λ high. let same : n ≡ j = omega (arith, l, high) in subst (Contains (numbers_below n ++ n ∷ [])) same (Contains-push (numbers_below n) n)) (cases_lt j n)
+number_in (suc n) j l =
+    ⊎_elim (λ low. Contains-append_left (numbers_below n) (n ∷ []) j (number_in n j low))
+    (λ high. let same : n ≡ j = omega (arith, l, high) in subst (Contains (numbers_below n ++ n ∷ [])) same (Contains-push (numbers_below n) n))
+    (cases_lt j n)
 
 -- an earlier place is apart from the end at some pattern
 pub apart_at : (kind : ChainKind) (j : ℕ) → IsKind kind → j < kind.end → AreApart kind.patterns j kind.end

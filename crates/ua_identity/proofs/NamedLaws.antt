@@ -48,7 +48,13 @@ majority_is = record {
   some = omega arith;
   small = omega arith;
   identity = omega arith;
-  identities = (three_places 0 0 1 0 (omega arith) (omega arith) (omega arith) (omega arith), (three_places 0 1 0 0 (omega arith) (omega arith) (omega arith) (omega arith), (three_places 1 0 0 0 (omega arith) (omega arith) (omega arith) (omega arith), tt)));
+  identities = (
+    three_places 0 0 1 0 (omega arith) (omega arith) (omega arith) (omega arith),
+    (
+      three_places 0 1 0 0 (omega arith) (omega arith) (omega arith) (omega arith),
+      (three_places 1 0 0 0 (omega arith) (omega arith) (omega arith) (omega arith), tt),
+    ),
+  );
   filled = (refl, (refl, (refl, tt)));
 }
 
@@ -57,7 +63,13 @@ minority_is = record {
   some = omega arith;
   small = omega arith;
   identity = omega arith;
-  identities = (three_places 0 0 1 1 (omega arith) (omega arith) (omega arith) (omega arith), (three_places 0 1 0 1 (omega arith) (omega arith) (omega arith) (omega arith), (three_places 1 0 0 1 (omega arith) (omega arith) (omega arith) (omega arith), tt)));
+  identities = (
+    three_places 0 0 1 1 (omega arith) (omega arith) (omega arith) (omega arith),
+    (
+      three_places 0 1 0 1 (omega arith) (omega arith) (omega arith) (omega arith),
+      (three_places 1 0 0 1 (omega arith) (omega arith) (omega arith) (omega arith), tt),
+    ),
+  );
   filled = (refl, (refl, (refl, tt)));
 }
 
@@ -66,7 +78,13 @@ pixley_is = record {
   some = omega arith;
   small = omega arith;
   identity = omega arith;
-  identities = (three_places 0 1 1 0 (omega arith) (omega arith) (omega arith) (omega arith), (three_places 0 1 0 0 (omega arith) (omega arith) (omega arith) (omega arith), (three_places 0 0 1 1 (omega arith) (omega arith) (omega arith) (omega arith), tt)));
+  identities = (
+    three_places 0 1 1 0 (omega arith) (omega arith) (omega arith) (omega arith),
+    (
+      three_places 0 1 0 0 (omega arith) (omega arith) (omega arith) (omega arith),
+      (three_places 0 0 1 1 (omega arith) (omega arith) (omega arith) (omega arith), tt),
+    ),
+  );
   filled = (refl, (refl, (refl, tt)));
 }
 

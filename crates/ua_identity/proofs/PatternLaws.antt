@@ -9,7 +9,7 @@ use Rattle.ua_table.specs.Algebras.{Vector, FiniteAlgebra, arities_of, column}
 use Rattle.ua_table.specs.Terms.{Tree, Generator, Application, IsTerm, term_value, term_values, eval}
 use Rattle.ua_table.proofs.Lists.{Contains-cases, Contains-none, slice_get-replicate}
 use Rattle.ua_table.proofs.TermLaws.{value_is_eval}
-use Rattle.ua_table.proofs.ApplyLemmas.{length-apply}
+use Rattle.ua_table.proofs.ApplyLaws.{length-apply}
 use Rattle.ua_term.specs.Assignments.{assignments}
 use Rattle.ua_term.proofs.AssignmentLaws.{assignment_in, assignment_from, read_all}
 use Rattle.ua_term.proofs.AssignmentLaws.{maps_agree}
@@ -52,7 +52,8 @@ value_long a fs places (Generator j) h =
     ap length (get_or-map-range_with_len (place_vector fs) 0 places j j [] h (omega arith)) ∙ length-map fs (λ (xs : List ℕ). slice_index xs j)
 value_long a fs places (Application f ts) h = length-apply (replicate (length fs) a) f (term_values (replicate (length fs) a) (map (place_vector fs) (range_with_len 0 places)) ts) ∙ length-replicate (length fs) a
 
-pub value_is_vector : (a : FiniteAlgebra) (fs : List (List ℕ)) (places : ℕ) (t : Tree) → AreFilled places fs → IsTerm (arities_of a) places t → term_value (replicate (length fs) a) (map (place_vector fs) (range_with_len 0 places)) t ≡ map (λ xs. eval a xs t) fs
+pub value_is_vector : (a : FiniteAlgebra) (fs : List (List ℕ)) (places : ℕ) (t : Tree) → AreFilled places fs → IsTerm (arities_of a) places t
+    → term_value (replicate (length fs) a) (map (place_vector fs) (range_with_len 0 places)) t ≡ map (λ xs. eval a xs t) fs
 value_is_vector a fs places t filled h =
     let gens = map (place_vector fs) (range_with_len 0 places) in
     let long = value_long a fs places t h in

@@ -37,7 +37,9 @@ module _ {X : Type 0} (f : X → VariablePattern) where
     row_at P h = subst P (sym stands) (All-from_recursion P (map f xs) h k (f x) low)
 
     -- what stands at a place under one pattern more
-    pub row_more : (j : ℕ) → AllByRecursion (λ (p : VariablePattern). j < length p.places) (map f xs) → place_vector (all_fillings n (map f (take (k + 1) xs))) j ≡ place_vector (all_fillings n (map f (take k xs))) j ++ projection n (f x).variables (slice_index (f x).places j)
+    pub row_more : (j : ℕ) → AllByRecursion (λ (p : VariablePattern). j < length p.places) (map f xs)
+        → place_vector (all_fillings n (map f (take (k + 1) xs))) j
+        ≡ place_vector (all_fillings n (map f (take k xs))) j ++ projection n (f x).variables (slice_index (f x).places j)
     row_more j h =
         ap (λ ps. place_vector (all_fillings n ps) j) (taken xs (k + 1)) ∙ place_more n (map f xs) k j (f x) low stands (row_at (λ p. j < length p.places) h)
         ∙ ap (λ ps. place_vector (all_fillings n ps) j ++ projection n (f x).variables (slice_index (f x).places j)) (sym (taken xs k))

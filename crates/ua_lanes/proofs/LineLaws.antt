@@ -12,7 +12,7 @@ use Rattle.ua_table.specs.Algebras.{Vector, Operation, FiniteAlgebra, Product, I
 use Rattle.ua_table.proofs.Lists.{found, mapped_at, All-slice_get, AllZip-length, AllZip-slice_get, all_weaker, all_set}
 use Rattle.ua_table.specs.Tables.{IsTable}
 use Rattle.ua_table.proofs.Codes.{numeral-cons}
-use Rattle.ua_table.proofs.ApplyLemmas.{operation_at, length-apply, apply_at, numeral-below}
+use Rattle.ua_table.proofs.ApplyLaws.{operation_at, length-apply, apply_at, numeral-below}
 use Rattle.ua_rows.proofs.ApplyForms.{size_is}
 use Rattle.ua_columns.specs.inner.Tiles.{value_across}
 use Rattle.ua_columns.specs.Columns.{limit, entry_of, values_at}

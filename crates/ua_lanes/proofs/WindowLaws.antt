@@ -23,7 +23,9 @@ agreeing args fixed free long long' low same =
     same_number_lists (set fixed free (slice_index args free)) args (length-set fixed free (slice_index args free) ∙ long' ∙ sym long)
     (λ k less. (let four : k < 4 = (let l = length-set fixed free (slice_index args free) in omega (arith, less, l, long')) in
     ⊎_elim
-    (λ here. ap (get_or (set fixed free (slice_index args free)) k) refl ∙ (λ i. get_or (set fixed free (slice_index args free)) (here i) 0) ∙ get_or-set_same fixed free (slice_index args free) 0 (omega (arith, low, long')) ∙ ap (λ n. slice_index args n) (sym here))
+    (λ here.
+    ap (get_or (set fixed free (slice_index args free)) k) refl ∙ (λ i. get_or (set fixed free (slice_index args free)) (here i) 0)
+    ∙ get_or-set_same fixed free (slice_index args free) 0 (omega (arith, low, long')) ∙ ap (λ n. slice_index args n) (sym here))
     (λ other. get_or-set_other fixed free k (slice_index args free) 0 other ∙ sym (same k four other))
     (cases_eq k free)))
 
@@ -34,7 +36,8 @@ agreeing_with args fixed free n long long' low same =
 
 -- ---- a bit tells of a tuple
 
-pub told_by_value : (p : Product) (items : List Vector) (f : ℕ) (fixed : List ℕ) (free : ℕ) (i : ℕ) → free < slice_index (arities p) f → AllByRecursion (λ a. a < length items) (tuple_of p f fixed) → AllByRecursion (IsVector p) items → i < length items
+pub told_by_value : (p : Product) (items : List Vector) (f : ℕ) (fixed : List ℕ) (free : ℕ) (i : ℕ) → free < slice_index (arities p) f
+    → AllByRecursion (λ a. a < length items) (tuple_of p f fixed) → AllByRecursion (IsVector p) items → i < length items
     → Contains items (values_at (line_value p f (rows_at items (tuple_of p f fixed)) free) (slice_index_or items i [])) → IsKnown p items f (slice_set fixed free i)
 told_by_value p items f fixed free i place named vectors low there =
     let k = slice_index (arities p) f in
@@ -62,7 +65,8 @@ known_more p items more f args h = record {
   stands = subst (Contains (items ++ more)) (ap (apply p f) (sym (rows_more items more (tuple_of p f args) h.named))) (Contains-append_left items more (apply p f (rows_at items (tuple_of p f args))) h.stands);
 }
 
-pub lines_more : (p : Product) (in_bytes : Bool) (items more : List Vector) (f : ℕ) (fixed : List ℕ) (free : ℕ) (lines : List (List (List ℕ))) → HasLines p in_bytes items f fixed free lines → HasLines p in_bytes (items ++ more) f fixed free lines
+pub lines_more : (p : Product) (in_bytes : Bool) (items more : List Vector) (f : ℕ) (fixed : List ℕ) (free : ℕ) (lines : List (List (List ℕ)))
+    → HasLines p in_bytes items f fixed free lines → HasLines p in_bytes (items ++ more) f fixed free lines
 lines_more p in_bytes items more f fixed free lines h = record {
   operation = h.operation;
   place = h.place;

@@ -76,7 +76,10 @@ module _ (covers : List (ℕ × ℕ)) (n : ℕ) (places : List ℕ) (h : AreIrre
     in_order = increasing_push places n h.in_order (λ m c. ((h.all m).0 c).0);
     all = λ m. (
       (λ c. ⊎_elim (λ old. let b = (h.all m).0 old in let low = b.0 in (omega (arith, low), b.1)) (λ is. (omega (arith, is), ap (lower_covers covers) (sym is) ∙ one)) (Contains-push_cases places n m c)),
-      (λ both. ⊎_elim (λ low. Contains-append_left places (n ∷ []) m ((h.all m).1 (low, both.1))) (λ high. let w = both.0 in let is : n ≡ m = omega (arith, w, high) in subst (Contains (places ++ n ∷ [])) is (Contains-push places n)) (cases_lt m n)),
+      (λ both.
+          ⊎_elim (λ low. Contains-append_left places (n ∷ []) m ((h.all m).1 (low, both.1)))
+          (λ high. let w = both.0 in let is : n ≡ m = omega (arith, w, high) in subst (Contains (places ++ n ∷ [])) is (Contains-push places n))
+          (cases_lt m n)),
     );
   }
 

@@ -30,7 +30,8 @@ none_pushed list i q places below = record {
   there = λ apart. absurd (apart below);
 }
 
-pub one_pushed : (list : List Partition) (i : ℕ) (q : Partition) (old new : List ℕ) (place : ℕ) → ¬ LiesBelow q (at list i) → place < length list → IsJoin (at list i) q (at list place) → new ≡ old ++ place ∷ [] → AreJoinPushed list i q old new
+pub one_pushed : (list : List Partition) (i : ℕ) (q : Partition) (old new : List ℕ) (place : ℕ) → ¬ LiesBelow q (at list i) → place < length list
+    → IsJoin (at list i) q (at list place) → new ≡ old ++ place ∷ [] → AreJoinPushed list i q old new
 one_pushed list i q old new place apart within join is = record {
   more = place ∷ [];
   is = is;
@@ -48,7 +49,9 @@ pub record AreJoinPlacesOfFirst (list generators : List Partition) (i k : ℕ) (
   pub joins : AllByRecursion (IsJoinPlace list generators i) places
   pub all : (m : ℕ) → m < k → HasJoinPlace list places i (slice_index_or generators m [])
 
-pub places_more : (list generators : List Partition) (i k : ℕ) (old new : List ℕ) → k < length generators → AreJoinPushed list i (slice_index_or generators k []) old new → AreJoinPlacesOfFirst list generators i k old → AreJoinPlacesOfFirst list generators i (k + 1) new
+pub places_more : (list generators : List Partition) (i k : ℕ) (old new : List ℕ) → k < length generators
+    → AreJoinPushed list i (slice_index_or generators k []) old new → AreJoinPlacesOfFirst list generators i k old
+    → AreJoinPlacesOfFirst list generators i (k + 1) new
 places_more list generators i k old new w p h = record {
   joins = subst (AllByRecursion (IsJoinPlace list generators i)) (sym p.is) (all_append (IsJoinPlace list generators i) old p.more h.joins (all_from_contains (IsJoinPlace list generators i) p.more (λ j c. record {
     within = all_at (λ m. m < length list) p.more j p.within c;
@@ -70,7 +73,8 @@ places_all list generators i k places all h = record {
 }
 
 -- the same places in another order
-pub places_moved : (list generators : List Partition) (i : ℕ) (old new : List ℕ) → ((j : ℕ) → Contains new j → Contains old j) → ((j : ℕ) → Contains old j → Contains new j) → AreJoinPlaces list generators i old → AreJoinPlaces list generators i new
+pub places_moved : (list generators : List Partition) (i : ℕ) (old new : List ℕ) → ((j : ℕ) → Contains new j → Contains old j)
+    → ((j : ℕ) → Contains old j → Contains new j) → AreJoinPlaces list generators i old → AreJoinPlaces list generators i new
 places_moved list generators i old new down up h = record {
   joins = all_from_contains (IsJoinPlace list generators i) new (λ j c. all_at (IsJoinPlace list generators i) old j h.joins (down j c));
   all = all_weaker (HasJoinPlace list old i) (HasJoinPlace list new i) (λ q g apart. let j = g apart in (j.0, up j.0 j.1, j.2)) generators h.all;

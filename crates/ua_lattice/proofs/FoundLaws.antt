@@ -90,7 +90,8 @@ first_joins_all old p i new all h q c =
     let j = h c.0 (let w = c.1 in omega (arith, w, all)) in
     (j.0, j.1, subst (λ (s : Partition). IsJoin s p j.0) (get_or_default old c.0 [] q c.1 ∙ c.2) j.2)
 
-pub first_joins_more : (old : List Partition) (p : Partition) (i : ℕ) (now new : List Partition) → i < length old → GoesOnWithJoins old p now → IsJoinEntered now (slice_index_or now i []) p new → HasFirstJoins old p i now → HasFirstJoins old p (i + 1) new
+pub first_joins_more : (old : List Partition) (p : Partition) (i : ℕ) (now new : List Partition) → i < length old → GoesOnWithJoins old p now
+    → IsJoinEntered now (slice_index_or now i []) p new → HasFirstJoins old p i now → HasFirstJoins old p (i + 1) new
 first_joins_more old p i now new w g e h k low =
     ⊎_elim
     (λ less. let j = h k less in (j.0, entered_among now (slice_index_or now i []) p new e j.0 j.1, j.2))
@@ -149,4 +150,7 @@ identity_lattice a rows alg is = subst (IsSpannedLattice a []) (sym is) (record 
     only p c = ⊎_elim (λ e. e) (λ k. absurd (Contains-none p k)) (Contains-cases (identity_on a.size) p [] c)
 
     closed : (p q : Partition) → identity_on a.size ≡ p → identity_on a.size ≡ q → IsJoin p q (identity_on a.size)
-    closed p q e f = subst (λ (s : Partition). IsJoin s q (identity_on a.size)) e (subst (λ (s : Partition). IsJoin (identity_on a.size) s (identity_on a.size)) f (join_with_lower (identity_on a.size) (identity_on a.size) (identity-IsPartition a.size) (below_itself (identity_on a.size))))
+    closed p q e f =
+        subst (λ (s : Partition). IsJoin s q (identity_on a.size)) e
+        (subst (λ (s : Partition). IsJoin (identity_on a.size) s (identity_on a.size)) f
+        (join_with_lower (identity_on a.size) (identity_on a.size) (identity-IsPartition a.size) (below_itself (identity_on a.size))))

@@ -5,7 +5,7 @@ use Rattle.std.proofs.lemmas.Bool.{cases_lt}
 use Rattle.std.proofs.lemmas.List.FromFn.{length-range_with_len}
 use Rattle.std.proofs.lemmas.List.Elements.{Contains-append_left, Contains-append_cases}
 use Rattle.ua_table.specs.Algebras.{FiniteAlgebra, IsAlgebra, value_at}
-use Rattle.ua_table.proofs.ApplyLemmas.{value-below}
+use Rattle.ua_table.proofs.ApplyLaws.{value-below}
 use Rattle.ua_table.proofs.Lists.{all_append, all_front, all_back}
 use Rattle.ua_part.specs.Partitions.{Partition, IsPartition, SameBlock, LiesBelow, IsJoin, identity_on}
 use Rattle.ua_part.proofs.PartitionLaws.{same_itself, same_back, leader_same, below_through, below_from_leaders, below_both, identity-IsPartition, identity-same}
@@ -33,8 +33,14 @@ join-IsCongruence a p q r alg hp hq j =
       left = omega (arith, one, long);
       right = omega (arith, two, long);
       same = join-constant p q r same j (λ z. slice_index r (value_at a f (ps ++ z ∷ ss)))
-          (λ u v t. (j.left (value_at a f (ps ++ u ∷ ss)) (value_at a f (ps ++ v ∷ ss)) (hp.compatible f (ps ++ u ∷ ss) (ps ++ v ∷ ss) w (let m = length-append ps (u ∷ ss) in omega (arith, m, n, count)) (around_pair p a.size hp.size ps ss u v front back.1 t))).same)
-          (λ u v t. (j.right (value_at a f (ps ++ u ∷ ss)) (value_at a f (ps ++ v ∷ ss)) (hq.compatible f (ps ++ u ∷ ss) (ps ++ v ∷ ss) w (let m = length-append ps (u ∷ ss) in omega (arith, m, n, count)) (around_pair q a.size hq.size ps ss u v front back.1 t))).same)
+          (λ u v t.
+          (j.left (value_at a f (ps ++ u ∷ ss)) (value_at a f (ps ++ v ∷ ss))
+          (hp.compatible f (ps ++ u ∷ ss) (ps ++ v ∷ ss) w (let m = length-append ps (u ∷ ss) in omega (arith, m, n, count))
+          (around_pair p a.size hp.size ps ss u v front back.1 t))).same)
+          (λ u v t.
+          (j.right (value_at a f (ps ++ u ∷ ss)) (value_at a f (ps ++ v ∷ ss))
+          (hq.compatible f (ps ++ u ∷ ss) (ps ++ v ∷ ss) w (let m = length-append ps (u ∷ ss) in omega (arith, m, n, count))
+          (around_pair q a.size hq.size ps ss u v front back.1 t))).same)
           x y s;
     })
 

@@ -92,7 +92,15 @@ module _ (list : List Partition) (places : List ℕ) (k : ℕ) (least : List ℕ
             (λ apart. ⊎_elim
             (λ before.
             let l = h.lower m.0 before in
-            absurd (none (record { lower = l.lower; inside = l.inside; below = below_through (at list l.lower) (at list (slice_index places m.0)) (at list (slice_index places k)) l.below (subst (λ i. LiesBelow (at list i) (at list (slice_index places k))) (sym m.2) below) })))
+            absurd
+            (none
+            (record {
+              lower = l.lower;
+              inside = l.inside;
+              below = below_through (at list l.lower) (at list (slice_index places m.0))
+                  (at list (slice_index places k)) l.below
+                  (subst (λ i. LiesBelow (at list i) (at list (slice_index places k))) (sym m.2) below);
+            })))
             (λ after.
             let rise = AllPairs-from_increasing places up k m.0 0 after m.1 in
             let low = place_up list ordered c (slice_index places k) (subst (λ (i : ℕ). i < length list) m.2 (within_at m.0 m.1)) (within_at k here) below in

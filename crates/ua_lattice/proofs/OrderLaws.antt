@@ -78,7 +78,9 @@ length_from_members ps qs up h =
     (λ p t. (is_member-Decides same_Decides qs p).1 (h p ((is_member-Decides same_Decides ps p).0 t)))
 
 -- what is sorted by a test that reads the count and the partition
-pub sorted_partitions : (cmp : Counted → Counted → Ordering) → ((a b : Counted) → IsCounted a → IsCounted b → cmp a b ≡ by_blocks a.leaders.items b.leaders.items) → (list : List Counted) → AllByRecursion IsCounted list → IsSorted cmp list → IsSorted by_blocks (partitions_of list)
+pub sorted_partitions : (cmp : Counted → Counted → Ordering)
+    → ((a b : Counted) → IsCounted a → IsCounted b → cmp a b ≡ by_blocks a.leaders.items b.leaders.items) → (list : List Counted)
+    → AllByRecursion IsCounted list → IsSorted cmp list → IsSorted by_blocks (partitions_of list)
 sorted_partitions cmp same [] counts s = λ k d l h. absurd (omega (arith, h))
 sorted_partitions cmp same (x ∷ xs) counts s = λ k d l h.
     let each = All-from_recursion IsCounted (x ∷ xs) counts in

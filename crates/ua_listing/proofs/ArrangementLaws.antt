@@ -118,7 +118,9 @@ module _ (ks : List ℕ) (log : List Record) (ranks places : List ℕ) (ranking 
       let k = slice_index ks f in
       let there = map (λ a. slice_index places a) (take k args) in
       let n : length there ≡ k = length-map (take k args) (λ a. slice_index places a) ∙ v.valid.count in
-      let front : map (λ a. slice_index ranks a) (take k (there ++ drop k args)) ≡ take k args = ap (map (λ a. slice_index ranks a)) (take_at there (drop k args) k n) ∙ map_back (λ a. slice_index places a) (λ a. slice_index ranks a) (take k args) (undone (take k args) v.valid.earlier) in
+      let front : map (λ a. slice_index ranks a) (take k (there ++ drop k args)) ≡ take k args =
+      ap (map (λ a. slice_index ranks a)) (take_at there (drop k args) k n)
+      ∙ map_back (λ a. slice_index places a) (λ a. slice_index ranks a) (take k args) (undone (take k args) v.valid.earlier) in
       (λ l. Op f (front l ++ drop_at there (drop k args) k n l)) ∙ ap (Op f) (take-append-drop k args)
 
   named_below : (o : Origin) → IsOriginOver ks (length log) o → AllByRecursion (λ a. a < length ranks) (arguments_of ks (by_position ks places o))

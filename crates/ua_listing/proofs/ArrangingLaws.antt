@@ -127,7 +127,8 @@ positions_exist rs once = (map (place_in rs) (range_with_len 0 (length rs)), rec
 
 -- ---- the arrangement
 
-pub arranged_exists : (ks : List ℕ) (records : List Record) → IsDistinct (pointwise nat_eq) (rows_of records) → AllByRecursion (λ (r : Record). IsOriginOver ks (length records) r.1) records → (listing : List Row) × IsArranged ks records listing
+pub arranged_exists : (ks : List ℕ) (records : List Record) → IsDistinct (pointwise nat_eq) (rows_of records)
+    → AllByRecursion (λ (r : Record). IsOriginOver ks (length records) r.1) records → (listing : List Row) × IsArranged ks records listing
 arranged_exists ks records different valid =
     let r = ranking_exists (rows_of records) different in
     let p = positions_exist r.0 (subst (λ n. EachOnceBelow n r.0) (sym r.1.count) r.1.once) in

@@ -142,7 +142,9 @@ module _ (p : Product) (gens vs : List Vector) (s : Search) (whole : IsWholeSear
     reached : AllByRecursion (IsReached s) places
     low : AllByRecursion (λ q. height_in s q ≤ h) places
 
-  by_origin : (o : Origin) (v : Vector) (h : ℕ) → Sg p gens v → IsOrigin (arities p) (length gens) (length vs) o → AllByRecursion (IsReached s) (arguments_of (arities p) o) → origin_value p gens vs o ≡ v → height_of (arities p) s.heights.items o ≤ h → IsReachedBelow v h
+  by_origin : (o : Origin) (v : Vector) (h : ℕ) → Sg p gens v → IsOrigin (arities p) (length gens) (length vs) o
+      → AllByRecursion (IsReached s) (arguments_of (arities p) o) → origin_value p gens vs o ≡ v → height_of (arities p) s.heights.items o ≤ h
+      → IsReachedBelow v h
   by_origin o v h g valid reached value low =
       let st = stands v g in
       let near = (visited_at o valid reached).value st.place (st.at ∙ ap Some (sym value)) in
@@ -214,7 +216,8 @@ module _ (p : Product) (gens vs : List Vector) (s : Search) (whole : IsWholeSear
     values : term_values p gens terms ≡ rows_at vs places
     reached : greatest_height terms ≡ greatest (map (λ a. slice_index s.heights.items a) places)
 
-  terms_for : (b : ℕ) → ((q : ℕ) → IsReached s q → height_in s q < b → HasTerm (slice_index_or vs q []) (height_in s q)) → (places : List ℕ) → AllByRecursion (IsReached s) places → AllByRecursion (λ q. height_in s q < b) places → HaveTerms places
+  terms_for : (b : ℕ) → ((q : ℕ) → IsReached s q → height_in s q < b → HasTerm (slice_index_or vs q []) (height_in s q)) → (places : List ℕ)
+      → AllByRecursion (IsReached s) places → AllByRecursion (λ q. height_in s q < b) places → HaveTerms places
   terms_for b each [] r l = record { terms = none; count = refl; are_terms = tt; values = refl; reached = refl }
   terms_for b each (q ∷ qs) r l =
       let one = each q r.0 l.0 in
@@ -227,7 +230,9 @@ module _ (p : Product) (gens vs : List Vector) (s : Search) (whole : IsWholeSear
         reached = (λ i. max (one.reached i) (rest.reached i)) ∙ sym (greatest_cons (height_in s q) (map (λ a. slice_index s.heights.items a) qs));
       }
 
-  by_found : (b : ℕ) → ((q : ℕ) → IsReached s q → height_in s q < b → HasTerm (slice_index_or vs q []) (height_in s q)) → (v : Vector) (h : ℕ) (o : Origin) → h ≤ b → IsOrigin (arities p) (length gens) (length vs) o → origin_value p gens vs o ≡ v → h ≡ height_of (arities p) s.heights.items o → AllByRecursion (IsReached s) (arguments_of (arities p) o) → HasTerm v h
+  by_found : (b : ℕ) → ((q : ℕ) → IsReached s q → height_in s q < b → HasTerm (slice_index_or vs q []) (height_in s q))
+      → (v : Vector) (h : ℕ) (o : Origin) → h ≤ b → IsOrigin (arities p) (length gens) (length vs) o → origin_value p gens vs o ≡ v
+      → h ≡ height_of (arities p) s.heights.items o → AllByRecursion (IsReached s) (arguments_of (arities p) o) → HasTerm v h
   by_found b each v h (Gen i) le valid value e reached = record { term = Generator i; is_term = valid; value = value; reached = sym e }
   by_found b each v h (Op f args) le valid value e reached =
       let ts = terms_for b each (take (slice_index (arities p) f) args) reached (below_greatest s.heights.items (take (slice_index (arities p) f) args) b (omega (arith, le, e))) in

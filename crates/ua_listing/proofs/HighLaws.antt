@@ -88,7 +88,9 @@ module _ (heights : List ℕ) (ps : List High) (permutation : IsPermutation (hig
       let next = place_at (k + 1) d h in
       let hh = height_at k d low ∙ ap (slice_index heights) (sym here) in
       let hn = height_at (k + 1) d h ∙ ap (slice_index heights) (sym next) in
-      let differ : slice_index (map (λ (a : High). a.1) ps) k ≢ slice_index (map (λ (a : High). a.1) ps) (k + 1) = once-differ (length heights) (map (λ (a : High). a.1) ps) once k (k + 1) (omega arith) (let n = length-map ps (λ (a : High). a.1) in omega (arith, n, h)) in
+      let differ : slice_index (map (λ (a : High). a.1) ps) k ≢ slice_index (map (λ (a : High). a.1) ps) (k + 1) =
+      once-differ (length heights) (map (λ (a : High). a.1) ps) once k (k + 1) (omega arith)
+      (let n = length-map ps (λ (a : High). a.1) in omega (arith, n, h)) in
       ⊎_elim
       (λ l. inl (omega (arith, l, hh, hn)))
       (λ e. inr (sym hh ∙ e.0 ∙ hn, ⊎_elim (λ l. l) (λ ge. absurd (differ (let r = e.1 in omega (arith, ge, r, here, next)))) (cases_lt (slice_index (map (λ (a : High). a.1) ps) k) (slice_index (map (λ (a : High). a.1) ps) (k + 1)))))
@@ -99,7 +101,8 @@ module _ (heights : List ℕ) (ps : List High) (permutation : IsPermutation (hig
   ascending j (suc n) h =
       before_chain heights (slice_index (map (λ (a : High). a.1) ps) j) (slice_index (map (λ (a : High). a.1) ps) (j + suc n)) (slice_index (map (λ (a : High). a.1) ps) (j + suc (suc n)))
       (ascending j n (omega (arith, h)))
-      (subst (λ m. ComesBefore heights (slice_index (map (λ (a : High). a.1) ps) (j + suc n)) (slice_index (map (λ (a : High). a.1) ps) m)) (let e : j + suc n + 1 ≡ j + suc (suc n) = omega arith in e) (adjacent (j + suc n) (omega (arith, h))))
+      (subst (λ m. ComesBefore heights (slice_index (map (λ (a : High). a.1) ps) (j + suc n)) (slice_index (map (λ (a : High). a.1) ps) m))
+      (let e : j + suc n + 1 ≡ j + suc (suc n) = omega arith in e) (adjacent (j + suc n) (omega (arith, h))))
 
   pub by_height : AreByHeight heights (map (λ (a : High). a.1) ps)
   by_height = record {
@@ -112,7 +115,9 @@ module _ (heights : List ℕ) (ps : List High) (permutation : IsPermutation (hig
       gap j k l = (k - (j + 1), omega (arith, l))
 
       apart : (j k : ℕ) → ((n : ℕ) × (k ≡ j + suc n)) → k < length (map (λ (a : High). a.1) ps) → ComesBefore heights (slice_index (map (λ (a : High). a.1) ps) j) (slice_index (map (λ (a : High). a.1) ps) k)
-      apart j k g h = subst (λ m. ComesBefore heights (slice_index (map (λ (a : High). a.1) ps) j) (slice_index (map (λ (a : High). a.1) ps) m)) (sym g.1) (ascending j g.0 (let n = length-map ps (λ (a : High). a.1) in let e = g.1 in omega (arith, n, h, e)))
+      apart j k g h =
+          subst (λ m. ComesBefore heights (slice_index (map (λ (a : High). a.1) ps) j) (slice_index (map (λ (a : High). a.1) ps) m)) (sym g.1)
+          (ascending j g.0 (let n = length-map ps (λ (a : High). a.1) in let e = g.1 in omega (arith, n, h, e)))
 
 places_are : (rs : List HighRow) → map (λ (a : High). a.1) (map high rs) ≡ places_of rs
 places_are [] = refl

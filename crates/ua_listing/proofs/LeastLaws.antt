@@ -15,7 +15,7 @@ use Rattle.ua_table.specs.Listings.{Row, vectors_of, ranks_of, IsMadeFrom, IsClo
 use Rattle.ua_table.specs.Numbering.{IsShape}
 use Rattle.ua_table.specs.Orders.{IsHeight, IsFirstOrigin, IsLeast}
 use Rattle.ua_table.specs.Origins.{IsOrigin, arguments_of, origin_value}
-use Rattle.ua_table.proofs.ApplyLemmas.{IsVector-apply}
+use Rattle.ua_table.proofs.ApplyLaws.{IsVector-apply}
 use Rattle.ua_table.proofs.Lists.{found, all_at, all_from_contains, All-slice_get}
 use Rattle.ua_listing.specs.Arrangements.{origins_of}
 use Rattle.ua_listing.specs.inner.Leasts.{ComesBefore, AreByHeight}

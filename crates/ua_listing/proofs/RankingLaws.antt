@@ -76,7 +76,9 @@ numbers-numbered vs (suc k) h =
 -- each of them stands once
 numbers_once : (vs : List Vector) → EachOnceBelow (length vs) (map (λ (p : Ranked). p.1) (numbered 0 vs))
 numbers_once vs =
-    let all : numbers_below (length vs) ≡ map (λ (p : Ranked). p.1) (numbered 0 vs) = sym (numbers-numbered vs (length vs) (omega arith)) ∙ ap (λ (ws : List Vector). map (λ (p : Ranked). p.1) (numbered 0 ws)) (take_all (length vs) vs (omega arith)) in
+    let all : numbers_below (length vs) ≡ map (λ (p : Ranked). p.1) (numbered 0 vs) =
+    sym (numbers-numbered vs (length vs) (omega arith))
+    ∙ ap (λ (ws : List Vector). map (λ (p : Ranked). p.1) (numbered 0 ws)) (take_all (length vs) vs (omega arith)) in
     subst (EachOnceBelow (length vs)) all (each_once-numbers_below (length vs))
 
 -- ---- the rows in order

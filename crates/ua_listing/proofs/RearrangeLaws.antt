@@ -50,7 +50,8 @@ taken_member [] k x c = absurd (none k c)
 taken_member (y ∷ ys) zero x c = absurd (let l = c.1 in omega (arith, l))
 taken_member (y ∷ ys) (suc k) x c = cases (taken_member ys k x) c.0 c.1 c.2
   where
-    cases : (Contains (take k ys) x → (j : ℕ) × (j < k) × (j < length ys) × (get_or ys j 0 ≡ x)) → (i : ℕ) → i < length (y ∷ take k ys) → get_or (y ∷ take k ys) i x ≡ x → (j : ℕ) × (j < suc k) × (j < length (y ∷ ys)) × (get_or (y ∷ ys) j 0 ≡ x)
+    cases : (Contains (take k ys) x → (j : ℕ) × (j < k) × (j < length ys) × (get_or ys j 0 ≡ x)) → (i : ℕ) → i < length (y ∷ take k ys)
+        → get_or (y ∷ take k ys) i x ≡ x → (j : ℕ) × (j < suc k) × (j < length (y ∷ ys)) × (get_or (y ∷ ys) j 0 ≡ x)
     cases later zero h e = (0, omega arith, omega arith, e)
     cases later (suc i) h e = let r = later (i, omega (arith, h), e) in (suc r.0, (let a = r.1 in omega (arith, a)), (let b = r.2 in omega (arith, b)), r.3)
 

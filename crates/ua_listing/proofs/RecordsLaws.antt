@@ -26,7 +26,9 @@ pub record_inside : (rows : List Vector) (os : List Origin) (rs : List Record) (
 record_inside rows os rs i o same is e = let z = zipped rows os i o same e in (z.0, ap (λ (l : List Record). slice_get l i) (sym is) ∙ z.1)
 
 -- origins over rows are over as many records
-pub over_records : (ks : List ℕ) (rows : List Vector) (os : List Origin) (rs : List Record) → length rows ≤ length os → rs ≡ zip rows os → AllByRecursion (λ (r : Record). IsOriginOver ks (length rows) r.1) (zip rows os) → AllByRecursion (λ (r : Record). IsOriginOver ks (length rs) r.1) rs
+pub over_records : (ks : List ℕ) (rows : List Vector) (os : List Origin) (rs : List Record) → length rows ≤ length os → rs ≡ zip rows os
+    → AllByRecursion (λ (r : Record). IsOriginOver ks (length rows) r.1) (zip rows os)
+    → AllByRecursion (λ (r : Record). IsOriginOver ks (length rs) r.1) rs
 over_records ks rows os rs low is over =
     let count : length rows ≡ length (zip rows os) = ap (length {A = Vector}) (sym (rows_zip rows os low)) ∙ length-rows_of (zip rows os) in
     subst (λ (l : List Record). AllByRecursion (λ (r : Record). IsOriginOver ks (length l) r.1) l) (sym is) (subst (λ n. AllByRecursion (λ (r : Record). IsOriginOver ks n r.1) (zip rows os)) count over)

@@ -1,5 +1,6 @@
 -- The rows of a listing as they are reached: what a row that is reached leaves true.
-use Rattle.std.proofs.Common.{◌≡◌, ◌≢◌, ◌⊎◌, ◌↔◌, inl, inr, ⊎_elim, ℕ, zero, suc, ◌+◌, ◌<◌, ◌≤◌, Bool, true, false, List, [], ◌∷◌, ◌++◌, length, length-append, append-nil, append_assoc, map, take, get_or, set, refl, sym, ap, ◌∙◌, subst, arith, Ordering}
+use Rattle.std.proofs.Common.{◌≡◌, ◌≢◌, ◌⊎◌, ◌↔◌, inl, inr, ⊎_elim, ℕ, zero, suc, ◌+◌, ◌<◌, ◌≤◌, Bool, true, false, List, [], ◌∷◌, ◌++◌, length, length-append, append-nil}
+use Rattle.std.proofs.Common.{append_assoc, map, take, get_or, set, refl, sym, ap, ◌∙◌, subst, arith, Ordering}
 use Rattle.std.specs.Prelude.{Contains, slice_get, slice_index, Some, IsTrue, nat_eq}
 use Rattle.std.specs.List.{AllByRecursion, IsDistinct}
 use Rattle.std.specs.Cmp.{IsTotalOrder, nat_cmp_is}
@@ -185,7 +186,8 @@ total_below (false ∷ bs) = let r = total_below bs in omega (arith, r)
 only : (x q : ℕ) → Contains (x ∷ []) q → q ≡ x
 only x q c = let low = c.1 in let z : c.0 ≡ 0 = omega (arith, low) in sym (ap (λ k. get_or (x ∷ []) k q) (sym z) ∙ c.2)
 
-module _ (p : Product) (gens vs : List Vector) (different : IsDistinct (pointwise nat_eq) vs) (s : Search) (q h : ℕ) (o : Origin) (is : IsSearch p gens vs s) (top : IsTop s h) (may : MayVisit p gens vs s h o) (row : slice_get vs q ≡ Some (origin_value p gens vs o)) where
+module _ (p : Product) (gens vs : List Vector) (different : IsDistinct (pointwise nat_eq) vs) (s : Search) (q h : ℕ) (o : Origin)
+    (is : IsSearch p gens vs s) (top : IsTop s h) (may : MayVisit p gens vs s h o) (row : slice_get vs q ≡ Some (origin_value p gens vs o)) where
   within : q < length vs
   within = slice_get_within vs q (origin_value p gens vs o) row
 
@@ -260,7 +262,10 @@ module _ (p : Product) (gens vs : List Vector) (different : IsDistinct (pointwis
       once = count ∙ ap suc is.once ∙ sym (ap (total one_if) reached ∙ total_set s.reached.items q (let n = is.marks_count in omega (arith, within, n)) unmarked);
       rising = λ i j low high. ⊎_elim
           (λ old. let a = height_before i (omega (arith, low, old)) in let b = height_before j old in let r = is.rising i j low old in omega (arith, a, b, r))
-          (λ ge. let at : j ≡ length s.order.items = (let n = count in omega (arith, ge, high, n)) in let e = ap (λ k. height_in new (slice_index new.order.items k)) at ∙ height_last in let t = new_high i (omega (arith, low, high)) in omega (arith, e, t))
+          (λ ge.
+          let at : j ≡ length s.order.items = (let n = count in omega (arith, ge, high, n)) in
+          let e = ap (λ k. height_in new (slice_index new.order.items k)) at ∙ height_last in
+          let t = new_high i (omega (arith, low, high)) in omega (arith, e, t))
           (cases_lt j (length s.order.items));
       low = λ i low. ⊎_elim
           (λ old. let a = height_before i old in let r = is.low i old in omega (arith, a, r))

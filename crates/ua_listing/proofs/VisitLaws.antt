@@ -17,7 +17,9 @@ use Rattle.ua_table.proofs.Lists.{all_at, all_weaker, all_map, all_append, Conta
 use Rattle.ua_table.proofs.Rows.{slices_of_rows}
 use Rattle.ua_table.proofs.SliceLaws.{bound_laws, slices_partition}
 use Rattle.ua_table.proofs.Units.{place_from}
-use Rattle.ua_listing.specs.inner.Searches.{height_in, height_number, IsReached, IsNearTop, IsSearch, IsVisited, ReachesMore, IsTop, MayVisit, HasReachedBy, AreGeneratorsVisited, AreConstantsVisited, no_arguments, application, IsTupleVisited, IsSliceVisited, AreSlicesVisited, IsRowTable, IsSearchOf, HasReachedIn, MayVisitIn, GoesOnTo}
+use Rattle.ua_listing.specs.inner.Searches.{height_in, height_number, IsReached, IsNearTop, IsSearch, IsVisited, ReachesMore, IsTop, MayVisit, HasReachedBy, AreGeneratorsVisited}
+use Rattle.ua_listing.specs.inner.Searches.{AreConstantsVisited, no_arguments, application, IsTupleVisited, IsSliceVisited, AreSlicesVisited, IsRowTable, IsSearchOf, HasReachedIn}
+use Rattle.ua_listing.specs.inner.Searches.{MayVisitIn, GoesOnTo}
 use Rattle.ua_listing.specs.declared.searches.Search.{Search}
 use Rattle.ua_listing.specs.declared.searches.Table.{Table}
 use Rattle.ua_listing.proofs.MarkLaws.{marked_below}
@@ -178,10 +180,16 @@ module _ (p : Product) (gens vs : List Vector) (s : Search) (is : IsSearch p gen
   }
 
   -- the arguments that the code names
-  pub named_by : (n : ℕ) (places : List ℕ) → n ≡ slice_index (arities p) f → places ≡ four_places (arities p) f tuple → map (λ x. slice_index s.order.items x) (take n places) ++ drop n places ≡ four_places (arities p) f (map (λ x. slice_index s.order.items x) tuple)
+  pub named_by : (n : ℕ) (places : List ℕ) → n ≡ slice_index (arities p) f → places ≡ four_places (arities p) f tuple
+      → map (λ x. slice_index s.order.items x) (take n places) ++ drop n places
+      ≡ four_places (arities p) f (map (λ x. slice_index s.order.items x) tuple)
   named_by n places en ep =
       (λ i. map (λ x. slice_index s.order.items x) (take (en i) (ep i)) ++ drop (en i) (ep i))
-      ∙ (λ i. map (λ x. slice_index s.order.items x) (take_at tuple (replicate (4 - slice_index (arities p) f) 0) (slice_index (arities p) f) of.arity i) ++ drop_at tuple (replicate (4 - slice_index (arities p) f) 0) (slice_index (arities p) f) of.arity i)
+      ∙
+      (λ i.
+      map (λ x. slice_index s.order.items x)
+      (take_at tuple (replicate (4 - slice_index (arities p) f) 0) (slice_index (arities p) f) of.arity i)
+      ++ drop_at tuple (replicate (4 - slice_index (arities p) f) 0) (slice_index (arities p) f) of.arity i)
 
 -- ---- how far a slice has been walked
 
@@ -212,7 +220,9 @@ walk_next p gens vs s k f args left w = split w.rest w.whole w.left_is
     split [] whole e = cc
     split (tuple ∷ rest) whole e = record { done = w.done; tuple = tuple; rest = rest; whole = whole; args_are = cc; left_is = cc; visited = w.visited }
 
-pub walk_more : (p : Product) (gens vs : List Vector) (s new : Search) (k f : ℕ) (args : List ℕ) (left : List (List ℕ)) → ReachesMore (arities p) s new → (n : IsNextTuple p gens vs s k f args left) → IsTupleVisited p gens vs new (slice_operation (arities p) k) n.tuple → HasWalked p gens vs new k f left
+pub walk_more : (p : Product) (gens vs : List Vector) (s new : Search) (k f : ℕ) (args : List ℕ) (left : List (List ℕ))
+    → ReachesMore (arities p) s new → (n : IsNextTuple p gens vs s k f args left)
+    → IsTupleVisited p gens vs new (slice_operation (arities p) k) n.tuple → HasWalked p gens vs new k f left
 walk_more p gens vs s new k f args left l n here = record {
   done = n.done ++ n.tuple ∷ [];
   rest = n.rest;
@@ -251,7 +261,8 @@ pub top_of : (p : Product) (gens vs : List Vector) (s : Search) (m : ℕ) → Is
 top_of p gens vs s m is low near = record { high = near; low = let r = is.low m low in omega (arith, r, low) }
 
 -- and after it the next one does
-pub near_next : (p : Product) (gens vs : List Vector) (s new : Search) (m i : ℕ) → IsSearch p gens vs new → ReachesMore (arities p) s new → m < length s.order.items → IsTop new (suc (height_number s m)) → m ≤ i → i < length new.order.items → IsNearTop new i
+pub near_next : (p : Product) (gens vs : List Vector) (s new : Search) (m i : ℕ) → IsSearch p gens vs new → ReachesMore (arities p) s new
+    → m < length s.order.items → IsTop new (suc (height_number s m)) → m ≤ i → i < length new.order.items → IsNearTop new i
 near_next p gens vs s new m i is l low top le within = λ q r.
     let t = top.high q r in
     let e = height_kept (arities p) s new l m low in
@@ -277,7 +288,9 @@ module _ (t : Table) (m k : ℕ) (table : IsRowTable t) (after : bound t.shape m
       let few = table.few in
       (omega (arith, n, few, row), (bound_laws t.shape table.limits).fits 0 (length t.rows.items) (m + 1) (omega (arith, n, row)) table.fits)
 
-  pub walk_begins : (s : Search) (op : ℕ) (left : List (List ℕ)) → op ≡ slice_operation t.shape k → left ≡ map (four_places t.shape (slice_operation t.shape k)) (slice_tuples t.shape k) → HasWalked t.operations t.gens.now.items t.rows.items s k op left
+  pub walk_begins : (s : Search) (op : ℕ) (left : List (List ℕ)) → op ≡ slice_operation t.shape k
+      → left ≡ map (four_places t.shape (slice_operation t.shape k)) (slice_tuples t.shape k)
+      → HasWalked t.operations t.gens.now.items t.rows.items s k op left
   walk_begins s op left e is = walk_start t.operations t.gens.now.items t.rows.items s k op left (is ∙ (λ i. map (four_places (table.shape i) (sym e i)) (slice_tuples (table.shape i) k)))
 
   module _ (s0 s : Search) (h op : ℕ) (goes : GoesOnTo t s0 s h) (row : m < length s0.order.items) (height : h ≡ suc (height_number s0 m)) (op_is : op ≡ slice_operation t.shape k) (args : List ℕ) (left : List (List ℕ))
@@ -306,7 +319,8 @@ module _ (t : Table) (m k : ℕ) (table : IsRowTable t) (after : bound t.shape m
     pub names_low : (n : ℕ) (order : List ℕ) → n ≡ slice_index t.shape op → order ≡ s.order.items → AllByRecursion (λ a. a < length order) (take n args)
     names_low n order e o =
         let front : take n args ≡ tuple_next.tuple = (λ i. take (arity_now n e i) (args_now i)) ∙ take_at tuple_next.tuple (replicate (4 - slice_index (arities t.operations) (slice_operation (arities t.operations) k)) 0) _ tuple_of.arity in
-        subst (λ (x : List ℕ × List ℕ). AllByRecursion (λ a. a < length x.0) x.1) (λ i. (sym o i, sym front i)) (all_weaker (λ x. x ≤ m) (λ x. x < length s.order.items) (λ x l. let r = row_now in omega (arith, l, r)) tuple_next.tuple tuple_of.low)
+        subst (λ (x : List ℕ × List ℕ). AllByRecursion (λ a. a < length x.0) x.1) (λ i. (sym o i, sym front i))
+        (all_weaker (λ x. x ≤ m) (λ x. x < length s.order.items) (λ x l. let r = row_now in omega (arith, l, r)) tuple_next.tuple tuple_of.low)
 
     moved_is : (n : ℕ) (order moved : List ℕ) → n ≡ slice_index t.shape op → order ≡ s.order.items → moved ≡ map (λ a. slice_index order a) (take n args) ++ drop n args
         → Op op moved ≡ application (arities t.operations) s (slice_operation (arities t.operations) k) tuple_next.tuple

@@ -26,7 +26,10 @@ module _ (a : FiniteAlgebra) (alpha beta : Partition) (alg : IsAlgebra a) (ca : 
       (vectors_of listed.rows, λ m. listed.closed.exact m)
 
   -- the leading matrices decide centrality
-  pub leading_decide : (delta : Delta) (b : ℕ) (matrices : List Vector) → IsDeltaOf a alpha beta delta → ¬ IsWide (replicate 4 a) (matrix_generators alpha beta) b → length (related_pairs delta.blocks) ≤ b → matrices ≡ leading_matrices (left_of a.size delta.pairs.items) (right_of a.size delta.pairs.items) delta.blocks → AreDeciding a alpha beta b matrices
+  pub leading_decide : (delta : Delta) (b : ℕ) (matrices : List Vector) → IsDeltaOf a alpha beta delta
+      → ¬ IsWide (replicate 4 a) (matrix_generators alpha beta) b → length (related_pairs delta.blocks) ≤ b
+      → matrices ≡ leading_matrices (left_of a.size delta.pairs.items) (right_of a.size delta.pairs.items) delta.blocks
+      → AreDeciding a alpha beta b matrices
   leading_decide delta b matrices h narrow within is =
       let pairs = delta.pairs.items in
       let all = all_matrices in

@@ -54,7 +54,8 @@ module _ (a : FiniteAlgebra) (alpha beta : Partition) (ca : IsCongruence a alpha
       chosen true one two = itself v.second two
       chosen false one two = itself v.first one
 
-      by : (b : Bool) → v.first < a.size → v.second < a.size → MatchBool b (SameBlock alpha v.first v.second) (SameBlock beta v.first v.second) → SameBlock beta (cond (cond b x false) v.second v.first) (cond (cond b x true) v.second v.first)
+      by : (b : Bool) → v.first < a.size → v.second < a.size → MatchBool b (SameBlock alpha v.first v.second) (SameBlock beta v.first v.second)
+          → SameBlock beta (cond (cond b x false) v.second v.first) (cond (cond b x true) v.second v.first)
       by true one two s = chosen x one two
       by false one two s = s
 
@@ -69,7 +70,8 @@ module _ (a : FiniteAlgebra) (alpha beta : Partition) (ca : IsCongruence a alpha
       chosen true one two = itself v.second two
       chosen false one two = itself v.first one
 
-      by : (b : Bool) → v.first < a.size → v.second < a.size → MatchBool b (SameBlock alpha v.first v.second) (SameBlock beta v.first v.second) → SameBlock alpha (cond (cond b false y) v.second v.first) (cond (cond b true y) v.second v.first)
+      by : (b : Bool) → v.first < a.size → v.second < a.size → MatchBool b (SameBlock alpha v.first v.second) (SameBlock beta v.first v.second)
+          → SameBlock alpha (cond (cond b false y) v.second v.first) (cond (cond b true y) v.second v.first)
       by true one two s = s
       by false one two s = chosen y one two
 

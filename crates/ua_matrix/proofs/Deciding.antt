@@ -22,7 +22,8 @@ variables_related alpha beta =
     (all_from_contains (IsRelated alpha beta) (map (marked true) (related_pairs alpha)) (λ v c. let m = Contains-map_from (marked true) v (related_pairs alpha) c in subst (IsRelated alpha beta) m.2 (related_from alpha m.0 m.1)))
     (all_from_contains (IsRelated alpha beta) (map (marked false) (related_pairs beta)) (λ v c. let m = Contains-map_from (marked false) v (related_pairs beta) c in subst (IsRelated alpha beta) m.2 (related_from beta m.0 m.1)))
 
-pub variable_in : (alpha beta : Partition) (is_alpha : Bool) (x y : ℕ) → IsRelated alpha beta (record { is_alpha = is_alpha; first = x; second = y }) → Contains (variables_of alpha beta) (record { is_alpha = is_alpha; first = x; second = y })
+pub variable_in : (alpha beta : Partition) (is_alpha : Bool) (x y : ℕ) → IsRelated alpha beta (record { is_alpha = is_alpha; first = x; second = y })
+    → Contains (variables_of alpha beta) (record { is_alpha = is_alpha; first = x; second = y })
 variable_in alpha beta true x y h = Contains-append_left (map (marked true) (related_pairs alpha)) (map (marked false) (related_pairs beta)) _ (Contains-map (marked true) (x, y) (related_pairs alpha) (related_in alpha x y h))
 variable_in alpha beta false x y h = Contains-append_right (map (marked true) (related_pairs alpha)) (map (marked false) (related_pairs beta)) _ (Contains-map (marked false) (x, y) (related_pairs beta) (related_in beta x y h))
 
@@ -129,7 +130,9 @@ named vars (v ∷ vs) h =
     low k h names w zero l = h
     low k h names w (suc j) l = w j (omega (arith, l))
 
-    picked : (f : Variable → ℕ) (k : ℕ) → k < length vars → get_or vars k v ≡ v → (names : List ℕ) → ((j : ℕ) → j < length vs → slice_index (map f vars) (slice_index names j) ≡ slice_index (map f vs) j) → (j : ℕ) → j < length (v ∷ vs) → slice_index (map f vars) (slice_index (k ∷ names) j) ≡ slice_index (map f (v ∷ vs)) j
+    picked : (f : Variable → ℕ) (k : ℕ) → k < length vars → get_or vars k v ≡ v → (names : List ℕ)
+        → ((j : ℕ) → j < length vs → slice_index (map f vars) (slice_index names j) ≡ slice_index (map f vs) j) → (j : ℕ) → j < length (v ∷ vs)
+        → slice_index (map f vars) (slice_index (k ∷ names) j) ≡ slice_index (map f (v ∷ vs)) j
     picked f k h e names w zero l = get_or-map f vars k v 0 h ∙ ap f e
     picked f k h e names w (suc j) l = w j (omega (arith, l))
 

@@ -35,7 +35,9 @@ turned_related : (alpha beta : Partition) (vs : List Variable) → AllByRecursio
 turned_related alpha beta [] h = tt
 turned_related alpha beta (v ∷ vs) h = (by v.is_alpha h.0, turned_related alpha beta vs h.1)
   where
-    by : (is : Bool) → MatchBool is (SameBlock alpha v.first v.second) (SameBlock beta v.first v.second) → MatchBool is (SameBlock alpha (cond is v.second v.first) (cond is v.first v.second)) (SameBlock beta (cond is v.second v.first) (cond is v.first v.second))
+    by : (is : Bool) → MatchBool is (SameBlock alpha v.first v.second) (SameBlock beta v.first v.second)
+        → MatchBool is (SameBlock alpha (cond is v.second v.first) (cond is v.first v.second))
+        (SameBlock beta (cond is v.second v.first) (cond is v.first v.second))
     by true s = same_back alpha v.first v.second s
     by false s = s
 
@@ -65,7 +67,8 @@ module _ (a : FiniteAlgebra) (alpha beta theta : Partition) (h : Centralizes a a
 
 -- ---- the blocks of Delta
 
-module _ (a : FiniteAlgebra) (alpha beta : Partition) (left right : ℕ → ℕ) (number : ℕ → ℕ → ℕ) (b : FiniteAlgebra) (delta : Partition) (ca : IsCongruence a alpha) (cb : IsCongruence a beta) (is_delta : IsDelta a alpha beta left right number b delta) where
+module _ (a : FiniteAlgebra) (alpha beta : Partition) (left right : ℕ → ℕ) (number : ℕ → ℕ → ℕ) (b : FiniteAlgebra) (delta : Partition)
+    (ca : IsCongruence a alpha) (cb : IsCongruence a beta) (is_delta : IsDelta a alpha beta left right number b delta) where
   pub delta_related : (m : Vector) → IsMatrix a alpha beta m → HasRelatedRows left right delta m
   delta_related = rows_related a alpha beta left right number b is_delta.pairs ca cb delta is_delta.generated
 
@@ -147,7 +150,10 @@ module _ (a : FiniteAlgebra) (alpha beta : Partition) (left right : ℕ → ℕ)
 
   pub blocks_from_leading : (theta : Partition) → AllByRecursion (Goes theta) (leading_matrices left right delta) → AreUniform left right delta theta
   blocks_from_leading theta all d e s first =
-      let down = at d s.left (matrix_of_rows left right d (slice_index delta d)) (Contains-tail (matrix_of_rows left right (slice_index delta d) d) (matrix_of_rows left right d (slice_index delta d)) (matrix_of_rows left right d (slice_index delta d) ∷ []) (Contains-head (matrix_of_rows left right d (slice_index delta d)) [])) in
+      let down =
+      at d s.left (matrix_of_rows left right d (slice_index delta d))
+      (Contains-tail (matrix_of_rows left right (slice_index delta d) d) (matrix_of_rows left right d (slice_index delta d))
+      (matrix_of_rows left right d (slice_index delta d) ∷ []) (Contains-head (matrix_of_rows left right d (slice_index delta d)) [])) in
       let up = at e s.right (matrix_of_rows left right (slice_index delta e) e) (Contains-head (matrix_of_rows left right (slice_index delta e) e) (matrix_of_rows left right e (slice_index delta e) ∷ [])) in
       up (subst (λ l. SameBlock theta (left l) (right l)) s.same (down first))
     where
@@ -165,7 +171,9 @@ module _ (a : FiniteAlgebra) (alpha beta : Partition) (left right : ℕ → ℕ)
       let two = pair_within (slice_index delta at.0) (let r = s.right in omega (arith, r, n)) in
       ⊎_elim
       (λ is. subst (AreFour a.size) is (record { width = refl; below = (two.0, (two.1, (one.0, (one.1, tt)))) }))
-      (λ other. ⊎_elim (λ is. subst (AreFour a.size) is (record { width = refl; below = (one.0, (one.1, (two.0, (two.1, tt)))) })) (λ none. absurd (Contains-none m none)) (Contains-cases (matrix_of_rows left right at.0 (slice_index delta at.0)) m [] other))
+      (λ other.
+      ⊎_elim (λ is. subst (AreFour a.size) is (record { width = refl; below = (one.0, (one.1, (two.0, (two.1, tt)))) }))
+      (λ none. absurd (Contains-none m none)) (Contains-cases (matrix_of_rows left right at.0 (slice_index delta at.0)) m [] other))
       (Contains-cases (matrix_of_rows left right (slice_index delta at.0) at.0) m (matrix_of_rows left right at.0 (slice_index delta at.0) ∷ []) at.2))
     where
       pair_within : (e : ℕ) → e < b.size → (left e < a.size) × (right e < a.size)

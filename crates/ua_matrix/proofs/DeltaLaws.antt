@@ -7,7 +7,7 @@ use Rattle.std.proofs.lemmas.List.FromFn.{length-range_with_len}
 use Rattle.std.proofs.lemmas.List.Elements.{All-from_recursion}
 use Rattle.ua_table.specs.Algebras.{Vector, FiniteAlgebra, arities_of, value_at, apply, column}
 use Rattle.ua_table.specs.Terms.{Tree, Generator, Application, Trees, none, more, count_of, IsTerm, AreTerms, term_value, term_values}
-use Rattle.ua_table.proofs.ApplyLemmas.{value-below}
+use Rattle.ua_table.proofs.ApplyLaws.{value-below}
 use Rattle.ua_table.proofs.GeneratedLaws.{generator_in, result_in}
 use Rattle.ua_table.proofs.Lists.{Contains-map, Contains-map_from, AllZip-length, all_at, all_append, all_front, all_back, all_from_contains, all_map, all_weaker}
 use Rattle.ua_part.specs.Partitions.{Partition, IsPartition, SameBlock, identity_on, merged}
@@ -99,7 +99,8 @@ module _ (a : FiniteAlgebra) (alpha beta : Partition) (left right : ℕ → ℕ)
   length_rows (x ∷ xs) (y ∷ ys) n = ap suc (length_rows xs ys (omega (arith, n)))
 
   -- an operation takes matrices to the matrix of the values of their rows
-  module _ (f : ℕ) (xs ys : List ℕ) (w : f < length (arities_of a)) (count : length xs ≡ slice_index (arities_of a) f) (same : length xs ≡ length ys) (low : AllByRecursion (λ e. e < b.size) xs) (low' : AllByRecursion (λ e. e < b.size) ys) where
+  module _ (f : ℕ) (xs ys : List ℕ) (w : f < length (arities_of a)) (count : length xs ≡ slice_index (arities_of a) f) (same : length xs ≡ length ys)
+      (low : AllByRecursion (λ e. e < b.size) xs) (low' : AllByRecursion (λ e. e < b.size) ys) where
     at_0 : value_at a f (column (rows_of xs ys) 0) ≡ left (value_at b f xs)
     at_0 = ap (value_at a f) (column_0 xs ys same) ∙ sym (h.lefts f xs w count low)
 
@@ -314,7 +315,13 @@ module _ (a : FiniteAlgebra) (alpha beta : Partition) (left right : ℕ → ℕ)
           let two = h.numbered (slice_index alpha u) (slice_index alpha u) (on_diagonal (slice_index alpha u) (omega (arith, low, w, n))) in
           let s : SameBlock alpha u (slice_index alpha u) = record { left = w; right = omega (arith, low, w); same = sym (ca.partition.least u w) } in
           let is : matrix_of (marked true (u, slice_index alpha u)) ≡ matrix_of_rows left right (number u u) (number (slice_index alpha u) (slice_index alpha u)) = (λ i. sym one.1 i ∷ sym one.2 i ∷ sym two.1 i ∷ sym two.2 i ∷ []) in
-          closure_relates t (number u u) (number (slice_index alpha u) (slice_index alpha u)) (record { upper = one.0; lower = two.0; generated = subst (IsMatrix a alpha beta) is (generator_matrix (marked true (u, slice_index alpha u)) s) }))
+          closure_relates t (number u u) (number (slice_index alpha u) (slice_index alpha u))
+          (record {
+            upper = one.0;
+            lower = two.0;
+            generated = subst (IsMatrix a alpha beta) is
+                (generator_matrix (marked true (u, slice_index alpha u)) s);
+          }))
 
       -- Delta goes with each number that is the same at both rows of each matrix
       pub delta_constant : (g : ℕ → ℕ) → ((d e : ℕ) → AreRows d e → g d ≡ g e) → IsConstant g delta

@@ -66,5 +66,10 @@ module _ (a : FiniteAlgebra) (alpha beta delta : Partition) (b w : ℕ) (rows : 
   pub may_judge : ¬ IsWide (replicate 4 a) (matrix_generators alpha beta) b → IsClosedListing (replicate 4 a) (matrix_generators alpha beta) b rows → (w ≡ 1 → IsSerialListing (replicate 4 a) (matrix_generators alpha beta) rows)
       → (central : Central) → IsJudged a alpha beta delta rows central → MayBeCentral a alpha beta delta b w (Ok central)
   may_judge narrow closed serial answers.Yes h = (narrow, (h, closed_has_no_more (replicate 4 a) (matrix_generators alpha beta) b rows closed), λ one. tt)
-  may_judge narrow closed serial (answers.No matrix steps) h = (narrow, (h.0, h.1, closed_has_no_more (replicate 4 a) (matrix_generators alpha beta) b rows closed), λ one. record { rows = rows; closed = closed; serial = serial one; refutation = h.2 })
+  may_judge narrow closed serial (answers.No matrix steps) h = (
+    narrow,
+    (h.0, h.1, closed_has_no_more (replicate 4 a) (matrix_generators alpha beta) b rows closed),
+    λ one. record
+        { rows = rows; closed = closed; serial = serial one; refutation = h.2 },
+  )
   may_judge narrow closed serial answers.Exceeds h = absurd h

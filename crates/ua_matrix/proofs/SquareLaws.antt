@@ -12,7 +12,7 @@ use Rattle.std.proofs.lemmas.List.Kept.{AllPairs-from_increasing, IsStrictlyIncr
 use Rattle.std.proofs.lemmas.Nat.{div-mul-add, mod-mul-add, div-add-mod'}
 use Rattle.std.proofs.lemmas.Simd.{map-map}
 use Rattle.ua_table.specs.Algebras.{FiniteAlgebra, Operation, IsAlgebra, arities_of, value_at}
-use Rattle.ua_table.proofs.ApplyLemmas.{value-below}
+use Rattle.ua_table.proofs.ApplyLaws.{value-below}
 use Rattle.ua_table.proofs.Choices.{in_range, range_low}
 use Rattle.ua_table.proofs.Lists.{all_from_contains}
 use Rattle.ua_part.specs.Partitions.{Partition, SameBlock}
@@ -87,7 +87,9 @@ module _ (a : FiniteAlgebra) (alg : IsAlgebra a) (beta : Partition) (cb : IsCong
       let low = pair_below (length beta) (length beta) x y l r in
       let first : (x * length beta + y) / length beta ≡ x = div-mul-add x (length beta) y r in
       let second : (x * length beta + y) % length beta ≡ y = mod-mul-add x (length beta) y r in
-      let same : slice_index beta (first_of (length beta) (pair_number (length beta) x y)) ≡ slice_index beta (second_of (length beta) (pair_number (length beta) x y)) = ap (slice_index beta) first ∙ s.same ∙ ap (slice_index beta) (sym second) in
+      let same : slice_index beta (first_of (length beta) (pair_number (length beta) x y))
+      ≡ slice_index beta (second_of (length beta) (pair_number (length beta) x y)) =
+      ap (slice_index beta) first ∙ s.same ∙ ap (slice_index beta) (sym second) in
       let c = passed_in (λ j. slice_index beta (first_of (length beta) j) == slice_index beta (second_of (length beta) j)) (pair_number (length beta) x y) (range_with_len 0 (length beta * length beta))
       (in_range 0 (length beta * length beta) (pair_number (length beta) x y) (omega arith) (omega (arith, low)))
       (eq-eqb (slice_index beta (first_of (length beta) (pair_number (length beta) x y))) (slice_index beta (second_of (length beta) (pair_number (length beta) x y))) same) in
@@ -156,7 +158,11 @@ module _ (a : FiniteAlgebra) (alg : IsAlgebra a) (beta : Partition) (cb : IsCong
       let vw = (pair_from (value_at (product_of a.name a a) f (map (slice_index pairs) es)) inside).0 in
       let numbers = map (place_among pairs) (range_with_len 0 (a.size * a.size)) in
       let among = value_among a.name (product_of a.name a a) pairs numbers h.square f es wq cq low in
-      let read : slice_index (map (place_among pairs) (range_with_len 0 (a.size * a.size))) (value_at (product_of a.name a a) f (map (slice_index pairs) es)) ≡ place_among pairs (value_at (product_of a.name a a) f (map (slice_index pairs) es)) = get_or-map-range_with_len (place_among pairs) 0 (a.size * a.size) (value_at (product_of a.name a a) f (map (slice_index pairs) es)) (value_at (product_of a.name a a) f (map (slice_index pairs) es)) 0 vw (omega arith) in
+      let read : slice_index (map (place_among pairs) (range_with_len 0 (a.size * a.size)))
+      (value_at (product_of a.name a a) f (map (slice_index pairs) es))
+      ≡ place_among pairs (value_at (product_of a.name a a) f (map (slice_index pairs) es)) =
+      get_or-map-range_with_len (place_among pairs) 0 (a.size * a.size) (value_at (product_of a.name a a) f (map (slice_index pairs) es))
+      (value_at (product_of a.name a a) f (map (slice_index pairs) es)) 0 vw (omega arith) in
       ap (λ (c : FiniteAlgebra). slice_index pairs (value_at c f es)) h.is
       ∙ ap (slice_index pairs) (among ∙ read)
       ∙ stands (value_at (product_of a.name a a) f (map (slice_index pairs) es)) inside

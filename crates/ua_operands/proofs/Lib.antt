@@ -1,2 +1,2 @@
-pub mod ReadLemmas
-pub mod CloneLemmas
+pub mod ReadLaws
+pub mod CloneLaws

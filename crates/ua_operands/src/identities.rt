@@ -6,7 +6,7 @@ ghost use Rattle.ua_text.specs.declared.symbols.Role.{Role};
 ghost use Rattle.ua_text.specs.Printing.{Shows};
 ghost use Rattle.ua_text.specs.Signs.{Wanted, sign, Front};
 ghost use Rattle.ua_text.specs.Tokens.{tokens_left, source_of};
-ghost use Rattle.ua_text.specs.Reading.{Gives, begins_with};
+ghost use Rattle.ua_text.specs.Reading.{Takes, Gives, begins_with};
 ghost use Rattle.ua_operands.specs.declared.written.Variable.{Variable};
 ghost use Rattle.ua_operands.specs.declared.written.IdentityText.{IdentityText};
 ghost use Rattle.ua_operands.specs.Written.{variable, arguments, identity};
@@ -19,7 +19,7 @@ use ua_text::{Miss, Printer, Role, Tokens, exact, is_next, next};
 
 /// A variable.
 fn variable(tokens: &mut Tokens<'_>) -> Result<Variable, Miss>
-    ensures only { (v : Variable) (ws : List Wanted) → Front (tokens_left tokens.old) (variable v ∷ ws) [] → Gives result (λ x. (x ≡ v) × Front (tokens_left tokens.new) ws []) }
+    ensures only { (v : Variable) (ws : List Wanted) → Takes tokens.old tokens.new result (λ x. x ≡ v) (variable v ∷ []) ws [] }
     ensures progress { IfOk result (λ x. length (tokens_left tokens.new) < length (tokens_left tokens.old)) }
     ensures source { source_of tokens.new ≡ source_of tokens.old }
 {
@@ -55,7 +55,7 @@ fn variables(alloc: Global, tokens: &mut Tokens<'_>) -> Result<Vec<Variable>, Mi
 
 /// An identity.
 fn identity(alloc: Global, tokens: &mut Tokens<'_>) -> Result<IdentityText, Miss>
-    ensures only { (i : IdentityText) (ws : List Wanted) → Front (tokens_left tokens.old) (identity i ++ ws) [] → Gives result (λ x. (x ≡ i) × Front (tokens_left tokens.new) ws []) }
+    ensures only { (i : IdentityText) (ws : List Wanted) → Takes tokens.old tokens.new result (λ x. x ≡ i) (identity i) ws [] }
     ensures progress { IfOk result (λ x. length (tokens_left tokens.new) < length (tokens_left tokens.old)) }
     ensures source { source_of tokens.new ≡ source_of tokens.old }
 {
@@ -73,7 +73,7 @@ fn identity(alloc: Global, tokens: &mut Tokens<'_>) -> Result<IdentityText, Miss
 
 /// All identities that stand there.
 pub fn identities(alloc: Global, tokens: &mut Tokens<'_>) -> Result<Listed<IdentityText>, Miss>
-    ensures only { (is : List IdentityText) (ws : List Wanted) → begins_with (codes "(") ws ≡ false → Front (tokens_left tokens.old) (flat_map identity is ++ ws) [] → Gives result (λ x. (x ≡ is) × Front (tokens_left tokens.new) ws []) }
+    ensures only { (is : List IdentityText) (ws : List Wanted) → begins_with (codes "(") ws ≡ false → Takes tokens.old tokens.new result (λ x. x ≡ is) (flat_map identity is) ws [] }
     ensures progress { IfOk result (λ x. length (tokens_left tokens.new) ≤ length (tokens_left tokens.old)) }
     ensures source { source_of tokens.new ≡ source_of tokens.old }
 {

@@ -6,7 +6,7 @@ ghost use Rattle.ua_text.specs.declared.symbols.Role.{Role};
 ghost use Rattle.ua_text.specs.Printing.{Shows};
 ghost use Rattle.ua_text.specs.Signs.{Wanted, sign, Front};
 ghost use Rattle.ua_text.specs.Tokens.{tokens_left, source_of};
-ghost use Rattle.ua_text.specs.Reading.{Gives, begins_with};
+ghost use Rattle.ua_text.specs.Reading.{Takes, Gives, begins_with};
 ghost use Rattle.ua_operands.specs.declared.written.Items.{Items};
 ghost use Rattle.ua_operands.specs.declared.written.CloneWord.{CloneWord};
 ghost use Rattle.ua_operands.specs.declared.written.PointsText.{PointsText};
@@ -21,7 +21,7 @@ use ua_text::{Miss, Printer, Role, Tokens, next};
 
 /// The word that says which operations are asked for.
 pub fn clone_word(tokens: &mut Tokens<'_>) -> Result<CloneWord, Miss>
-    ensures only { (c : CloneWord) (ws : List Wanted) → Front (tokens_left tokens.old) (sign Role.Exact (clone_word c) ∷ ws) [] → Gives result (λ x. (x ≡ c) × Front (tokens_left tokens.new) ws []) }
+    ensures only { (c : CloneWord) (ws : List Wanted) → Takes tokens.old tokens.new result (λ x. x ≡ c) (sign Role.Exact (clone_word c) ∷ []) ws [] }
     ensures progress { IfOk result (λ x. length (tokens_left tokens.new) < length (tokens_left tokens.old)) }
     ensures source { source_of tokens.new ≡ source_of tokens.old }
 {
@@ -37,7 +37,7 @@ pub fn clone_word(tokens: &mut Tokens<'_>) -> Result<CloneWord, Miss>
 
 /// All values of an operation, behind their word.
 fn total(alloc: Global, tokens: &mut Tokens<'_>) -> Result<PointsText, Miss>
-    ensures only { (v : Items) (ws : List Wanted) → IsShortVector v → Front (tokens_left tokens.old) (vector v ++ ws) [] → Gives result (λ x. (x ≡ PointsText.Total v) × Front (tokens_left tokens.new) ws []) }
+    ensures only { (v : Items) (ws : List Wanted) → IsShortVector v → Takes tokens.old tokens.new result (λ x. x ≡ PointsText.Total v) (vector v) ws [] }
     ensures progress { IfOk result (λ x. length (tokens_left tokens.new) < length (tokens_left tokens.old)) }
     ensures source { source_of tokens.new ≡ source_of tokens.old }
 {
@@ -58,7 +58,7 @@ fn partial(alloc: Global, tokens: &mut Tokens<'_>) -> Result<PointsText, Miss>
 
 /// Values of an operation.
 pub fn points(alloc: Global, tokens: &mut Tokens<'_>) -> Result<PointsText, Miss>
-    ensures only { (p : PointsText) (ws : List Wanted) → ArePointsShort p → begins_with (codes "[") ws ≡ false → Front (tokens_left tokens.old) (points p ++ ws) [] → Gives result (λ x. (x ≡ p) × Front (tokens_left tokens.new) ws []) }
+    ensures only { (p : PointsText) (ws : List Wanted) → ArePointsShort p → begins_with (codes "[") ws ≡ false → Takes tokens.old tokens.new result (λ x. x ≡ p) (points p) ws [] }
     ensures progress { IfOk result (λ x. length (tokens_left tokens.new) < length (tokens_left tokens.old)) }
     ensures source { source_of tokens.new ≡ source_of tokens.old }
 {

@@ -47,7 +47,9 @@ module _ (p : Partition) where
       let e : suc n ≡ n + 1 = omega arith in
       subst (λ m. AllByRecursion (λ x. x < m) (filter leads (range_with_len 0 m))) (sym e)
       (subst (AllByRecursion (λ x. x < n + 1)) (sym (passed_more leads n))
-      (all_append (λ x. x < n + 1) (filter leads (range_with_len 0 n)) (cond (leads n) (n ∷ []) []) (all_weaker (λ x. x < n) (λ x. x < n + 1) (λ x w. omega (arith, w)) (filter leads (range_with_len 0 n)) (leaders_below n)) (last (leads n))))
+      (all_append (λ x. x < n + 1) (filter leads (range_with_len 0 n)) (cond (leads n) (n ∷ []) [])
+      (all_weaker (λ x. x < n) (λ x. x < n + 1) (λ x w. omega (arith, w)) (filter leads (range_with_len 0 n)) (leaders_below n))
+      (last (leads n))))
     where
       last : (b : Bool) → AllByRecursion (λ x. x < n + 1) (cond b (n ∷ []) [])
       last true = (omega arith, tt)

@@ -6,7 +6,7 @@ use Rattle.std.proofs.lemmas.List.{length-replicate}
 use Rattle.std.proofs.lemmas.List.FromFn.{length-range_with_len}
 use Rattle.ua_table.specs.Algebras.{FiniteAlgebra, IsAlgebra, arities_of, value_at}
 use Rattle.ua_table.specs.Terms.{Tree, Generator, Application, Trees, none, more, count_of, IsTerm, AreTerms, eval, eval_all}
-use Rattle.ua_table.proofs.ApplyLemmas.{value-below}
+use Rattle.ua_table.proofs.ApplyLaws.{value-below}
 use Rattle.ua_table.proofs.Lists.{AllZip-length}
 use Rattle.ua_part.specs.Partitions.{Partition, SameBlock, full_on, identity_on}
 use Rattle.ua_part.proofs.PartitionLaws.{same_itself, full_at, full-IsPartition, identity-IsPartition, identity-same}

@@ -62,7 +62,9 @@ digit_stands n low =
     any false b = refl
 
 digits_stand : (n : ℕ) → n < 2 ^ 64 → list_all is_word_byte (decimal n) ≡ true
-digits_stand n small = decimal_by_steps (λ _ ds. list_all is_word_byte ds ≡ true) (λ n low. word_push [] (48 + n) refl (digit_stands n low)) (λ n ds high h. word_push ds (48 + n % 10) h (digit_stands (n % 10) (let some : 0 < 10 = omega arith in mod-lt n some))) n small
+digits_stand n small =
+    decimal_by_steps (λ _ ds. list_all is_word_byte ds ≡ true) (λ n low. word_push [] (48 + n) refl (digit_stands n low))
+    (λ n ds high h. word_push ds (48 + n % 10) h (digit_stands (n % 10) (let some : 0 < 10 = omega arith in mod-lt n some))) n small
 
 pub numbered-is_name : (f : ℕ) → f < OPERATIONS → is_name (102 ∷ decimal f) ≡ true
 numbered-is_name f low =
@@ -101,16 +103,23 @@ abbrev pub drawn_before : ℕ → ℕ → List ℕ → ℕ → List Operation
 drawn_before size s arities f = map (drawn_at size s arities) (take f (enumerate_from 0 arities))
 
 -- one operation more
-pub drawn_more : (size s f now : ℕ) (arities : List ℕ) (t : Operation) (old new : List Operation) → f < length arities → old ≡ drawn_before size s arities f → now ≡ state_after s (values_needed size (take f arities)) → new ≡ old ++ t ∷ [] → t ≡ drawn_operation size now f (get_or arities f 0) → new ≡ drawn_before size s arities (f + 1)
+pub drawn_more : (size s f now : ℕ) (arities : List ℕ) (t : Operation) (old new : List Operation) → f < length arities
+    → old ≡ drawn_before size s arities f → now ≡ state_after s (values_needed size (take f arities)) → new ≡ old ++ t ∷ []
+    → t ≡ drawn_operation size now f (get_or arities f 0) → new ≡ drawn_before size s arities (f + 1)
 drawn_more size s f now arities t old new w before at pushed is =
     let n = length-enumerate_from 0 arities in
     let there : get_or (enumerate_from 0 arities) f (0, 0) ≡ (f, get_or arities f 0) = get_or-enumerate_from 0 arities f (0, 0) w ∙ (let z : 0 + f ≡ f = omega arith in ap (λ k. (k, get_or arities f 0)) z) in
     pushed ∙ (λ j. before j ++ is j ∷ []) ∙ (λ j. drawn_before size s arities f ++ drawn_operation size (at j) f (get_or arities f 0) ∷ [])
     ∙ (λ j. map (drawn_at size s arities) (take f (enumerate_from 0 arities)) ++ drawn_at size s arities (sym there j) ∷ [])
-    ∙ sym (ap (map (drawn_at size s arities)) (take_more (enumerate_from 0 arities) f (0, 0) (omega (arith, n, w))) ∙ map-append (drawn_at size s arities) (take f (enumerate_from 0 arities)) (get_or (enumerate_from 0 arities) f (0, 0) ∷ []))
+    ∙ sym
+    (ap (map (drawn_at size s arities)) (take_more (enumerate_from 0 arities) f (0, 0) (omega (arith, n, w)))
+    ∙ map-append (drawn_at size s arities) (take f (enumerate_from 0 arities)) (get_or (enumerate_from 0 arities) f (0, 0) ∷ []))
 
-pub state_behind : (size s f now after : ℕ) (arities : List ℕ) → f < length arities → now ≡ state_after s (values_needed size (take f arities)) → after ≡ state_after now (size ^ get_or arities f 0) → after ≡ state_after s (values_needed size (take (f + 1) arities))
-state_behind size s f now after arities w at is = is ∙ ap (λ m. state_after m (size ^ get_or arities f 0)) at ∙ state_sum s (values_needed size (take f arities)) (size ^ get_or arities f 0) ∙ ap (state_after s) (sym (needed_more size arities f w))
+pub state_behind : (size s f now after : ℕ) (arities : List ℕ) → f < length arities → now ≡ state_after s (values_needed size (take f arities))
+    → after ≡ state_after now (size ^ get_or arities f 0) → after ≡ state_after s (values_needed size (take (f + 1) arities))
+state_behind size s f now after arities w at is =
+    is ∙ ap (λ m. state_after m (size ^ get_or arities f 0)) at ∙ state_sum s (values_needed size (take f arities)) (size ^ get_or arities f 0)
+    ∙ ap (state_after s) (sym (needed_more size arities f w))
 
 -- all of them
 pub drawn_all : (size s f : ℕ) (arities : List ℕ) (new : List Operation) → length arities ≤ f → new ≡ drawn_before size s arities f → new ≡ drawn_operations size s arities

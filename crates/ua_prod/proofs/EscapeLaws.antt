@@ -80,7 +80,9 @@ sorted_behind : (y : ℕ) (ts : List (List ℕ)) → InOrder ts → InOrder (map
 unfolding IsStrictlySortedBy
 sorted_behind y [] h = tt
 sorted_behind y (t ∷ ts) h = (
-  all_map (λ (s : List ℕ). slice_cmp nat_cmp (y ∷ t) s ≡ Less) (λ s. y ∷ s) ts (all_weaker (λ (s : List ℕ). slice_cmp nat_cmp t s ≡ Less) (λ s. slice_cmp nat_cmp (y ∷ t) (y ∷ s) ≡ Less) (λ s e. ap (λ o. ordering_then o (slice_cmp nat_cmp t s)) (cmp_equal y) ∙ e) ts h.0),
+  all_map (λ (s : List ℕ). slice_cmp nat_cmp (y ∷ t) s ≡ Less) (λ s. y ∷ s) ts
+      (all_weaker (λ (s : List ℕ). slice_cmp nat_cmp t s ≡ Less) (λ s. slice_cmp nat_cmp (y ∷ t) (y ∷ s) ≡ Less)
+      (λ s e. ap (λ o. ordering_then o (slice_cmp nat_cmp t s)) (cmp_equal y) ∙ e) ts h.0),
   sorted_behind y ts h.1,
 )
 
@@ -137,7 +139,9 @@ module _ (o : Operation) (set : List ℕ) where
   pub stays_more : (i : ℕ) → i < length (tuples_among set o.arity) → AllByRecursion Stays (take i (tuples_among set o.arity)) → Stays (get_or (tuples_among set o.arity) i []) → AllByRecursion Stays (take (i + 1) (tuples_among set o.arity))
   stays_more i w before here = all_take_more Stays (tuples_among set o.arity) i (get_or (tuples_among set o.arity) i []) before (slice_get-get_or (tuples_among set o.arity) i [] w) here
 
-  pub first_among : (i : ℕ) (args : List ℕ) → IsStrictlyIncreasing set → AllByRecursion (λ x. x < o.size) set → i < length (tuples_among set o.arity) → AllByRecursion Stays (take i (tuples_among set o.arity)) → AreArguments o (numeral o.size (get_or (tuples_among set o.arity) i [])) args → ¬ Stays (get_or (tuples_among set o.arity) i []) → IsFirstEscapeOf o set args
+  pub first_among : (i : ℕ) (args : List ℕ) → IsStrictlyIncreasing set → AllByRecursion (λ x. x < o.size) set → i < length (tuples_among set o.arity)
+      → AllByRecursion Stays (take i (tuples_among set o.arity)) → AreArguments o (numeral o.size (get_or (tuples_among set o.arity) i [])) args
+      → ¬ Stays (get_or (tuples_among set o.arity) i []) → IsFirstEscapeOf o set args
   first_among i args up low w before are out =
       let tuples = tuples_among set o.arity in
       let t = get_or tuples i [] in

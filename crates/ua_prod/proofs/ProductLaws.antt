@@ -47,7 +47,8 @@ pub numbers_mapped : (f : ℕ → ℕ) (n : ℕ) (xs digits numbers : List ℕ) 
 numbers_mapped f n xs digits numbers k are is = is ∙ ap (λ ds. map (numeral n) (tuples_among ds k)) are ∙ ap (map (numeral n)) (tuples_mapped f xs k) ∙ map-map (numeral n) (map f) (tuples_among xs k)
 
 -- the value of an operation that is read at the place of such a number
-pub value_mapped : (f : ℕ → ℕ) (o : Operation) (values numbers : List ℕ) (tuples : List (List ℕ)) (i number value : ℕ) → values ≡ o.values → numbers ≡ map (λ t. numeral o.size (map f t)) tuples → i < length tuples → number ≡ get_or numbers i number → value ≡ slice_index values number
+pub value_mapped : (f : ℕ → ℕ) (o : Operation) (values numbers : List ℕ) (tuples : List (List ℕ)) (i number value : ℕ) → values ≡ o.values
+    → numbers ≡ map (λ t. numeral o.size (map f t)) tuples → i < length tuples → number ≡ get_or numbers i number → value ≡ slice_index values number
     → value ≡ value_of o (map f (get_or tuples i []))
 value_mapped f o values numbers tuples i number value are is w read there =
     let at : number ≡ numeral o.size (map f (get_or tuples i [])) = read ∙ ap (λ (ns : List ℕ). get_or ns i number) is ∙ get_or-map (λ t. numeral o.size (map f t)) tuples i [] number w in
@@ -73,14 +74,21 @@ module _ (o p : Operation) where
   count_pairs = count_tuples (range_with_len 0 (o.size * p.size)) o.arity ∙ ap (λ n. n ^ o.arity) (length-range_with_len 0 (o.size * p.size))
 
   -- one value more
-  pub paired_more : (old new : List ℕ) (i left right : ℕ) → i < length tuples_of_pairs → old ≡ map paired_value (take i tuples_of_pairs) → new ≡ old ++ (left * p.size + right) ∷ [] → left ≡ value_of o (map (first_of p.size) (get_or tuples_of_pairs i [])) → right ≡ value_of p (map (second_of p.size) (get_or tuples_of_pairs i []))
+  pub paired_more : (old new : List ℕ) (i left right : ℕ) → i < length tuples_of_pairs → old ≡ map paired_value (take i tuples_of_pairs)
+      → new ≡ old ++ (left * p.size + right) ∷ [] → left ≡ value_of o (map (first_of p.size) (get_or tuples_of_pairs i []))
+      → right ≡ value_of p (map (second_of p.size) (get_or tuples_of_pairs i []))
       → new ≡ map paired_value (take (i + 1) tuples_of_pairs)
   paired_more old new i left right w before pushed l r =
       pushed ∙ (λ j. before j ++ (l j * p.size + r j) ∷ []) ∙ sym (ap (map paired_value) (take_more tuples_of_pairs i [] w) ∙ map-append paired_value (take i tuples_of_pairs) (get_or tuples_of_pairs i [] ∷ []))
 
   -- the values are elements of the product
   pub paired_below : IsTable o → IsTable p → o.size * p.size ≤ SIZE → AllByRecursion (λ v. v < o.size * p.size) (paired o p).values
-  paired_below t u few = all_mapped (λ v. v < o.size * p.size) paired_value (λ args. pair_below o.size p.size (value_of o (map (first_of p.size) args)) (value_of p (map (second_of p.size) args)) (value_below o t (map (first_of p.size) args)) (value_below p u (map (second_of p.size) args))) tuples_of_pairs
+  paired_below t u few =
+      all_mapped (λ v. v < o.size * p.size) paired_value
+      (λ args.
+      pair_below o.size p.size (value_of o (map (first_of p.size) args)) (value_of p (map (second_of p.size) args))
+      (value_below o t (map (first_of p.size) args)) (value_below p u (map (second_of p.size) args)))
+      tuples_of_pairs
     where
       value_below : (q : Operation) → IsTable q → (args : List ℕ) → value_of q args < q.size
       value_below q t args = read_below q.size q.values (numeral q.size args) t.inhabited t.operation.below
@@ -122,7 +130,9 @@ zipped_at (q ∷ os) (r ∷ ps) zero o p e h = let left : q ≡ o = cc in let ri
 zipped_at (q ∷ os) (r ∷ ps) (suc f) o p e h = zipped_at os ps f o p e h
 
 -- one operation more
-pub side_more : (os ps : List Operation) (f : ℕ) (o p t : Operation) (old new : List Operation) → slice_get os f ≡ Some o → slice_get ps f ≡ Some p → old ≡ map (λ (both : Operation × Operation). paired both.0 both.1) (take f (zip os ps)) → new ≡ old ++ t ∷ [] → t ≡ paired o p → new ≡ map (λ (both : Operation × Operation). paired both.0 both.1) (take (f + 1) (zip os ps))
+pub side_more : (os ps : List Operation) (f : ℕ) (o p t : Operation) (old new : List Operation) → slice_get os f ≡ Some o → slice_get ps f ≡ Some p
+    → old ≡ map (λ (both : Operation × Operation). paired both.0 both.1) (take f (zip os ps)) → new ≡ old ++ t ∷ [] → t ≡ paired o p
+    → new ≡ map (λ (both : Operation × Operation). paired both.0 both.1) (take (f + 1) (zip os ps))
 side_more os ps f o p t old new here there before pushed is =
     let both = zipped_at os ps f o p here there in
     let w = slice_get_within (zip os ps) f (o, p) both in
@@ -171,7 +181,8 @@ module _ (n m : ℕ) (few : n * m ≤ SIZE) where
 tables_of : (a : FiniteAlgebra) → IsAlgebraTable a → AllByRecursion (λ (o : Operation). IsTable o × (o.size ≡ a.size)) a.operations
 tables_of a t = all_both IsTable (λ (o : Operation). o.size ≡ a.size) a.operations t.tables (all_weaker (λ (o : Operation). (o.size ≡ a.size) × IsOperation o) (λ o. o.size ≡ a.size) (λ o h. h.0) a.operations t.algebra.operations)
 
-pub product-IsAlgebraTable : (name : List ℕ) (a b : FiniteAlgebra) → IsAlgebraTable a → IsAlgebraTable b → signature a ≡ signature b → a.size * b.size ≤ SIZE → values_needed (a.size * b.size) (arities_of a) ≤ VALUES → IsAlgebraTable (product_of name a b)
+pub product-IsAlgebraTable : (name : List ℕ) (a b : FiniteAlgebra) → IsAlgebraTable a → IsAlgebraTable b → signature a ≡ signature b
+    → a.size * b.size ≤ SIZE → values_needed (a.size * b.size) (arities_of a) ≤ VALUES → IsAlgebraTable (product_of name a b)
 product-IsAlgebraTable name a b t u e few small =
     let os = a.operations in
     let ps = b.operations in

@@ -58,7 +58,8 @@ module _ (members numbers : List ℕ) (some : 0 < length members) (n : ℕ) (few
   tables_kept [] h k = tt
   tables_kept (o ∷ os) h k = (renumbered-IsTable o h.0 k.0.0, tables_kept os h.1 k.1)
 
-  operations_kept : (os : List Operation) → AllByRecursion IsTable os → AllByRecursion (λ (o : Operation). (o.size ≡ n) × IsOperation o) os → AllByRecursion (λ (o : Operation). (o.size ≡ length members) × IsOperation o) (map (renumbered members numbers) os)
+  operations_kept : (os : List Operation) → AllByRecursion IsTable os → AllByRecursion (λ (o : Operation). (o.size ≡ n) × IsOperation o) os
+      → AllByRecursion (λ (o : Operation). (o.size ≡ length members) × IsOperation o) (map (renumbered members numbers) os)
   operations_kept [] h k = tt
   operations_kept (o ∷ os) h k = ((refl, (renumbered-IsTable o h.0 k.0.0).operation), operations_kept os h.1 k.1)
 

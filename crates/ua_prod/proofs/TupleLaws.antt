@@ -34,7 +34,8 @@ module _ (n : ℕ) (ds : List ℕ) where
   first_digit : (m i : ℕ) → numbers_from m (suc i) ≡ flat_map (λ x. numbers_from (m * n + x) i) ds
   first_digit m i =
       map-flat_map (λ t. fold (λ number digit. number * n + digit) m t) (λ x. map (λ t. x ∷ t) (tuples_among ds i)) ds
-      ∙ flat_map_agree (λ x. map (λ t. fold (λ number digit. number * n + digit) m t) (map (λ t. x ∷ t) (tuples_among ds i))) (λ x. numbers_from (m * n + x) i) (λ x. map-map (λ t. fold (λ number digit. number * n + digit) m t) (λ t. x ∷ t) (tuples_among ds i)) ds
+      ∙ flat_map_agree (λ x. map (λ t. fold (λ number digit. number * n + digit) m t) (map (λ t. x ∷ t) (tuples_among ds i)))
+      (λ x. numbers_from (m * n + x) i) (λ x. map-map (λ t. fold (λ number digit. number * n + digit) m t) (λ t. x ∷ t) (tuples_among ds i)) ds
 
   last_digit : (i m : ℕ) → flat_map with_each (numbers_from m i) ≡ numbers_from m (suc i)
   last_digit zero m = append-nil (with_each m) ∙ sym (first_digit m zero ∙ flat_map_single (λ x. m * n + x) ds)

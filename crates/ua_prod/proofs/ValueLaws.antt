@@ -10,7 +10,7 @@ use Rattle.ua_table.specs.declared.spans.Span.{Span}
 use Rattle.ua_table.specs.Algebras.{Operation, FiniteAlgebra, IsAlgebra, arities_of, value_at, numeral, signature}
 use Rattle.ua_table.specs.Numbering.{choices}
 use Rattle.ua_table.specs.Spans.{ranges, tuples}
-use Rattle.ua_table.proofs.ApplyLemmas.{numeral-below}
+use Rattle.ua_table.proofs.ApplyLaws.{numeral-below}
 use Rattle.ua_table.proofs.Codes.{numeral-cons}
 use Rattle.ua_table.proofs.Lists.{found, mapped_at}
 use Rattle.ua_table.proofs.SpanLaws.{IsInSpans, many, rank, rank_at}
@@ -57,7 +57,9 @@ pub tuple_at : (members : List ℕ) (xs : List ℕ) → AllByRecursion (λ k. k 
 tuple_at members xs h =
     let n = length members in
     let count = length-map-range_with_len (slice_index members) 0 n in
-    let listed : map (slice_index members) (range_with_len 0 n) ≡ members = ext_get_or 0 (map (slice_index members) (range_with_len 0 n)) members count (λ i l. get_or-map-range_with_len (slice_index members) 0 n i i 0 (omega (arith, l, count)) (omega arith)) in
+    let listed : map (slice_index members) (range_with_len 0 n) ≡ members =
+    ext_get_or 0 (map (slice_index members) (range_with_len 0 n)) members count
+    (λ i l. get_or-map-range_with_len (slice_index members) 0 n i i 0 (omega (arith, l, count)) (omega arith)) in
     let low = numeral-below n xs h in
     let long = count_tuples (range_with_len 0 n) (length xs) ∙ ap (λ m. m ^ length xs) (length-range_with_len 0 n) in
     ap (λ (ms : List ℕ). get_or (tuples_among ms (length xs)) (numeral n xs) []) (sym listed)
@@ -85,7 +87,10 @@ value_among name a members numbers alg f xs w count h =
     let o = at.0 in
     let long : length xs ≡ o.arity = count ∙ arity_is a f o at.1 in
     let read : List ℕ → ℕ = (λ args. slice_index numbers (value_of o args)) in
-    let low : numeral (length members) xs < length (tuples_among members o.arity) = (let l = numeral-below (length members) xs h in let c = count_tuples members o.arity in let e : length members ^ length xs ≡ length members ^ o.arity = ap (λ k. length members ^ k) long in omega (arith, l, c, e)) in
+    let low : numeral (length members) xs < length (tuples_among members o.arity) =
+    (let l = numeral-below (length members) xs h in
+    let c = count_tuples members o.arity in
+    let e : length members ^ length xs ≡ length members ^ o.arity = ap (λ k. length members ^ k) long in omega (arith, l, c, e)) in
     value_is (algebra_among name a members numbers) f (renumbered members numbers o) (mapped_at (renumbered members numbers) a.operations f o at.1) xs
     ∙ get_or-map read (tuples_among members o.arity) (numeral (length members) xs) [] 0 low
     ∙ ap read (ap (λ k. get_or (tuples_among members k) (numeral (length members) xs) []) (sym long) ∙ tuple_at members xs h)
@@ -94,7 +99,8 @@ value_among name a members numbers alg f xs w count h =
 -- ---- products
 
 -- the value at pairs is the pair of the values
-pub value_paired : (name : List ℕ) (a b : FiniteAlgebra) → IsAlgebra a → IsAlgebra b → signature a ≡ signature b → (f : ℕ) (ks : List ℕ) → f < length (arities_of a) → length ks ≡ slice_index (arities_of a) f → AllByRecursion (λ k. k < a.size * b.size) ks
+pub value_paired : (name : List ℕ) (a b : FiniteAlgebra) → IsAlgebra a → IsAlgebra b → signature a ≡ signature b → (f : ℕ) (ks : List ℕ)
+    → f < length (arities_of a) → length ks ≡ slice_index (arities_of a) f → AllByRecursion (λ k. k < a.size * b.size) ks
     → value_at (product_of name a b) f ks ≡ pair_number b.size (value_at a f (map (first_of b.size) ks)) (value_at b f (map (second_of b.size) ks))
 value_paired name a b alg blg e f ks w count h =
     let at = operation_of a f w in
@@ -111,7 +117,8 @@ value_paired name a b alg blg e f ks w count h =
     let c = count_tuples (range_with_len 0 (o.size * p.size)) o.arity ∙ ap (λ m. m ^ o.arity) (length-range_with_len 0 (o.size * p.size)) in
     let g : (a.size * b.size) ^ length ks ≡ (o.size * p.size) ^ o.arity = (λ i. sym n i ^ long i) in
     omega (arith, l, c, g)) in
-    let here : get_or (tuples_among (range_with_len 0 (o.size * p.size)) o.arity) (numeral (a.size * b.size) ks) [] ≡ ks = (λ i. get_or (tuples_among (range_with_len 0 (n i)) (sym long i)) (numeral (a.size * b.size) ks) []) ∙ tuple_below (a.size * b.size) ks h in
+    let here : get_or (tuples_among (range_with_len 0 (o.size * p.size)) o.arity) (numeral (a.size * b.size) ks) [] ≡ ks =
+    (λ i. get_or (tuples_among (range_with_len 0 (n i)) (sym long i)) (numeral (a.size * b.size) ks) []) ∙ tuple_below (a.size * b.size) ks h in
     value_is (product_of name a b) f (paired o p) (mapped_at side (zip a.operations b.operations) f (o, p) (zipped_at a.operations b.operations f o p at.1 there.1)) ks
     ∙ get_or-map (paired_value o p) (tuples_among (range_with_len 0 (o.size * p.size)) o.arity) (numeral (a.size * b.size) ks) [] 0 low
     ∙ ap (paired_value o p) here

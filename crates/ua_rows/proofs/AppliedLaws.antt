@@ -14,14 +14,16 @@ contains_by None b rows v e found absent = (λ t. let no : true ≡ false = sym 
 contains_by (Some i) b rows v e found absent = (λ t. Contains-slice_get rows i v found, λ c. e)
 
 -- one more vector is looked for
-pub found_more : (p : Product) (f : ℕ) (rows : List Vector) (args : List ℕ) (n : ℕ) (found : List Bool) (b : Bool) → n < length found → AreFound p f rows args n found → (IsTrue b → Contains rows (applied_at p f rows args n)) → AreFound p f rows args (n + 1) (set found n b)
+pub found_more : (p : Product) (f : ℕ) (rows : List Vector) (args : List ℕ) (n : ℕ) (found : List Bool) (b : Bool) → n < length found
+    → AreFound p f rows args n found → (IsTrue b → Contains rows (applied_at p f rows args n)) → AreFound p f rows args (n + 1) (set found n b)
 found_more p f rows args n found b low before here i h = ⊎_elim
     (λ same. (omega (arith, same), subst (λ k. Contains rows (applied_at p f rows args k)) (sym same) (here (subst IsTrue (ap (λ k. get_or (set found n b) k false) same ∙ get_or-set_same found n b false low) h))))
     (λ other. let old = before i (subst IsTrue (get_or-set_other found n i b false other) h) in (let l = old.0 in omega (arith, l), old.1))
     (cases_eq i n)
 
 -- one more vector is computed
-pub applied_more : (p : Product) (f : ℕ) (rows : List Vector) (args : List ℕ) (n : ℕ) (vectors : List Vector) (v : Vector) → n < length vectors → AreApplied p f rows args n vectors → v ≡ applied_at p f rows args n → AreApplied p f rows args (n + 1) (set vectors n v)
+pub applied_more : (p : Product) (f : ℕ) (rows : List Vector) (args : List ℕ) (n : ℕ) (vectors : List Vector) (v : Vector) → n < length vectors
+    → AreApplied p f rows args n vectors → v ≡ applied_at p f rows args n → AreApplied p f rows args (n + 1) (set vectors n v)
 applied_more p f rows args n vectors v low before here i h = ⊎_elim
     (λ same. ap (λ k. get_or (set vectors n v) k []) same ∙ get_or-set_same vectors n v [] low ∙ here ∙ ap (applied_at p f rows args) (sym same))
     (λ other. get_or-set_other vectors n i v [] other ∙ before i (omega (arith, h, other)))

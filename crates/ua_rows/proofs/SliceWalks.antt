@@ -12,7 +12,7 @@ use Rattle.ua_table.proofs.Units.{place_from}
 use Rattle.ua_table.proofs.SliceLaws.{bound_laws}
 use Rattle.ua_rows.specs.RowLists.{rows_at}
 use Rattle.ua_rows.specs.Results.{HasResults}
-use Rattle.ua_rows.proofs.RowLemmas.{slice_places}
+use Rattle.ua_rows.proofs.RowLaws.{slice_places}
 
 module _ (p : Product) (rows : List Vector) (seen s : ℕ) where
   abbrev ks : List ℕ
@@ -46,11 +46,15 @@ module _ (p : Product) (rows : List Vector) (seen s : ℕ) where
       R : List ℕ → Type 0
       R tuple = Contains (take seen rows) (apply p f (rows_at rows tuple))
 
-      whole : (ts : List (List ℕ)) → ((x : List ℕ) → Contains ts x → Contains (slice_tuples ks s) x) → AllByRecursion HasResult (map (four_places ks f) ts) → AllByRecursion (λ tuple. Contains (take seen rows) (apply p f (rows_at rows tuple))) ts
+      whole : (ts : List (List ℕ)) → ((x : List ℕ) → Contains ts x → Contains (slice_tuples ks s) x)
+          → AllByRecursion HasResult (map (four_places ks f) ts)
+          → AllByRecursion (λ tuple. Contains (take seen rows) (apply p f (rows_at rows tuple))) ts
       whole [] sub h = tt
       whole (t ∷ ts) sub h = (subst (λ x. Contains (take seen rows) (apply p f (rows_at rows x))) (taken t (sub t (Contains-head t ts))) h.0, whole ts (λ x c. sub x (Contains-tail t x ts c)) h.1)
 
-      padded : (ts : List (List ℕ)) → ((x : List ℕ) → Contains ts x → Contains (slice_tuples ks s) x) → AllByRecursion (λ tuple. Contains (take seen rows) (apply p f (rows_at rows tuple))) ts → AllByRecursion HasResult (map (four_places ks f) ts)
+      padded : (ts : List (List ℕ)) → ((x : List ℕ) → Contains ts x → Contains (slice_tuples ks s) x)
+          → AllByRecursion (λ tuple. Contains (take seen rows) (apply p f (rows_at rows tuple))) ts
+          → AllByRecursion HasResult (map (four_places ks f) ts)
       padded [] sub h = tt
       padded (t ∷ ts) sub h = (subst (λ x. Contains (take seen rows) (apply p f (rows_at rows x))) (sym (taken t (sub t (Contains-head t ts)))) h.0, padded ts (λ x c. sub x (Contains-tail t x ts c)) h.1)
 

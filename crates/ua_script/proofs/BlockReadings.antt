@@ -15,8 +15,8 @@ use Rattle.ua_text.specs.Reading.{IsReadable, IsReadableBlock, IsBlockAt}
 use Rattle.ua_text.specs.inner.Reading.{AreLabels}
 use Rattle.ua_text.proofs.FewTokens.{few_wanted}
 use Rattle.ua_text.proofs.Readable.{readable}
-use Rattle.ua_text.proofs.ReadLemmas.{element_is, readable_arity, readable_entries, algebra_is, block_is, block_labels, block_small, body_then}
-use Rattle.ua_text.proofs.WordLemmas.{same-true}
+use Rattle.ua_text.proofs.ReadLaws.{element_is, readable_arity, readable_entries, algebra_is, block_is, block_labels, block_small, body_then}
+use Rattle.ua_text.proofs.WordLaws.{same-true}
 use Rattle.ua_script.proofs.OperandReadings.{same_value}
 use Rattle.ua_script.proofs.TokenReadings.{Left, Same, clash, closed, many}
 

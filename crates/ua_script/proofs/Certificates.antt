@@ -9,7 +9,7 @@ use Rattle.ua_text.specs.Signs.{Wanted, sign, IsAt, Front}
 use Rattle.ua_text.specs.declared.readers.Miss.{Miss}
 use Rattle.ua_text.specs.Reading.{Gives, begins_with}
 use Rattle.ua_text.proofs.ReadBack.{place_of}
-use Rattle.ua_text.proofs.SpelledLemmas.{spelled_right}
+use Rattle.ua_text.proofs.SpelledLaws.{spelled_right}
 use Rattle.ua_operands.specs.Reading.{begins_item}
 use Rattle.ua_script.specs.declared.script.Command.{Command}
 use Rattle.ua_script.specs.declared.script.Item.TheVariants as items

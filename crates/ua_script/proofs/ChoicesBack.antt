@@ -1,7 +1,7 @@
 -- The choice that a word stands for.
 use Rattle.std.proofs.Common.{◌≡◌, ℕ, Bool, true, false, ◌||◌, List, [], ◌∷◌, refl, sym, codes}
 use Rattle.ua_text.specs.Words.{same, among}
-use Rattle.ua_text.proofs.WordLemmas.{same-true}
+use Rattle.ua_text.proofs.WordLaws.{same-true}
 use Rattle.ua_operands.specs.declared.written.CondWord.{CondWord}
 use Rattle.ua_operands.specs.declared.written.CondWord.TheVariants.{Maltsev, Majority, Minority, Pixley}
 use Rattle.ua_operands.specs.declared.written.SeriesWord.{SeriesWord}

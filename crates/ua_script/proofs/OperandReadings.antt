@@ -14,8 +14,8 @@ use Rattle.ua_text.specs.Signs.{Wanted, IsSign, IsAt, sign, Front}
 use Rattle.ua_text.specs.Reading.{begins_with}
 use Rattle.ua_text.proofs.Digits.{number_read}
 use Rattle.ua_text.proofs.ReadBack.{place_of}
-use Rattle.ua_text.proofs.ReadLemmas.{no_number}
-use Rattle.ua_text.proofs.WordLemmas.{same_itself}
+use Rattle.ua_text.proofs.ReadLaws.{no_number}
+use Rattle.ua_text.proofs.WordLaws.{same_itself}
 use Rattle.ua_operands.specs.declared.written.Word.{Word}
 use Rattle.ua_operands.specs.declared.written.Number.{Number}
 use Rattle.ua_operands.specs.declared.written.Entry.{Entry}
@@ -33,9 +33,9 @@ use Rattle.ua_operands.specs.declared.written.PointsText.{PointsText}
 use Rattle.ua_operands.specs.declared.written.PointsText.TheVariants.{Total, Partial}
 use Rattle.ua_operands.specs.Written.{word, number, entry, vector, part, part_block, part_blocks, names, mode, cond_word, series_word, variable, variable_word, clone_word, identity, points}
 use Rattle.ua_operands.specs.Reading.{IsShort, IsShortEntry, IsShortVector, IsShortBlock, IsNamed, ArePointsShort, begins_number, begins_item}
-use Rattle.ua_operands.proofs.ReadLemmas.{number_is, word_is, part_is, identity_is, entry_apart, word_apart, inner_apart, variable_apart, names_front, block_front, blocks_front}
-use Rattle.ua_operands.proofs.ReadLemmas.{blocks_flat, block_number, tail_number, behind_then, condition_is, series_is, variable_is}
-use Rattle.ua_operands.proofs.CloneLemmas.{clone_is}
+use Rattle.ua_operands.proofs.ReadLaws.{number_is, word_is, part_is, identity_is, entry_apart, word_apart, inner_apart, variable_apart, names_front, block_front, blocks_front}
+use Rattle.ua_operands.proofs.ReadLaws.{blocks_flat, block_number, tail_number, behind_then, condition_is, series_is, variable_is}
+use Rattle.ua_operands.proofs.CloneLaws.{clone_is}
 use Rattle.ua_script.proofs.TokenReadings.{Same, apart, clash, closed, many}
 
 -- ---- one token

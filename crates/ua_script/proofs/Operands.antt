@@ -11,7 +11,7 @@ use Rattle.ua_text.specs.Signs.{Wanted, Front}
 use Rattle.ua_text.specs.Reading.{begins_with}
 use Rattle.ua_term.specs.Reading.{IsEnd}
 use Rattle.ua_operands.specs.Reading.{begins_item}
-use Rattle.ua_operands.proofs.ReadLemmas.{begins_after}
+use Rattle.ua_operands.proofs.ReadLaws.{begins_after}
 use Rattle.ua_script.specs.declared.forms.CommandForm.{CommandForm}
 use Rattle.ua_script.specs.declared.script.Command.{Command}
 use Rattle.ua_text.specs.declared.tokens.Place.{Place}

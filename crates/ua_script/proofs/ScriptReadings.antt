@@ -17,8 +17,8 @@ use Rattle.ua_text.specs.Versions.{IsVersion}
 use Rattle.ua_text.specs.Reading.{begins_with, IsReadableBlock}
 use Rattle.ua_text.proofs.Readable.{readable}
 use Rattle.ua_text.proofs.ReadBack.{place_of}
-use Rattle.ua_text.proofs.WordLemmas.{same_itself}
-use Rattle.ua_text.proofs.SpelledLemmas.{spelled_left, spelled_right}
+use Rattle.ua_text.proofs.WordLaws.{same_itself}
+use Rattle.ua_text.proofs.SpelledLaws.{spelled_left, spelled_right}
 use Rattle.ua_operands.specs.Written.{vector, part, names}
 use Rattle.ua_operands.specs.Reading.{begins_item}
 use Rattle.ua_script.specs.declared.script.MakeForm.{MakeForm}
@@ -36,8 +36,8 @@ use Rattle.ua_script.specs.Reading.{ends, IsReadableItem, IsReadableScript}
 use Rattle.ua_script.specs.inner.Reading.{IsShortConstruction, IsShortValue, all_end}
 use Rattle.ua_script.proofs.Beginnings.{begun, no_block}
 use Rattle.ua_script.proofs.Certificates.{operands, word_at, by_certificate, kept_at}
-use Rattle.ua_script.proofs.ConstructionLemmas.{first_of, behind, construction_front}
-use Rattle.ua_script.proofs.ItemLemmas.{items_begin, item_some, no_version}
+use Rattle.ua_script.proofs.ConstructionLaws.{first_of, behind, construction_front}
+use Rattle.ua_script.proofs.ItemLaws.{items_begin, item_some, no_version}
 use Rattle.ua_script.specs.inner.Parts.{Ends}
 use Rattle.ua_script.proofs.Operands.{ends_well}
 use Rattle.ua_script.proofs.Shortness.{short_value}

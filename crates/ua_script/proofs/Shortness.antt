@@ -6,7 +6,7 @@ use Rattle.ua_text.specs.declared.symbols.Table.TheVariants.{Constructions, Poin
 use Rattle.ua_text.specs.declared.symbols.Part.{Part}
 use Rattle.ua_text.specs.declared.symbols.Part.TheVariants as parts
 use Rattle.ua_text.specs.Signs.{sign, AreSpelled}
-use Rattle.ua_text.proofs.SpelledLemmas.{spelled_left, spelled_right}
+use Rattle.ua_text.proofs.SpelledLaws.{spelled_left, spelled_right}
 use Rattle.ua_operands.specs.declared.written.Word.{Word}
 use Rattle.ua_operands.specs.declared.written.Number.{Number}
 use Rattle.ua_operands.specs.declared.written.Entry.{Entry}

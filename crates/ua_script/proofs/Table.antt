@@ -14,7 +14,7 @@ use Rattle.ua_text.specs.Signs.{IsAt}
 use Rattle.ua_text.proofs.ReadBack.{place_of}
 use Rattle.ua_text.specs.Words.{same}
 use Rattle.ua_text.specs.Machine.{Row, lookup, either}
-use Rattle.ua_text.proofs.WordLemmas.{same-true}
+use Rattle.ua_text.proofs.WordLaws.{same-true}
 use Rattle.ua_operands.specs.declared.written.Word.{Word}
 use Rattle.ua_operands.specs.declared.written.Number.{Number}
 use Rattle.ua_operands.specs.declared.written.Items.{Items as Entries}

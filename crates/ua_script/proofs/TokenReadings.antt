@@ -6,7 +6,7 @@ use Rattle.ua_text.specs.Pieces.{Placed}
 use Rattle.ua_text.specs.Words.{same}
 use Rattle.ua_text.specs.Signs.{Spelled, Wanted, IsSign, IsAt, may_spell, Front}
 use Rattle.ua_text.proofs.Spelling.{no_spell}
-use Rattle.ua_text.proofs.WordLemmas.{same_itself}
+use Rattle.ua_text.proofs.WordLaws.{same_itself}
 
 -- what is left begins with what is wanted next, in either reading
 pub record Left (us vs : List Wanted) (l r : List Placed) : Type 0 where

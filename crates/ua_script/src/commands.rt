@@ -5,7 +5,7 @@ ghost use Rattle.std.specs.Prelude.{◌≡◌, ◌≤◌, ◌<◌, ◌++◌, ℕ
 ghost use Rattle.ua_text.specs.declared.tokens.Place.{Place};
 ghost use Rattle.ua_text.specs.Signs.{Wanted, Front};
 ghost use Rattle.ua_text.specs.Tokens.{tokens_left, source_of};
-ghost use Rattle.ua_text.specs.Reading.{Gives};
+ghost use Rattle.ua_text.specs.Reading.{Takes, Gives};
 ghost use Rattle.ua_text.specs.Printing.{Shows};
 ghost use Rattle.ua_operands.specs.Reading.{begins_item};
 ghost use Rattle.ua_script.specs.declared.script.Command.{Command};
@@ -216,7 +216,7 @@ fn plain(alloc: Global, tokens: &mut Tokens<'_>) -> Result<Command, Miss>
 
 /// A command.
 pub fn command(alloc: Global, tokens: &mut Tokens<'_>) -> Result<Command, Miss>
-    ensures only { (v : ℕ) (c : Command) (ws : List Wanted) → IsReadableItem v (Item.Command c) → begins_item ws → Front (tokens_left tokens.old) (command c ++ ws) [] → Gives result (λ x. (x ≡ c) × Front (tokens_left tokens.new) ws []) }
+    ensures only { (v : ℕ) (c : Command) (ws : List Wanted) → IsReadableItem v (Item.Command c) → begins_item ws → Takes tokens.old tokens.new result (λ x. x ≡ c) (command c) ws [] }
     ensures progress { IfOk result (λ x. length (tokens_left tokens.new) < length (tokens_left tokens.old)) }
     ensures source { source_of tokens.new ≡ source_of tokens.old }
 {

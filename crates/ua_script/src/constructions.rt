@@ -4,7 +4,7 @@
 ghost use Rattle.std.specs.Prelude.{◌≡◌, ◌<◌, ◌++◌, List, [], length, IfOk, OnOk};
 ghost use Rattle.ua_text.specs.Signs.{Wanted, Front};
 ghost use Rattle.ua_text.specs.Tokens.{tokens_left, source_of};
-ghost use Rattle.ua_text.specs.Reading.{Gives};
+ghost use Rattle.ua_text.specs.Reading.{Takes};
 ghost use Rattle.ua_text.specs.Printing.{Shows};
 ghost use Rattle.ua_operands.specs.Reading.{begins_item};
 ghost use Rattle.ua_script.specs.declared.script.MakeForm.{MakeForm};
@@ -19,7 +19,7 @@ use ua_text::{Miss, Printer, Role, Tokens, next};
 
 /// Reads a construction.
 pub fn construction(alloc: Global, tokens: &mut Tokens<'_>) -> Result<MakeForm, Miss>
-    ensures only { (m : MakeForm) (ws : List Wanted) → IsShortConstruction m → begins_item ws → Front (tokens_left tokens.old) (construction m ++ ws) [] → Gives result (λ x. (x ≡ m) × Front (tokens_left tokens.new) ws []) }
+    ensures only { (m : MakeForm) (ws : List Wanted) → IsShortConstruction m → begins_item ws → Takes tokens.old tokens.new result (λ x. x ≡ m) (construction m) ws [] }
     ensures progress { IfOk result (λ x. length (tokens_left tokens.new) < length (tokens_left tokens.old)) }
     ensures source { source_of tokens.new ≡ source_of tokens.old }
 {

@@ -5,7 +5,7 @@ ghost use Rattle.std.specs.List.{flat_map, AllByRecursion};
 ghost use Rattle.ua_text.specs.Signs.{Wanted, Front};
 ghost use Rattle.ua_text.specs.Versions.{IsVersion};
 ghost use Rattle.ua_text.specs.Tokens.{tokens_left, source_of};
-ghost use Rattle.ua_text.specs.Reading.{Gives, begins_with};
+ghost use Rattle.ua_text.specs.Reading.{Takes, Gives, begins_with};
 ghost use Rattle.ua_script.specs.declared.script.Script.{Script};
 ghost use Rattle.ua_script.specs.declared.script.Item.{Item};
 ghost use Rattle.ua_script.specs.Grammar.{item, written, IsOpening};
@@ -20,7 +20,7 @@ use ua_text::{Miss, Tokens, exact, is_next, is_over, number, read_body};
 
 /// A block or a command.
 fn item(alloc: Global, tokens: &mut Tokens<'_>) -> Result<Item, Miss>
-    ensures only { (v : ℕ) (i : Item) (ws : List Wanted) → IsReadableItem v i → begins_item ws → Front (tokens_left tokens.old) (item i ++ ws) [] → Gives result (λ x. (x ≡ i) × Front (tokens_left tokens.new) ws []) }
+    ensures only { (v : ℕ) (i : Item) (ws : List Wanted) → IsReadableItem v i → begins_item ws → Takes tokens.old tokens.new result (λ x. x ≡ i) (item i) ws [] }
     ensures progress { IfOk result (λ x. length (tokens_left tokens.new) < length (tokens_left tokens.old)) }
     ensures source { source_of tokens.new ≡ source_of tokens.old }
 {
@@ -45,7 +45,7 @@ fn items(alloc: Global, tokens: &mut Tokens<'_>) -> Result<Listed<Item>, Miss>
 
 /// The version of a script: what its line tells, or else 1.
 fn version(tokens: &mut Tokens<'_>) -> Result<u8, Miss>
-    ensures only { (v : ℕ) (front ws : List Wanted) → IsVersion v → IsOpening v front → begins_with (codes "version") ws ≡ false → Front (tokens_left tokens.old) (front ++ ws) [] → Gives result (λ x. (x ≡ v) × Front (tokens_left tokens.new) ws []) }
+    ensures only { (v : ℕ) (front ws : List Wanted) → IsVersion v → IsOpening v front → begins_with (codes "version") ws ≡ false → Takes tokens.old tokens.new result (λ x. x ≡ v) front ws [] }
 {
     if !is_next(tokens, b"version") {
         return Ok(1);

@@ -12,7 +12,7 @@ use Rattle.ua_text.specs.declared.symbols.Role.TheVariants as roles
 use Rattle.ua_text.specs.Signs.{Wanted, AreSpelled, sign}
 use Rattle.ua_text.specs.Blocks.{block, operation, IsBlock}
 use Rattle.ua_text.proofs.PrintedBlocks.{formed_block, spelled_operation}
-use Rattle.ua_text.proofs.SpelledLemmas.{spelled_both}
+use Rattle.ua_text.proofs.SpelledLaws.{spelled_both}
 use Rattle.ua_prod.specs.Draws.{next_state, state_after, drawn, draws, drawn_algebra, drawn_operation}
 use Rattle.ua_prod.proofs.DrawLaws.{draws_more, drawn-IsAlgebraTable, numbered-is_name, state_sum}
 use Rattle.ua_operands.specs.Written.{entry as entry_sign, vector}

@@ -161,4 +161,8 @@ graph_of a b gens images pairs h x y z first second = h.function x y z (from_two
         (Contains-map two (value_at a f (elements_in of.list), value_at b f (images_in of.list)) pairs (h.homomorphism f of.list within long of.held))
 
     in_pairs : (v : Vector) → Sg (both a b) (with_images gens images) v → Contains (map two pairs) v
-    in_pairs = Sg-least (both a b) (with_images gens images) (map two pairs) (all_map (Contains (map two pairs)) two (zip gens images) (all_weaker (Contains pairs) (λ q. Contains (map two pairs) (two q)) (λ q c. Contains-map two q pairs c) (zip gens images) h.generators)) closed
+    in_pairs =
+        Sg-least (both a b) (with_images gens images) (map two pairs)
+        (all_map (Contains (map two pairs)) two (zip gens images)
+        (all_weaker (Contains pairs) (λ q. Contains (map two pairs) (two q)) (λ q c. Contains-map two q pairs c) (zip gens images) h.generators))
+        closed

@@ -12,7 +12,7 @@ use Rattle.std.proofs.lemmas.List.Elements.{All-from_recursion}
 use Rattle.std.proofs.lemmas.Option.{slice_get_within}
 use Rattle.ua_table.specs.Algebras.{Operation, FiniteAlgebra, IsAlgebra, arities_of, value_at, numeral, signature}
 use Rattle.ua_table.specs.Tables.{IsTable}
-use Rattle.ua_table.proofs.ApplyLemmas.{arities_at, numeral-below}
+use Rattle.ua_table.proofs.ApplyLaws.{arities_at, numeral-below}
 use Rattle.ua_table.proofs.Codes.{same_digits, numeral_zeros}
 use Rattle.ua_table.proofs.Lists.{all_replicate}
 use Rattle.ua_prod.proofs.ClashLaws.{arity_is, size_is, value_is}
@@ -35,7 +35,8 @@ pub images_below : (n : ℕ) (images args : List ℕ) → AllByRecursion (λ x. 
 images_below n images [] h k = tt
 images_below n images (x ∷ xs) h k = (All-from_recursion (λ y. y < n) images h x 0 k.0, images_below n images xs h k.1)
 
-pub images_more : (images args list : List ℕ) (i x : ℕ) → take i list ≡ images_of images (take i args) → i < length list → i < length args → x ≡ get_or args i 0 → take (i + 1) (set list i (slice_index images x)) ≡ images_of images (take (i + 1) args)
+pub images_more : (images args list : List ℕ) (i x : ℕ) → take i list ≡ images_of images (take i args) → i < length list → i < length args
+    → x ≡ get_or args i 0 → take (i + 1) (set list i (slice_index images x)) ≡ images_of images (take (i + 1) args)
 images_more images args list i x before low within is =
     take_more_set list i (slice_index images x) low
     ∙ (λ k. before k ++ slice_index images (is k) ∷ [])
@@ -90,7 +91,9 @@ module _ (a b : FiniteAlgebra) (images : List ℕ) (f count : ℕ) (o : Operatio
     value_here = value_is a f o stands (take count args) ∙ ap (slice_index o.values) number_is
 
     -- whether the map goes with the operation here is told by two values of the tables
-    pub goes_here : (o' : Operation) → IsAlgebra b → slice_get b.operations f ≡ Some o' → (x y : ℕ) → x ≡ slice_index o.values index → y ≡ slice_index o'.values (numeral o'.size (images_of images (take count args))) → GoesWith a b images f (take count args) ↔ (slice_index images x ≡ y)
+    pub goes_here : (o' : Operation) → IsAlgebra b → slice_get b.operations f ≡ Some o' → (x y : ℕ) → x ≡ slice_index o.values index
+        → y ≡ slice_index o'.values (numeral o'.size (images_of images (take count args)))
+        → GoesWith a b images f (take count args) ↔ (slice_index images x ≡ y)
     goes_here o' alg_b stands_b x y x_is y_is =
         let left : slice_index images (value_at a f (take count args)) ≡ slice_index images x = ap (slice_index images) (value_here ∙ sym x_is) in
         let right : value_at b f (images_of images (take count args)) ≡ y =

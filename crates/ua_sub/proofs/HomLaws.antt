@@ -74,7 +74,9 @@ frame_is a b algebras names p algebras_are names_are h = of_two p (subst (λ (q 
 
 -- rows of a subuniverse of two coordinates have two entries
 pub widths : (p : Product) (gens : List Vector) (rows : List Row) → length p ≡ 2 → ((v : Vector) → Sg p gens v → IsVector p v) → IsListing p gens rows → AllByRecursion (λ (v : Vector). length v ≡ 2) (vectors_of rows)
-widths p gens rows two_wide vectors listing = all_from_contains (λ (v : Vector). length v ≡ 2) (vectors_of rows) (λ v c. sym (AllZip-length (λ (x : FiniteAlgebra) y. y < x.size) p v (vectors v (vector_in p gens rows listing v c))) ∙ two_wide)
+widths p gens rows two_wide vectors listing =
+    all_from_contains (λ (v : Vector). length v ≡ 2) (vectors_of rows)
+    (λ v c. sym (AllZip-length (λ (x : FiniteAlgebra) y. y < x.size) p v (vectors v (vector_in p gens rows listing v c))) ∙ two_wide)
 
 -- ---- pairs that clash
 
@@ -149,7 +151,9 @@ module _ (rows : List Row) (once : EachOnceBelow (length rows) (ranks_of rows)) 
 
 module _ (rows : List Row) (once : EachOnceBelow (length rows) (ranks_of rows)) (rank place : ℕ) (at : slice_get (ranks_of rows) place ≡ Some rank) where
   -- one row more is looked at that does not clash with a later one
-  pub earlier_more : (later : ℕ) (q r : ℕ × ℕ) → slice_get (vectors_of rows) later ≡ Some (two q) → slice_get (vectors_of rows) place ≡ Some (two r) → ¬ ((r.0 ≡ q.0) × (r.1 ≢ q.1)) → ((i : ℕ) → ClashInOrder rows i later → rank ≤ rank_at rows i) → (i : ℕ) → ClashInOrder rows i later → rank + 1 ≤ rank_at rows i
+  pub earlier_more : (later : ℕ) (q r : ℕ × ℕ) → slice_get (vectors_of rows) later ≡ Some (two q) → slice_get (vectors_of rows) place ≡ Some (two r)
+      → ¬ ((r.0 ≡ q.0) × (r.1 ≢ q.1)) → ((i : ℕ) → ClashInOrder rows i later → rank ≤ rank_at rows i) → (i : ℕ) → ClashInOrder rows i later
+      → rank + 1 ≤ rank_at rows i
   earlier_more later q r at_q at_r apart before i clash = ⊎_elim
       (λ here.
       let same = one_rank rows once i place clash.earlier_within (position_is rows place rank at).0 (here ∙ sym (position_is rows place rank at).1) in
@@ -160,7 +164,9 @@ module _ (rows : List Row) (once : EachOnceBelow (length rows) (ranks_of rows)) 
       (cases_eq (rank_at rows i) rank)
 
   -- or that does
-  pub clash_here : (later rank_later : ℕ) (q r : ℕ × ℕ) → slice_get (ranks_of rows) later ≡ Some rank_later → rank < rank_later → slice_get (vectors_of rows) later ≡ Some (two q) → slice_get (vectors_of rows) place ≡ Some (two r) → r.0 ≡ q.0 → r.1 ≢ q.1 → ClashInOrder rows place later
+  pub clash_here : (later rank_later : ℕ) (q r : ℕ × ℕ) → slice_get (ranks_of rows) later ≡ Some rank_later → rank < rank_later
+      → slice_get (vectors_of rows) later ≡ Some (two q) → slice_get (vectors_of rows) place ≡ Some (two r) → r.0 ≡ q.0 → r.1 ≢ q.1
+      → ClashInOrder rows place later
   clash_here later rank_later q r at_later low at_q at_r same apart =
       let here = position_is rows place rank at in
       let there = position_is rows later rank_later at_later in
@@ -203,7 +209,10 @@ map_is p gens b rows pairs closed unmet same = record {
     they_clash x y z apart = or_left (list_any (clashes (two (x, y))) (two (x, z) ∷ [])) (has_clash (two (x, z) ∷ [])) (or_left (clashes (two (x, y)) (two (x, z))) false (clash_from (two (x, y)) (two (x, z)) refl apart))
 
 -- of the rows of a clash
-pub clash_is : (p : Product) (gens : List Vector) (rows : List Row) (earlier later : ℕ) (q r : ℕ × ℕ) (first second : StepList) → IsFirstPairClash rows earlier later → slice_get (vectors_of rows) earlier ≡ Some (two q) → slice_get (vectors_of rows) later ≡ Some (two r) → AreStepsTo p gens (two q) first → AreStepsTo p gens (two r) second → AreStepsFor (arities p) rows earlier first.items → AreStepsFor (arities p) rows later second.items
+pub clash_is : (p : Product) (gens : List Vector) (rows : List Row) (earlier later : ℕ) (q r : ℕ × ℕ) (first second : StepList)
+    → IsFirstPairClash rows earlier later → slice_get (vectors_of rows) earlier ≡ Some (two q) → slice_get (vectors_of rows) later ≡ Some (two r)
+    → AreStepsTo p gens (two q) first → AreStepsTo p gens (two r) second → AreStepsFor (arities p) rows earlier first.items
+    → AreStepsFor (arities p) rows later second.items
     → IsPairClash p gens q.0 q.1 r.1 first second × IsListedClash (arities p) rows q.0 q.1 r.1 first second
 clash_is p gens rows earlier later q r first second clash at_q at_r to_q to_r for_q for_r =
     let q_is : vector_at rows earlier ≡ two q = get_or_from_slice_get (vectors_of rows) earlier (two q) [] at_q in
@@ -223,7 +232,9 @@ clash_is p gens rows earlier later q r first second clash at_q at_r to_q to_r fo
     )
 
 -- of two algebras of one signature
-pub of_both : (a b : FiniteAlgebra) (gens images : List ℕ) (p : Product) (pairs : List Vector) (budget workers : ℕ) (answer : Result Hom HomError) → signature b ≡ signature a → p ≡ both a b → pairs ≡ with_images gens images → MayMapPairs p pairs budget workers answer → MayMap a b gens images budget workers answer
+pub of_both : (a b : FiniteAlgebra) (gens images : List ℕ) (p : Product) (pairs : List Vector) (budget workers : ℕ) (answer : Result Hom HomError)
+    → signature b ≡ signature a → p ≡ both a b → pairs ≡ with_images gens images → MayMapPairs p pairs budget workers answer
+    → MayMap a b gens images budget workers answer
 of_both a b gens images p pairs budget workers answer similar p_is pairs_are h = by answer (subst (λ (q : Product × List Vector). MayMapPairs q.0 q.1 budget workers answer) (λ i. (p_is i, pairs_are i)) h)
   where
     by : (answer : Result Hom HomError) → MayMapPairs (both a b) (with_images gens images) budget workers answer → MayMap a b gens images budget workers answer

@@ -92,7 +92,8 @@ entries_more xs x vs i v same at one e =
         (let n : i + 1 ≡ suc i = omega arith in ap (λ m. take m vs) n) ∙ take-suc vs i v (slice_get_within vs i v e) ∙ ap (λ (w : Vector). take i vs ++ w ∷ []) (get_or_from_slice_get vs i v v e)
 
 -- the rows of a closed listing of width 1 have one entry
-pub one_entry : (a : FiniteAlgebra) (gens : List ℕ) (b : ℕ) (rows : List Row) → ((v : Vector) → Sg (a ∷ []) (singles gens) v → IsVector (a ∷ []) v) → IsClosedListing (a ∷ []) (singles gens) b rows → AllByRecursion (λ (v : Vector). length v ≡ 1) (vectors_of rows)
+pub one_entry : (a : FiniteAlgebra) (gens : List ℕ) (b : ℕ) (rows : List Row) → ((v : Vector) → Sg (a ∷ []) (singles gens) v → IsVector (a ∷ []) v)
+    → IsClosedListing (a ∷ []) (singles gens) b rows → AllByRecursion (λ (v : Vector). length v ≡ 1) (vectors_of rows)
 one_entry a gens b rows vectors closed = all_from_contains (λ (v : Vector). length v ≡ 1) (vectors_of rows) (λ v c. sym (AllZip-length (λ (x : FiniteAlgebra) y. y < x.size) (a ∷ []) v (vectors v ((closed.exact v).0 c))))
 
 -- ---- why every set of elements is closed
@@ -123,7 +124,9 @@ never_wide a gens few shape wide = ⊎_elim
 
 -- ---- one list more
 
-pub ones_more : (a : FiniteAlgebra) (n : ℕ) (lists lists' : List (Vec ℕ Global)) (members : Vec ℕ Global) → AllZip (λ x ms. AreMembers a (x ∷ []) ms) (numbers_below n) (contents lists) → lists' ≡ lists ++ members ∷ [] → AreMembers a (n ∷ []) members.items
+pub ones_more : (a : FiniteAlgebra) (n : ℕ) (lists lists' : List (Vec ℕ Global)) (members : Vec ℕ Global)
+    → AllZip (λ x ms. AreMembers a (x ∷ []) ms) (numbers_below n) (contents lists) → lists' ≡ lists ++ members ∷ []
+    → AreMembers a (n ∷ []) members.items
     → AllZip (λ x ms. AreMembers a (x ∷ []) ms) (numbers_below (n + 1)) (contents lists')
 ones_more a n lists lists' members before same here =
     let e : suc n ≡ n + 1 = omega arith in
@@ -158,4 +161,6 @@ module _ (a : FiniteAlgebra) (gens members : List ℕ) (are : AreMembers a gens 
   members_closed f args within arity all =
       (are.exact (value_at a f args)).1
       (subst (λ (xs : List ℕ). Sg (a ∷ []) (singles gens) (value_at a f xs ∷ [])) (column_singles args)
-      (result_in (a ∷ []) (singles gens) f (singles args) within (length-map args (λ x. x ∷ []) ∙ arity) (all_map (Sg (a ∷ []) (singles gens)) (λ x. x ∷ []) args (all_weaker (Contains members) (λ x. Sg (a ∷ []) (singles gens) (x ∷ [])) (λ x c. (are.exact x).0 c) args all))))
+      (result_in (a ∷ []) (singles gens) f (singles args) within (length-map args (λ x. x ∷ []) ∙ arity)
+      (all_map (Sg (a ∷ []) (singles gens)) (λ x. x ∷ []) args
+      (all_weaker (Contains members) (λ x. Sg (a ∷ []) (singles gens) (x ∷ [])) (λ x c. (are.exact x).0 c) args all))))

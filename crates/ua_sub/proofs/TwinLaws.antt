@@ -77,7 +77,8 @@ content_at (u ∷ us) zero v w e = ap (λ (z : Vec ℕ Global). z.items) (sym e)
 content_at (u ∷ us) (suc y) v w e = content_at us y v (omega (arith, w)) e
 
 -- the list of an element that generates the same
-pub twin_members : (question : Question) (y : ℕ) (v : Vec ℕ Global) → AreOnesBelow question.algebra.now question.element (contents question.lists.now) → IsTwin question y → v ≡ get_or question.lists.now y v → AreMembers question.algebra.now (question.element ∷ []) v.items
+pub twin_members : (question : Question) (y : ℕ) (v : Vec ℕ Global) → AreOnesBelow question.algebra.now question.element (contents question.lists.now)
+    → IsTwin question y → v ≡ get_or question.lists.now y v → AreMembers question.algebra.now (question.element ∷ []) v.items
 twin_members question y v all twin e =
     let a = question.algebra.now in
     let x = question.element in
@@ -92,7 +93,9 @@ twin_members question y v all twin e =
 -- ---- values
 
 -- the value of an operation at generated elements
-pub value_generated : (a : FiniteAlgebra) (x f : ℕ) (o : Operation) (args : List ℕ) → IsAlgebra a → slice_get a.operations f ≡ Some o → f < length (arities_of a) → length args ≡ o.arity → AllByRecursion (Generates a x) args → Generates a x (slice_index o.values (numeral o.size args))
+pub value_generated : (a : FiniteAlgebra) (x f : ℕ) (o : Operation) (args : List ℕ) → IsAlgebra a → slice_get a.operations f ≡ Some o
+    → f < length (arities_of a) → length args ≡ o.arity → AllByRecursion (Generates a x) args
+    → Generates a x (slice_index o.values (numeral o.size args))
 value_generated a x f o args alg stands w count all =
     let gens = singles (x ∷ []) in
     let is : value_at a f args ≡ slice_index o.values (numeral o.size args) = value_is a f o stands args ∙ ap (λ n. slice_index o.values (numeral n args)) (sym (size_is a f o alg stands)) in
@@ -115,7 +118,9 @@ equal_from x y e = ⊎_elim
     (cases_lt x y)
 
 -- a list in which the element is found
-pub listed_has : (lists : List (Vec ℕ Global)) (y x : ℕ) (v : Vec ℕ Global) (members : List ℕ) (r : Result ℕ ℕ) → y < length lists → v ≡ get_or lists y v → members ≡ (get_or lists y v).items → IsSearchInRange r (length members) → IfOk r (HoldsAt (λ z. nat_cmp z x ≡ Equal) members) → is_ok r ≡ true → Contains (slice_index_or (contents lists) y []) x
+pub listed_has : (lists : List (Vec ℕ Global)) (y x : ℕ) (v : Vec ℕ Global) (members : List ℕ) (r : Result ℕ ℕ) → y < length lists
+    → v ≡ get_or lists y v → members ≡ (get_or lists y v).items → IsSearchInRange r (length members)
+    → IfOk r (HoldsAt (λ z. nat_cmp z x ≡ Equal) members) → is_ok r ≡ true → Contains (slice_index_or (contents lists) y []) x
 listed_has lists y x v members (Ok k) w e same range equal t =
     subst (λ (ms : List ℕ). Contains ms x) (same ∙ ap (λ (u : Vec ℕ Global). u.items) (sym e) ∙ sym (content_at lists y v w e)) (Contains-from_at members x (k, range, λ d. equal_from (slice_index_or members k d) x (equal d)))
 listed_has lists y x v members (Err k) w e same range equal t = absurd (cc)

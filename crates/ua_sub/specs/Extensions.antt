@@ -17,4 +17,5 @@ pub record IsExtension (a b : FiniteAlgebra) (gens images : List ℕ) (pairs : L
   pub elements : (x : ℕ) → Contains (elements_in pairs) x ↔ Sg (a ∷ []) (singles gens) (x ∷ [])
   pub function : (x y z : ℕ) → Contains pairs (x, y) → Contains pairs (x, z) → y ≡ z
   pub generators : AllByRecursion (Contains pairs) (zip gens images)
-  pub homomorphism : (f : ℕ) (args : List (ℕ × ℕ)) → f < length (arities_of a) → length args ≡ slice_index (arities_of a) f → AllByRecursion (Contains pairs) args → Contains pairs (value_at a f (elements_in args), value_at b f (images_in args))
+  pub homomorphism : (f : ℕ) (args : List (ℕ × ℕ)) → f < length (arities_of a) → length args ≡ slice_index (arities_of a) f
+      → AllByRecursion (Contains pairs) args → Contains pairs (value_at a f (elements_in args), value_at b f (images_in args))

@@ -19,7 +19,7 @@ use ua_close::laws::memberships;
 /// operations. So it is the universe of a subalgebra, where there is any.
 pub fn members()
     ensures exist { (a : FiniteAlgebra) (gens : List ℕ) → IsAlgebra a → AllByRecursion (λ x. x < a.size) gens → HasMembers a gens }
-    ensures ones { (a : FiniteAlgebra) → IsAlgebra a → HasOnes a }
+    ensures each_alone { (a : FiniteAlgebra) → IsAlgebra a → HasOnes a }
     ensures generators { (a : FiniteAlgebra) (gens members : List ℕ) → AreMembers a gens members → AllByRecursion (Contains members) gens }
     ensures below { (a : FiniteAlgebra) (gens members : List ℕ) → IsAlgebra a → AllByRecursion (λ x. x < a.size) gens → AreMembers a gens members → AllByRecursion (λ x. x < a.size) members }
     ensures closed { (a : FiniteAlgebra) (gens members : List ℕ) (f : ℕ) (args : List ℕ) → AreMembers a gens members → f < length (arities_of a) → length args ≡ slice_index (arities_of a) f → AllByRecursion (Contains members) args → Contains members (value_at a f args) }

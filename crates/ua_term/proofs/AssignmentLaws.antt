@@ -13,7 +13,7 @@ use Rattle.ua_table.specs.declared.spans.Span.{Span}
 use Rattle.ua_table.specs.Numbering.{choices}
 use Rattle.ua_table.specs.Spans.{ranges, tuples}
 use Rattle.ua_table.specs.Terms.{Tree, Generator, Application, IsTerm, term_value, term_values, eval}
-use Rattle.ua_table.proofs.ApplyLemmas.{length-apply, numeral-below}
+use Rattle.ua_table.proofs.ApplyLaws.{length-apply, numeral-below}
 use Rattle.ua_table.proofs.Choices.{IsChoice, chosen, choice_from, in_range, range_low}
 use Rattle.ua_table.proofs.Codes.{numeral-cons}
 use Rattle.ua_table.proofs.Lists.{slice_get-replicate, Contains-head, Contains-tail}

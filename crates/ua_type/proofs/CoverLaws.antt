@@ -20,7 +20,8 @@ module _ (a : FiniteAlgebra) (budget : ℕ) (list : List Partition) (covers : Li
     pub places : map places_of rows ≡ take k covers
     pub types : AllByRecursion (IsRow a budget list) rows
 
-module _ (a : FiniteAlgebra) (budget : ℕ) (list : List Partition) (covers : List (ℕ × ℕ)) (k : ℕ) (rows : List (ℕ × ℕ × Typed)) (cover : ℕ × ℕ) (w : k < length covers) (is : get_or covers k (0, 0) ≡ cover) (h : AreRows a budget list covers k rows) where
+module _ (a : FiniteAlgebra) (budget : ℕ) (list : List Partition) (covers : List (ℕ × ℕ)) (k : ℕ) (rows : List (ℕ × ℕ × Typed)) (cover : ℕ × ℕ)
+    (w : k < length covers) (is : get_or covers k (0, 0) ≡ cover) (h : AreRows a budget list covers k rows) where
   pub row_more : (new : List (ℕ × ℕ × Typed)) (typed : Typed) → new ≡ rows ++ (cover.0, cover.1, typed) ∷ [] → MayType a (at list cover.0) (at list cover.1) budget (Ok typed) → AreRows a budget list covers (k + 1) new
   row_more new typed pushed told =
       let row : ℕ × ℕ × Typed = (cover.0, cover.1, typed) in
@@ -69,6 +70,7 @@ module _ (a : FiniteAlgebra) (list : List Partition) (covers : List (ℕ × ℕ)
 
 -- ---- in the whole lattice
 
-pub types_refused : (a : FiniteAlgebra) (budget : ℕ) (list : List Partition) (covers : List (ℕ × ℕ)) (irreducibles : List ℕ) → IsWholeLattice a budget list covers irreducibles → (e : CloseError) → MayTable a budget list covers (Err e) → MayTypes a budget (Err e)
+pub types_refused : (a : FiniteAlgebra) (budget : ℕ) (list : List Partition) (covers : List (ℕ × ℕ)) (irreducibles : List ℕ)
+    → IsWholeLattice a budget list covers irreducibles → (e : CloseError) → MayTable a budget list covers (Err e) → MayTypes a budget (Err e)
 types_refused a budget list covers irreducibles lattice (Wide r c) h = record { list = list; covers = covers; irreducibles = irreducibles; lattice = lattice; among = h }
 types_refused a budget list covers irreducibles lattice OutOfMemory h = tt

@@ -101,7 +101,9 @@ module _ (b : FiniteAlgebra) (theta : Partition) (cb : IsCongruence b theta) (de
       (cases_eq p.0 p.1))
       (search_in x y s ps)
     where
-      goes : ((c d : ℕ) → Contains ps (c, d) → Generates b x y c d → c ≢ d → Generates b c d x y) → (Generates b x y p.0 p.1 → p.0 ≢ p.1 → Generates b p.0 p.1 x y) → (c d : ℕ) → Contains (p ∷ ps) (c, d) → Generates b x y c d → c ≢ d → Generates b c d x y
+      goes : ((c d : ℕ) → Contains ps (c, d) → Generates b x y c d → c ≢ d → Generates b c d x y)
+          → (Generates b x y p.0 p.1 → p.0 ≢ p.1 → Generates b p.0 p.1 x y) → (c d : ℕ) → Contains (p ∷ ps) (c, d) → Generates b x y c d → c ≢ d
+          → Generates b c d x y
       goes rest here c d h g n = ⊎_elim
           (λ same. let first : p.0 ≡ c = ap (λ (q : ℕ × ℕ). q.0) same in let second : p.1 ≡ d = ap (λ (q : ℕ × ℕ). q.1) same in
           subst (λ u. Generates b u d x y) first (subst (λ v. Generates b p.0 v x y) second

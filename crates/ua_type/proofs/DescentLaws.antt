@@ -85,7 +85,9 @@ module _ (b : FiniteAlgebra) (budget : ℕ) where
 
   -- the same of another descent with this pair and list
   pub back_below : (old new : Descent) (n : ℕ) → new.pair ≡ old.pair → new.list ≡ old.list → GoBackBelow b old n → GoBackBelow b new n
-  back_below old new n same list h j w = subst (λ (p : ℕ × ℕ). GoesBack b (slice_index_or (vectors_of new.list) j []) p) (sym same) (subst (λ (rows : List Row). GoesBack b (slice_index_or (vectors_of rows) j []) old.pair) (sym list) (h j w))
+  back_below old new n same list h j w =
+      subst (λ (p : ℕ × ℕ). GoesBack b (slice_index_or (vectors_of new.list) j []) p) (sym same)
+      (subst (λ (rows : List Row). GoesBack b (slice_index_or (vectors_of rows) j []) old.pair) (sym list) (h j w))
 
   -- each pair of different elements that the pair generates goes back
   pub all_back : (d : Descent) (n : ℕ) → IsDescent b budget d → length (vectors_of d.list) ≤ n → GoBackBelow b d n → (c e : ℕ) → Generates b d.pair.0 d.pair.1 c e → c ≢ e → Generates b c e d.pair.0 d.pair.1
@@ -97,7 +99,8 @@ module _ (b : FiniteAlgebra) (budget : ℕ) where
       subst (λ v. GoesBack b v d.pair) at (back in_it.0 (omega (arith, low, all))) apart
 
   -- a descent goes on to a pair that lacks the pair
-  pub descent_down : (old new : Descent) (q : ℕ × ℕ) → new.pair ≡ q → new.above.items ≡ old.above.items ++ q ∷ [] → Generates b old.pair.0 old.pair.1 q.0 q.1 → IsLacking b budget q old.pair new.list → IsDescent b budget old → IsDescent b budget new
+  pub descent_down : (old new : Descent) (q : ℕ × ℕ) → new.pair ≡ q → new.above.items ≡ old.above.items ++ q ∷ []
+      → Generates b old.pair.0 old.pair.1 q.0 q.1 → IsLacking b budget q old.pair new.list → IsDescent b budget old → IsDescent b budget new
   descent_down old new q same above g lacking d = record {
     first = subst (λ (p : ℕ × ℕ). p.0 < b.size) (sym same) lacking.first;
     second = subst (λ (p : ℕ × ℕ). p.1 < b.size) (sym same) lacking.second;
@@ -125,7 +128,9 @@ module _ (b : FiniteAlgebra) (budget : ℕ) where
   within_of d h = closed_has_no_more (replicate 2 b) (pair_generators b d.pair.0 d.pair.1) budget d.list h.closed
 
   -- what sifting tells of the pair
-  pub sifted_minimal : (d : Descent) (swap : Bool) → IsDescent b budget d → ((c e : ℕ) → Generates b d.pair.0 d.pair.1 c e → c ≢ e → Generates b c e d.pair.0 d.pair.1) → (IsTrue swap ↔ Contains (vectors_of d.list) (d.pair.1 ∷ d.pair.0 ∷ [])) → IsMinimal b budget d.pair.0 d.pair.1 swap
+  pub sifted_minimal : (d : Descent) (swap : Bool) → IsDescent b budget d
+      → ((c e : ℕ) → Generates b d.pair.0 d.pair.1 c e → c ≢ e → Generates b c e d.pair.0 d.pair.1)
+      → (IsTrue swap ↔ Contains (vectors_of d.list) (d.pair.1 ∷ d.pair.0 ∷ [])) → IsMinimal b budget d.pair.0 d.pair.1 swap
   sifted_minimal d swap h all told = record {
     within = within_of d h;
     minimal = all;

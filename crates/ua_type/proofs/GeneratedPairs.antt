@@ -87,7 +87,8 @@ module _ (b : FiniteAlgebra) (theta : Partition) (cb : IsCongruence b theta) (x 
   pub generates_related : (c d : ℕ) → Generates b x y c d → SameBlock theta c d
   generates_related c d g =
       let gens = pair_generators b x y in
-      let entry : (i : ℕ) → slice_get (replicate 2 b) i ≡ Some b → slice_index (c ∷ d ∷ []) i ≡ eval b (column gens i) g.term = (λ i at. ap (λ (w : Vector). slice_index w i) (sym g.value) ∙ value_is_eval (replicate 2 b) gens i b at g.term) in
+      let entry : (i : ℕ) → slice_get (replicate 2 b) i ≡ Some b → slice_index (c ∷ d ∷ []) i ≡ eval b (column gens i) g.term =
+      (λ i at. ap (λ (w : Vector). slice_index w i) (sym g.value) ∙ value_is_eval (replicate 2 b) gens i b at g.term) in
       let is : IsTerm (arities_of b) (length (column gens 0)) g.term = subst (λ n. IsTerm (arities_of b) n g.term) (sym (length-map gens (λ (v : Vector). slice_index v 0))) g.is_term in
       let r = eval_related b theta cb (column gens 0) (column gens 1) (columns_related theta gens generators_related) g.term is in
       subst (λ z. SameBlock theta z d) (sym (entry 0 refl)) (subst (SameBlock theta (eval b (column gens 0) g.term)) (sym (entry 1 refl)) r)

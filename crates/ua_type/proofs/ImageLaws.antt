@@ -5,7 +5,7 @@ use Rattle.std.specs.List.{AllByRecursion, AllZip}
 use Rattle.std.proofs.lemmas.Bool.{cases_eq}
 use Rattle.std.proofs.lemmas.List.{length-map}
 use Rattle.ua_table.specs.Algebras.{FiniteAlgebra, IsAlgebra, arities_of, value_at}
-use Rattle.ua_table.proofs.ApplyLemmas.{value-below}
+use Rattle.ua_table.proofs.ApplyLaws.{value-below}
 use Rattle.ua_table.proofs.Lists.{AllZip-length}
 use Rattle.ua_part.specs.Partitions.{Partition, SameBlock, LiesBelow}
 use Rattle.ua_part.specs.Blocks.{leaders}
@@ -62,7 +62,9 @@ module _ (a : FiniteAlgebra) (p q : Partition) (alg : IsAlgebra a) (cp : IsCongr
   all_leaders_related (x ∷ xs) (y ∷ ys) h = (leaders_related x y h.0, all_leaders_related xs ys h.1)
 
   -- the block of a value leads to the value, as q sees it
-  value_led : (f : ℕ) (xs : List ℕ) → f < length (arities_of a) → length xs ≡ slice_index (arities_of a) f → AllByRecursion (λ k. k < length (leaders p)) xs → slice_index q (leader_of p (value_at b f xs)) ≡ slice_index q (value_at a f (map (leader_of p) xs))
+  value_led : (f : ℕ) (xs : List ℕ) → f < length (arities_of a) → length xs ≡ slice_index (arities_of a) f
+      → AllByRecursion (λ k. k < length (leaders p)) xs
+      → slice_index q (leader_of p (value_at b f xs)) ≡ slice_index q (value_at a f (map (leader_of p) xs))
   value_led f xs w count h =
       let v = value-below a f (map (leader_of p) xs) alg w (length-map xs (leader_of p) ∙ count) (all_leaders_below p a.size cp.size xs h) in
       let n = cp.size in

@@ -81,7 +81,10 @@ module _ (b : FiniteAlgebra) (budget : ℕ) where
   settled_after_meeting (Some o) None holds order h = absurd order
   settled_after_meeting (Some o) (Some n) holds order h = λ q e. settled_earlier o n q.0 q.1 order (h q e)
 
-  pub settled_more : (least : Option SubtracePair) (old new : ℕ × ℕ → Bool) (pairs : List (ℕ × ℕ)) → ((q : ℕ × ℕ) → new q ≡ true → (old q ≡ true) ⊎ Contains pairs q) → IsSomeAnd least (λ l. (q : ℕ × ℕ) → Contains pairs q → IsSettled b budget l q.0 q.1) → AreSettled b budget least old → AreSettled b budget least new
+  pub settled_more : (least : Option SubtracePair) (old new : ℕ × ℕ → Bool) (pairs : List (ℕ × ℕ))
+      → ((q : ℕ × ℕ) → new q ≡ true → (old q ≡ true) ⊎ Contains pairs q)
+      → IsSomeAnd least (λ l. (q : ℕ × ℕ) → Contains pairs q → IsSettled b budget l q.0 q.1) → AreSettled b budget least old
+      → AreSettled b budget least new
   settled_more None old new pairs more all h = absurd all
   settled_more (Some l) old new pairs more all h = λ q e. ⊎_elim (λ before. h q before) (λ c. all q c) (more q e)
 
@@ -89,12 +92,16 @@ module _ (b : FiniteAlgebra) (budget : ℕ) where
   settled_is None holds h q e = let f = h q in absurd (cc)
   settled_is (Some l) holds h q e = h q e
 
-  all_settled : (pair : ℕ × ℕ) (above : List (ℕ × ℕ)) → AllByRecursion (LeadsTo b budget pair) above → (least : Option SubtracePair) → IsSomeAnd least (λ l. IsSettled b budget l pair.0 pair.1) → IsSomeAnd least (λ l. (q : ℕ × ℕ) → Contains above q → IsSettled b budget l q.0 q.1)
+  all_settled : (pair : ℕ × ℕ) (above : List (ℕ × ℕ)) → AllByRecursion (LeadsTo b budget pair) above → (least : Option SubtracePair)
+      → IsSomeAnd least (λ l. IsSettled b budget l pair.0 pair.1)
+      → IsSomeAnd least (λ l. (q : ℕ × ℕ) → Contains above q → IsSettled b budget l q.0 q.1)
   all_settled pair above leads None h = absurd h
   all_settled pair above leads (Some l) h = λ q c. settled_above l pair q (all_at (LeadsTo b budget pair) above q leads c) h
 
   -- the pairs above a settled pair are settled
-  pub settle_kept : (x y : ℕ) (old new : Known) (pair : ℕ × ℕ) (above : List (ℕ × ℕ)) → IsRight b budget old → new.least ≡ old.least → ((q : ℕ × ℕ) → contains same_labels new.settled q ≡ true → (contains same_labels old.settled q ≡ true) ⊎ Contains above q) → IsSomeAnd old.least (λ l. IsSettled b budget l pair.0 pair.1) → AllByRecursion (LeadsTo b budget pair) above → IsKept b budget x y old new
+  pub settle_kept : (x y : ℕ) (old new : Known) (pair : ℕ × ℕ) (above : List (ℕ × ℕ)) → IsRight b budget old → new.least ≡ old.least
+      → ((q : ℕ × ℕ) → contains same_labels new.settled q ≡ true → (contains same_labels old.settled q ≡ true) ⊎ Contains above q)
+      → IsSomeAnd old.least (λ l. IsSettled b budget l pair.0 pair.1) → AllByRecursion (LeadsTo b budget pair) above → IsKept b budget x y old new
   settle_kept x y old new pair above right same more settled leads = record {
     right = record {
       met = subst (λ o. IfSome o (IsMet b budget)) (sym same) right.met;
@@ -118,7 +125,9 @@ pub ahead : (least : SubtracePair) (pair : ℕ × ℕ) → ¬ IsBefore least.low
 ahead least pair order apart =
     ⊎_elim (λ before. before) (λ rest. ⊎_elim (λ same. absurd (apart same)) (λ behind. absurd (order behind)) rest) (pair_cases pair.0 pair.1 least.low least.high)
 
-pub known_vain : (b : FiniteAlgebra) (budget : ℕ) (pair : ℕ × ℕ) → pair.0 ≢ pair.1 → (least : Option SubtracePair) → IfSome least (λ l. IsBefore pair.0 pair.1 l.low l.high) → IsSomeAnd least (λ l. IsSettled b budget l pair.0 pair.1) → IsVain b budget pair.0 pair.1
+pub known_vain : (b : FiniteAlgebra) (budget : ℕ) (pair : ℕ × ℕ) → pair.0 ≢ pair.1 → (least : Option SubtracePair)
+    → IfSome least (λ l. IsBefore pair.0 pair.1 l.low l.high) → IsSomeAnd least (λ l. IsSettled b budget l pair.0 pair.1)
+    → IsVain b budget pair.0 pair.1
 known_vain b budget pair differ None before h = absurd h
 known_vain b budget pair differ (Some l) before h = settled_vain b budget l pair.0 pair.1 differ before h
 
@@ -260,7 +269,9 @@ met_all old new vs n all h = record {
 
 -- ---- sets of pairs
 
-pub put_in : (before after first : ℕ × ℕ → Bool) (pair : ℕ × ℕ) (pairs : List (ℕ × ℕ)) → ((q : ℕ × ℕ) → after q ≡ cond (same_labels pair q) true (before q)) → Contains pairs pair → ((q : ℕ × ℕ) → before q ≡ true → (first q ≡ true) ⊎ Contains pairs q) → (q : ℕ × ℕ) → after q ≡ true → (first q ≡ true) ⊎ Contains pairs q
+pub put_in : (before after first : ℕ × ℕ → Bool) (pair : ℕ × ℕ) (pairs : List (ℕ × ℕ))
+    → ((q : ℕ × ℕ) → after q ≡ cond (same_labels pair q) true (before q)) → Contains pairs pair
+    → ((q : ℕ × ℕ) → before q ≡ true → (first q ≡ true) ⊎ Contains pairs q) → (q : ℕ × ℕ) → after q ≡ true → (first q ≡ true) ⊎ Contains pairs q
 put_in before after first pair pairs put there h q e = by (same_labels pair q) refl
   where
     by : (t : Bool) → t ≡ same_labels pair q → (first q ≡ true) ⊎ Contains pairs q

@@ -36,7 +36,9 @@ module _ (b : FiniteAlgebra) (target : ℕ × ℕ) where
   reached_generates marks pair h r = generates_through b pair.0 pair.1 r.first r.second target.0 target.1 r.generated (marked_generates marks h r.first r.second r.below r.marked)
 
   -- one mark more
-  pub marks_more : (old new : Marks) (pair : ℕ × ℕ) → pair.1 < b.size → new.size ≡ old.size → new.marked.items ≡ set old.marked.items (pair_number old.size pair.0 pair.1) true → AreMarks b target old → Generates b pair.0 pair.1 target.0 target.1 → AreMarks b target new
+  pub marks_more : (old new : Marks) (pair : ℕ × ℕ) → pair.1 < b.size → new.size ≡ old.size
+      → new.marked.items ≡ set old.marked.items (pair_number old.size pair.0 pair.1) true → AreMarks b target old
+      → Generates b pair.0 pair.1 target.0 target.1 → AreMarks b target new
   marks_more old new pair below size is h g = record { size = size ∙ h.size; generate = each }
     where
       number : ℕ
@@ -70,7 +72,9 @@ no_marks b target marks n size none = record {
 }
 
 -- a pair alone
-pub first_mark : (b : FiniteAlgebra) (pair : ℕ × ℕ) (old new : Marks) (n : ℕ) → pair.1 < b.size → old.size ≡ b.size → old.marked.items ≡ replicate n false → new.size ≡ old.size → new.marked.items ≡ set old.marked.items (pair_number old.size pair.0 pair.1) true → AreMarks b pair new
+pub first_mark : (b : FiniteAlgebra) (pair : ℕ × ℕ) (old new : Marks) (n : ℕ) → pair.1 < b.size → old.size ≡ b.size
+    → old.marked.items ≡ replicate n false → new.size ≡ old.size → new.marked.items ≡ set old.marked.items (pair_number old.size pair.0 pair.1) true
+    → AreMarks b pair new
 first_mark b pair old new n below size none same is = marks_more b pair old new pair below same is (no_marks b pair old n size none) (generates_itself b pair.0 pair.1)
 
 -- the number of a pair of elements is below that of all pairs

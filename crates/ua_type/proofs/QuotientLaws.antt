@@ -6,7 +6,7 @@ use Rattle.std.proofs.lemmas.List.{length-map, get_or-map, ext_get_or}
 use Rattle.std.proofs.lemmas.List.FromFn.{length-map-range_with_len, get_or-map-range_with_len}
 use Rattle.std.proofs.lemmas.Simd.{map-map}
 use Rattle.ua_table.specs.Algebras.{Operation, FiniteAlgebra, IsAlgebra, IsOperation, arities_of, value_at, numeral}
-use Rattle.ua_table.proofs.ApplyLemmas.{value-below, numeral-below}
+use Rattle.ua_table.proofs.ApplyLaws.{value-below, numeral-below}
 use Rattle.ua_table.proofs.Lists.{found, mapped_at}
 use Rattle.ua_part.specs.Partitions.{Partition, IsPartition, LiesBelow, IsByLabels}
 use Rattle.ua_part.specs.Blocks.{leaders}
@@ -60,7 +60,10 @@ module _ (a : FiniteAlgebra) (p : Partition) (alg : IsAlgebra a) (cp : IsCongrue
       refl,
       record {
         total = length-map (tuples_among (leaders p) o.arity) (λ args. slice_index numbers (value_of o args)) ∙ count_tuples (leaders p) o.arity;
-        below = all_mapped (λ v. v < length (leaders p)) (λ args. slice_index numbers (value_of o args)) (λ args. read_below (length (leaders p)) numbers (value_of o args) inhabited (all_numbers p cp.partition)) (tuples_among (leaders p) o.arity);
+        below =
+            all_mapped (λ v. v < length (leaders p)) (λ args. slice_index numbers (value_of o args))
+            (λ args. read_below (length (leaders p)) numbers (value_of o args) inhabited (all_numbers p cp.partition))
+            (tuples_among (leaders p) o.arity);
       },
     ),
     operations_kept os,
@@ -70,7 +73,9 @@ module _ (a : FiniteAlgebra) (p : Partition) (alg : IsAlgebra a) (cp : IsCongrue
   quotient-IsAlgebra = record { inhabited = inhabited; operations = operations_kept a.operations }
 
   -- the value at some blocks is the block of the value at their leaders
-  pub value_in_block : (f : ℕ) (xs : List ℕ) → f < length (arities_of a) → length xs ≡ slice_index (arities_of a) f → AllByRecursion (λ k. k < length (leaders p)) xs → leader_of p (value_at (quotient_by a p) f xs) ≡ slice_index p (value_at a f (map (leader_of p) xs))
+  pub value_in_block : (f : ℕ) (xs : List ℕ) → f < length (arities_of a) → length xs ≡ slice_index (arities_of a) f
+      → AllByRecursion (λ k. k < length (leaders p)) xs
+      → leader_of p (value_at (quotient_by a p) f xs) ≡ slice_index p (value_at a f (map (leader_of p) xs))
   value_in_block f xs w count h =
       let fw : f < length a.operations = (let n = length-map a.operations (λ (o : Operation). o.arity) in omega (arith, w, n)) in
       let at = found a.operations f fw in
@@ -79,7 +84,11 @@ module _ (a : FiniteAlgebra) (p : Partition) (alg : IsAlgebra a) (cp : IsCongrue
       let b = quotient_by a p in
       let read : List ℕ → ℕ = (λ args. slice_index numbers (value_of o args)) in
       let tuples = tuples_among (leaders p) o.arity in
-      let low : numeral (length (leaders p)) xs < length tuples = (let l = numeral-below (length (leaders p)) xs h in let c = count_tuples (leaders p) o.arity in let e : length (leaders p) ^ length xs ≡ length (leaders p) ^ o.arity = ap (λ k. length (leaders p) ^ k) long in omega (arith, l, c, e)) in
+      let low : numeral (length (leaders p)) xs < length tuples =
+      (let l = numeral-below (length (leaders p)) xs h in
+      let c = count_tuples (leaders p) o.arity in
+      let e : length (leaders p) ^ length xs ≡ length (leaders p) ^ o.arity = ap (λ k. length (leaders p) ^ k) long in
+      omega (arith, l, c, e)) in
       let leading = map (leader_of p) xs in
       let v = value-below a f leading alg w (length-map xs (leader_of p) ∙ count) (all_leaders_below p a.size cp.size xs h) in
       let n = cp.size in

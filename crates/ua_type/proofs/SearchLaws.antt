@@ -89,7 +89,8 @@ vain_next b theta budget x n below at few c d w s apart =
 pub ends_beyond : (b : FiniteAlgebra) (theta : Partition) (budget x y : ℕ) → AreVainBelow b theta budget x → AreVainAt b theta budget x y → MayTryRelated b theta budget (x, y) (Ok trials.Beyond) → MaySearch b theta budget (Ok Beyond)
 ends_beyond b theta budget x y below at h = (h.2.0, exceeds b theta budget x y below at h.0 h.1 h.2.1)
 
-pub ends_found : (b : FiniteAlgebra) (theta : Partition) (budget x y : ℕ) (swap : Bool) → AreVainBelow b theta budget x → AreVainAt b theta budget x y → MayTryRelated b theta budget (x, y) (Ok (trials.Found swap)) → MaySearch b theta budget (Ok (Found (record { low = x; high = y; swap = swap })))
+pub ends_found : (b : FiniteAlgebra) (theta : Partition) (budget x y : ℕ) (swap : Bool) → AreVainBelow b theta budget x → AreVainAt b theta budget x y
+    → MayTryRelated b theta budget (x, y) (Ok (trials.Found swap)) → MaySearch b theta budget (Ok (Found (record { low = x; high = y; swap = swap })))
 ends_found b theta budget x y swap below at h = (
   h.2.0,
   record {
@@ -100,7 +101,8 @@ ends_found b theta budget x y swap below at h = (
 )
 
 -- the subtrace that was met does not stand before a pair whose related pairs before it were tried in vain
-pub met_ahead : (b : FiniteAlgebra) (theta : Partition) (budget x y : ℕ) → AreVainBelow b theta budget x → AreVainAt b theta budget x y → (least : Option SubtracePair) → IfSome least (IsMet b budget) → IsRelated theta least → IfSome least (λ l. ¬ IsBefore l.low l.high x y)
+pub met_ahead : (b : FiniteAlgebra) (theta : Partition) (budget x y : ℕ) → AreVainBelow b theta budget x → AreVainAt b theta budget x y
+    → (least : Option SubtracePair) → IfSome least (IsMet b budget) → IsRelated theta least → IfSome least (λ l. ¬ IsBefore l.low l.high x y)
 met_ahead b theta budget x y below at None met related = tt
 met_ahead b theta budget x y below at (Some l) met related =
     λ before.

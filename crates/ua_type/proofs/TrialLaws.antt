@@ -37,7 +37,12 @@ pub narrow_all : (b : FiniteAlgebra) (budget x y : ℕ) → ¬ IsWide (replicate
 narrow_all b budget x y h c d = subst (λ n. ¬ ((2 ^ 63 ≤ records (arities (replicate 2 b)) n budget) ⊎ (CELLS < cells (replicate 2 b) budget))) (same_count b x y c d) h
 
 pub wide_all : (b : FiniteAlgebra) (budget x y : ℕ) (e : CloseError) → IsCause (replicate 2 b) (pair_generators b x y) budget e → ArePairsWide b budget e
-wide_all b budget x y (Wide r k) h c d = subst (λ n. ((2 ^ 63 ≤ records (arities (replicate 2 b)) n budget) ⊎ (CELLS < cells (replicate 2 b) budget)) × (r ≡ records (arities (replicate 2 b)) n budget) × (k ≡ cells (replicate 2 b) budget)) (same_count b x y c d) h
+wide_all b budget x y (Wide r k) h c d =
+    subst
+    (λ n.
+    ((2 ^ 63 ≤ records (arities (replicate 2 b)) n budget) ⊎ (CELLS < cells (replicate 2 b) budget))
+    × (r ≡ records (arities (replicate 2 b)) n budget) × (k ≡ cells (replicate 2 b) budget))
+    (same_count b x y c d) h
 wide_all b budget x y OutOfMemory h c d = tt
 
 -- ---- the trial of a pair by its pairs
@@ -90,7 +95,9 @@ module _ (b : FiniteAlgebra) (budget workers : ℕ) (row : Vector) (pair : ℕ �
       let gens = pair_generators b (slice_index row 0) (slice_index row 1) in
       subst (Sg p gens) is (vector_in p gens rows h.1.listing target.items h.1.met)
 
-  pub closed_lacks : (rows : List Row) → slice_index row 0 < b.size → slice_index row 1 < b.size → ¬ HasMorePairs b budget (slice_index row 0) (slice_index row 1) → slice_index row 0 ≢ slice_index row 1 → MaySeek (Ok (reaches.Closed rows)) → IsLacking b budget (slice_index row 0, slice_index row 1) pair rows
+  pub closed_lacks : (rows : List Row) → slice_index row 0 < b.size → slice_index row 1 < b.size
+      → ¬ HasMorePairs b budget (slice_index row 0) (slice_index row 1) → slice_index row 0 ≢ slice_index row 1 → MaySeek (Ok (reaches.Closed rows))
+      → IsLacking b budget (slice_index row 0, slice_index row 1) pair rows
   closed_lacks rows first second within differ h = record {
     first = first;
     second = second;

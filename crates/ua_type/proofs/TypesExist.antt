@@ -250,7 +250,8 @@ told_ok x r is e = cc
 told_wide : (n c : ℕ) (r : Result Types CloseError) → r ≡ Err (Wide n c) → r ≢ Err OutOfMemory
 told_wide n c r is e = cc
 
-module _ (alloc : Global) (a : FiniteAlgebra) (budget : ℕ) (alg : IsAlgebra a) (list : List Partition) (covers : List (ℕ × ℕ)) (irreducibles : List ℕ) (lattice : IsWholeLattice a budget list covers irreducibles) (small : length covers < 2 ^ 63) where
+module _ (alloc : Global) (a : FiniteAlgebra) (budget : ℕ) (alg : IsAlgebra a) (list : List Partition) (covers : List (ℕ × ℕ)) (irreducibles : List ℕ)
+    (lattice : IsWholeLattice a budget list covers irreducibles) (small : length covers < 2 ^ 63) where
   rows_told : (rows : List (ℕ × ℕ × Typed)) (rest : List (ℕ × ℕ)) → map places_of rows ++ rest ≡ covers → AllByRecursion (IsRow a budget list) rows → IsAnswerable (MayTypes a budget) OutOfMemory
   rows_told rows [] whole told =
       let all : map places_of rows ≡ covers = sym (append-nil (map places_of rows)) ∙ whole in

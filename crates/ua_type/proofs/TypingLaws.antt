@@ -67,7 +67,9 @@ module _ (a : FiniteAlgebra) (alpha beta : Partition) (budget : ℕ) (made : Quo
     pub subtrace_here : (low high : ℕ) → low ≡ get_or made.leaders.items pair.low low → high ≡ get_or made.leaders.items pair.high high → MaySubtrace a alpha beta budget (Ok (traces.Pair low high))
     subtrace_here low high at_low at_high = (narrow, trace_here low high at_low at_high)
 
-    pub type_here : (number low high : ℕ) → MayHaveType made.algebra budget pair.low pair.high (Ok (Some number)) → low ≡ get_or made.leaders.items pair.low low → high ≡ get_or made.leaders.items pair.high high → MayType a alpha beta budget (Ok (typings.Found number low high))
+    pub type_here : (number low high : ℕ) → MayHaveType made.algebra budget pair.low pair.high (Ok (Some number))
+        → low ≡ get_or made.leaders.items pair.low low → high ≡ get_or made.leaders.items pair.high high
+        → MayType a alpha beta budget (Ok (typings.Found number low high))
     unfolding trace_here
     type_here number low high told at_low at_high =
         let t = typed pair.low pair.high (Ok (Some number)) told in

@@ -41,81 +41,83 @@ both_or p q = ⊎_elim (λ yes. ⊎_elim (λ also. inl (yes, also)) (λ no. inr 
 
 -- ---- what is reached by levels
 
-module _ {X : Type 0} (all : List X) (Start : X → Type 0) (Step : X → X → Type 0) (start_or : (x : X) → Start x ⊎ (Start x → ⊥)) (step_or : (x y : X) → Step x y ⊎ (Step x y → ⊥)) (start_in : (x : X) → Start x → Contains all x) (step_in : (x y : X) → Step x y → Contains all y) where
-  -- in so many steps
-  abbrev Reaches : ℕ → X → Type 0
-  Reaches zero y = Start y
-  Reaches (suc m) y = (x : X) × Reaches m x × Step x y
+module _ {X : Type 0} (all : List X) (Start : X → Type 0) (Step : X → X → Type 0) (start_or : (x : X) → Start x ⊎ (Start x → ⊥))
+    (step_or : (x y : X) → Step x y ⊎ (Step x y → ⊥)) (start_in : (x : X) → Start x → Contains all x) (step_in : (x y : X) → Step x y → Contains all y)
+  where
+    -- in so many steps
+    abbrev Reaches : ℕ → X → Type 0
+    Reaches zero y = Start y
+    Reaches (suc m) y = (x : X) × Reaches m x × Step x y
 
-  reaches_in : (m : ℕ) (y : X) → Reaches m y → Contains all y
-  reaches_in zero y h = start_in y h
-  reaches_in (suc m) y h = step_in h.0 y h.2
+    reaches_in : (m : ℕ) (y : X) → Reaches m y → Contains all y
+    reaches_in zero y h = start_in y h
+    reaches_in (suc m) y h = step_in h.0 y h.2
 
-  reaches_or : (m : ℕ) (y : X) → Reaches m y ⊎ (Reaches m y → ⊥)
-  reaches_or zero y = start_or y
-  reaches_or (suc m) y = ⊎_elim
-      (λ (r : IsFirstOf (λ (x : X). []) (λ x. Reaches m x × Step x y) all). inl (r.item, r.passes.0, r.passes.1))
-      (λ none. inr (λ h. none h.0 (reaches_in m h.0 h.1) (h.1, h.2)))
-      (first_of (λ (x : X). []) (λ x. Reaches m x × Step x y) (λ x. both_or (reaches_or m x) (step_or x y)) all)
+    reaches_or : (m : ℕ) (y : X) → Reaches m y ⊎ (Reaches m y → ⊥)
+    reaches_or zero y = start_or y
+    reaches_or (suc m) y = ⊎_elim
+        (λ (r : IsFirstOf (λ (x : X). []) (λ x. Reaches m x × Step x y) all). inl (r.item, r.passes.0, r.passes.1))
+        (λ none. inr (λ h. none h.0 (reaches_in m h.0 h.1) (h.1, h.2)))
+        (first_of (λ (x : X). []) (λ x. Reaches m x × Step x y) (λ x. both_or (reaches_or m x) (step_or x y)) all)
 
-  -- in no more
-  abbrev Within : ℕ → X → Type 0
-  Within k y = (m : ℕ) × (m ≤ k) × Reaches m y
+    -- in no more
+    abbrev Within : ℕ → X → Type 0
+    Within k y = (m : ℕ) × (m ≤ k) × Reaches m y
 
-  within_or : (k : ℕ) (y : X) → Within k y ⊎ (Within k y → ⊥)
-  within_or zero y = ⊎_elim
-      (λ r. inl (0, omega arith, r))
-      (λ none. inr (λ h. none (let low = h.1 in let is : h.0 ≡ 0 = omega (arith, low) in subst (λ m. Reaches m y) is h.2)))
-      (reaches_or 0 y)
-  within_or (suc k) y = ⊎_elim
-      (λ h. inl (let low = h.1 in (h.0, omega (arith, low), h.2)))
-      (λ before. ⊎_elim
-      (λ r. inl (suc k, omega arith, r))
-      (λ here. inr (λ h. ⊎_elim
-      (λ less. let low = h.1 in here (let is : h.0 ≡ suc k = omega (arith, less, low) in subst (λ m. Reaches m y) is h.2))
-      (λ more. before (h.0, more, h.2))
-      (cases_lt k h.0)))
-      (reaches_or (suc k) y))
-      (within_or k y)
+    within_or : (k : ℕ) (y : X) → Within k y ⊎ (Within k y → ⊥)
+    within_or zero y = ⊎_elim
+        (λ r. inl (0, omega arith, r))
+        (λ none. inr (λ h. none (let low = h.1 in let is : h.0 ≡ 0 = omega (arith, low) in subst (λ m. Reaches m y) is h.2)))
+        (reaches_or 0 y)
+    within_or (suc k) y = ⊎_elim
+        (λ h. inl (let low = h.1 in (h.0, omega (arith, low), h.2)))
+        (λ before. ⊎_elim
+        (λ r. inl (suc k, omega arith, r))
+        (λ here. inr (λ h. ⊎_elim
+        (λ less. let low = h.1 in here (let is : h.0 ≡ suc k = omega (arith, less, low) in subst (λ m. Reaches m y) is h.2))
+        (λ more. before (h.0, more, h.2))
+        (cases_lt k h.0)))
+        (reaches_or (suc k) y))
+        (within_or k y)
 
-  -- a number of steps in which all is reached that is reached at all
-  record IsSaturated : Type 0 where
-    bound : ℕ
-    few : bound ≤ length all
-    reached : (m : ℕ) (y : X) → Reaches m y → Within bound y
+    -- a number of steps in which all is reached that is reached at all
+    record IsSaturated : Type 0 where
+      bound : ℕ
+      few : bound ≤ length all
+      reached : (m : ℕ) (y : X) → Reaches m y → Within bound y
 
-  -- the next level reaches nothing new
-  saturated_at : (k : ℕ) (left : List X) → k ≤ length all → ((y : X) → Contains all y → Within k y ⊎ Contains left y) → ((y : X) → Contains left y → Reaches (suc k) y → ⊥) → IsSaturated
-  saturated_at k left few rest none = record { bound = k; few = few; reached = reached }
-    where
-      reached : (m : ℕ) (y : X) → Reaches m y → Within k y
-      reached zero y h = (0, omega arith, h)
-      reached (suc m) y h =
-          let before = reached m h.0 h.1 in
-          let low = before.1 in
-          let here : Reaches (suc before.0) y = (h.0, before.2, h.2) in
-          ⊎_elim
-          (λ less. (suc before.0, omega (arith, less), here))
-          (λ more.
-          let last : before.0 ≡ k = omega (arith, low, more) in
-          ⊎_elim (λ within. within) (λ new. absurd (none y new (subst (λ n. Reaches (suc n) y) last here))) (rest y (step_in h.0 y h.2)))
-          (cases_lt before.0 k)
+    -- the next level reaches nothing new
+    saturated_at : (k : ℕ) (left : List X) → k ≤ length all → ((y : X) → Contains all y → Within k y ⊎ Contains left y) → ((y : X) → Contains left y → Reaches (suc k) y → ⊥) → IsSaturated
+    saturated_at k left few rest none = record { bound = k; few = few; reached = reached }
+      where
+        reached : (m : ℕ) (y : X) → Reaches m y → Within k y
+        reached zero y h = (0, omega arith, h)
+        reached (suc m) y h =
+            let before = reached m h.0 h.1 in
+            let low = before.1 in
+            let here : Reaches (suc before.0) y = (h.0, before.2, h.2) in
+            ⊎_elim
+            (λ less. (suc before.0, omega (arith, less), here))
+            (λ more.
+            let last : before.0 ≡ k = omega (arith, low, more) in
+            ⊎_elim (λ within. within) (λ new. absurd (none y new (subst (λ n. Reaches (suc n) y) last here))) (rest y (step_in h.0 y h.2)))
+            (cases_lt before.0 k)
 
-  saturate : (n k : ℕ) (left : List X) → length left ≤ n → k + length left ≤ length all → ((y : X) → Contains all y → Within k y ⊎ Contains left y) → IsSaturated
-  saturate zero k left few short rest = saturated_at k left (omega (arith, short)) rest (λ y c. let w = c.1 in absurd (omega (arith, w, few)))
-  saturate (suc n) k left few short rest = ⊎_elim
-      (λ (r : IsFirstOf (λ (y : X). []) (λ y. Reaches (suc k) y) left).
-      let o = others_of left r.item r.among in
-      let count = o.count in
-      saturate n (suc k) o.others (omega (arith, few, count)) (omega (arith, short, count)) (λ y c. ⊎_elim
-      (λ h. let low = h.1 in inl (h.0, omega (arith, low), h.2))
-      (λ old. ⊎_elim (λ same. inl (suc k, omega arith, subst (λ z. Reaches (suc k) z) same r.passes)) (λ other. inr other) (o.all y old))
-      (rest y c)))
-      (λ none. saturated_at k left (omega (arith, short)) rest none)
-      (first_of (λ (y : X). []) (λ y. Reaches (suc k) y) (λ y. reaches_or (suc k) y) left)
+    saturate : (n k : ℕ) (left : List X) → length left ≤ n → k + length left ≤ length all → ((y : X) → Contains all y → Within k y ⊎ Contains left y) → IsSaturated
+    saturate zero k left few short rest = saturated_at k left (omega (arith, short)) rest (λ y c. let w = c.1 in absurd (omega (arith, w, few)))
+    saturate (suc n) k left few short rest = ⊎_elim
+        (λ (r : IsFirstOf (λ (y : X). []) (λ y. Reaches (suc k) y) left).
+        let o = others_of left r.item r.among in
+        let count = o.count in
+        saturate n (suc k) o.others (omega (arith, few, count)) (omega (arith, short, count)) (λ y c. ⊎_elim
+        (λ h. let low = h.1 in inl (h.0, omega (arith, low), h.2))
+        (λ old. ⊎_elim (λ same. inl (suc k, omega arith, subst (λ z. Reaches (suc k) z) same r.passes)) (λ other. inr other) (o.all y old))
+        (rest y c)))
+        (λ none. saturated_at k left (omega (arith, short)) rest none)
+        (first_of (λ (y : X). []) (λ y. Reaches (suc k) y) (λ y. reaches_or (suc k) y) left)
 
-  saturation : IsSaturated
-  saturation = saturate (length all) 0 all (omega arith) (omega arith) (λ y c. inr c)
+    saturation : IsSaturated
+    saturation = saturate (length all) 0 all (omega arith) (omega arith) (λ y c. inr c)
 
 -- ---- what can be decided
 
@@ -152,7 +154,9 @@ even_push j [] = refl
 even_push j (i ∷ rest) = ap not (even_push j rest)
 
 module _ (even odd : LinkLists) where
-  joined_push : (side : Bool) (rows : List ℕ) (i j : ℕ) → Alternates (Joined even odd side) (Joined even odd (not side)) rows → EndsWith (λ k. k ≡ i) rows → Joined even odd (side_after side rows) i j → Alternates (Joined even odd side) (Joined even odd (not side)) (rows ++ j ∷ [])
+  joined_push : (side : Bool) (rows : List ℕ) (i j : ℕ) → Alternates (Joined even odd side) (Joined even odd (not side)) rows
+      → EndsWith (λ k. k ≡ i) rows → Joined even odd (side_after side rows) i j
+      → Alternates (Joined even odd side) (Joined even odd (not side)) (rows ++ j ∷ [])
   joined_push side [] i j h e k = absurd e
   joined_push side (x ∷ []) i j h e k = (subst (λ z. Joined even odd side z j) (sym e) k, tt)
   joined_push true (x ∷ y ∷ rest) i j h e k = (h.0, joined_push false (y ∷ rest) i j h.1 e k)
@@ -206,7 +210,9 @@ module _ (allowed : List Bool) (even odd : LinkLists) (start end : ℕ) where
 
   -- ---- a climb reaches its last row
 
-  climb_on : (m i : ℕ) (side : Bool) (rest : List ℕ) (j : ℕ) → Climbs m (i, side) → AllByRecursion (IsAllowed allowed) (i ∷ rest) → Alternates (Joined even odd side) (Joined even odd (not side)) (i ∷ rest) → EndsWith (λ k. k ≡ j) (i ∷ rest) → Climbs (m + length rest) (j, side_after side (i ∷ rest))
+  climb_on : (m i : ℕ) (side : Bool) (rest : List ℕ) (j : ℕ) → Climbs m (i, side) → AllByRecursion (IsAllowed allowed) (i ∷ rest)
+      → Alternates (Joined even odd side) (Joined even odd (not side)) (i ∷ rest) → EndsWith (λ k. k ≡ j) (i ∷ rest)
+      → Climbs (m + length rest) (j, side_after side (i ∷ rest))
   climb_on m i side [] j r a z e = let none : m ≡ m + 0 = omega arith in subst (λ n. Climbs n (j, side)) none (subst (λ k. Climbs m (k, side)) e r)
   climb_on m i true (k ∷ rest) j r a z e =
       let more : suc m + length rest ≡ m + suc (length rest) = omega arith in

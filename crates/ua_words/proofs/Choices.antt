@@ -12,7 +12,9 @@ use Rattle.clap.specs.Simple.{App, entered, is_simple, matches_of}
 use Rattle.clap.specs.Faults.{default_fault, defaults_fault, entered_fault, fault_of, is_simple_and_free, level_fault, settle_fault, use_fault, walk_fault}
 use Rattle.ua_words.specs.Words.{Give, OptionName, Workers, Budget, Jobs, Generate, name_text, same_name, Choice, choice_words, value_of, EachOnce}
 use Rattle.ua_words.specs.inner.Options.{IsPlain, options_app}
-use Rattle.ua_words.proofs.Walking.{Ends, Flag, HaveNoDashes, answered, answered_rows, answered_settle, asked, asked_end, asked_turn, between, dashless, ends_first, ends_next, flag_of, idle_begins, idle_ends, joined_turn, long_parts, or_empty, row, rule, rules, shape, split_turn, two_dashes, use_clean, use_once, used_rows, value_turn}
+use Rattle.ua_words.proofs.Walking.{Ends, Flag, HaveNoDashes, answered, answered_rows, answered_settle, asked, asked_end, asked_turn, between, dashless, ends_first, ends_next}
+use Rattle.ua_words.proofs.Walking.{flag_of, idle_begins, idle_ends, joined_turn, long_parts, or_empty, row, rule, rules, shape, split_turn, two_dashes, use_clean, use_once}
+use Rattle.ua_words.proofs.Walking.{used_rows, value_turn}
 
 -- ---- choices as rows
 

@@ -10,7 +10,7 @@ use Rattle.ua_table.specs.Numbering.{IsShape, four_places}
 use Rattle.ua_table.specs.Slices.{bound, slice_unit, slice_start, slice_operation, slice_tuples}
 use Rattle.ua_table.proofs.Lists.{all_weaker}
 use Rattle.ua_rows.specs.RowLists.{rows_at}
-use Rattle.ua_rows.proofs.RowLemmas.{length-rows_at}
+use Rattle.ua_rows.proofs.RowLaws.{length-rows_at}
 use Rattle.ua_log.specs.declared.views.Worker.{Worker}
 use Rattle.ua_bases.specs.Associative.{result_of}
 use Rattle.ua_bases.specs.Bases.{IsClosedUnder}
@@ -50,7 +50,10 @@ module _ (r : Replica) (f : ℕ) (replica : IsReplica r) (binary : slice_index (
           let two = two_of (take (slice_index (arities r.operations) f) xs) (origin.count ∙ binary) in
           let low = subst (AllByRecursion (λ n. n < length r.places.items)) two.2 origin.earlier in
           let there = closed (slice_index_or vs two.0 []) (slice_index_or vs two.1 []) (in_rows two.0 low.0) (in_rows two.1 low.1.0) in
-          let back = in_all vs (result_of r.operations f (slice_index_or vs two.0 []) (slice_index_or vs two.1 [])) (subst (λ (l : List Vector). Contains l (result_of r.operations f (slice_index_or vs two.0 []) (slice_index_or vs two.1 []))) replica.rows_are there) in
+          let back =
+          in_all vs (result_of r.operations f (slice_index_or vs two.0 []) (slice_index_or vs two.1 []))
+          (subst (λ (l : List Vector). Contains l (result_of r.operations f (slice_index_or vs two.0 []) (slice_index_or vs two.1 [])))
+          replica.rows_are there) in
           subst (λ (ys : List ℕ). Contains vs (apply r.operations f (rows_at vs ys))) (sym two.2) back
 
 -- all tuples of the slice are done, and a lone worker goes on to the next slice

@@ -10,11 +10,15 @@ use Rattle.ua_prod.specs.Congruences.{IsCongruence, RelatesAll}
 pub record IsCarried (a : FiniteAlgebra) (p : Partition) (pair : ℕ × ℕ) : Type 0 where
   pub left : pair.0 < a.size
   pub right : pair.1 < a.size
-  pub carried : (f : ℕ) (ps ss : List ℕ) → f < length (arities_of a) → length ps + 1 + length ss ≡ slice_index (arities_of a) f → AllByRecursion (λ e. e < a.size) ps → AllByRecursion (λ e. e < a.size) ss → slice_index p (value_at a f (ps ++ pair.0 ∷ ss)) ≡ slice_index p (value_at a f (ps ++ pair.1 ∷ ss))
+  pub carried : (f : ℕ) (ps ss : List ℕ) → f < length (arities_of a) → length ps + 1 + length ss ≡ slice_index (arities_of a) f
+      → AllByRecursion (λ e. e < a.size) ps → AllByRecursion (λ e. e < a.size) ss
+      → slice_index p (value_at a f (ps ++ pair.0 ∷ ss)) ≡ slice_index p (value_at a f (ps ++ pair.1 ∷ ss))
 
 -- operation f takes x and y at this place to related elements, for all arguments before it and behind it
 abbrev pub IsCarriedAlong : FiniteAlgebra → Partition → ℕ → ℕ → ℕ → ℕ → Type 0
-IsCarriedAlong a p f place x y = (ps ss : List ℕ) → length ps ≡ place → length ps + 1 + length ss ≡ slice_index (arities_of a) f → AllByRecursion (λ e. e < a.size) ps → AllByRecursion (λ e. e < a.size) ss → slice_index p (value_at a f (ps ++ x ∷ ss)) ≡ slice_index p (value_at a f (ps ++ y ∷ ss))
+IsCarriedAlong a p f place x y =
+    (ps ss : List ℕ) → length ps ≡ place → length ps + 1 + length ss ≡ slice_index (arities_of a) f → AllByRecursion (λ e. e < a.size) ps
+    → AllByRecursion (λ e. e < a.size) ss → slice_index p (value_at a f (ps ++ x ∷ ss)) ≡ slice_index p (value_at a f (ps ++ y ∷ ss))
 
 -- g is the same at both
 abbrev pub IsOne : (ℕ → ℕ) → ℕ × ℕ → Type 0

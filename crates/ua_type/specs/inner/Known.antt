@@ -24,7 +24,8 @@ pub record IsEarlier (old : Option SubtracePair) (pair : SubtracePair) (new : Op
 -- the same, of the first n of the vectors
 pub record AreMetBelow (old : Option SubtracePair) (vs : List Vector) (n : ℕ) (new : Option SubtracePair) : Type 0 where
   pub comes : (new ≡ old) ⊎ IsSomeAnd new (IsPairOf vs)
-  pub none_before : (j : ℕ) → j < n → slice_index (slice_index_or vs j []) 0 ≢ slice_index (slice_index_or vs j []) 1 → IsSomeAnd new (λ m. ¬ IsBefore (slice_index (slice_index_or vs j []) 0) (slice_index (slice_index_or vs j []) 1) m.low m.high)
+  pub none_before : (j : ℕ) → j < n → slice_index (slice_index_or vs j []) 0 ≢ slice_index (slice_index_or vs j []) 1
+      → IsSomeAnd new (λ m. ¬ IsBefore (slice_index (slice_index_or vs j []) 0) (slice_index (slice_index_or vs j []) 1) m.low m.high)
   pub old_not_before : IfSome old (λ o. IsSomeAnd new (λ m. ¬ IsBefore o.low o.high m.low m.high))
 
 -- what is known stays right where (x,y) is tried, and what is met is related where (x,y) is

@@ -12,4 +12,8 @@ returns c =
     let ranks_is = numbers (codes "ranks") d in
     let rows_is = vectors (codes "rows") d in
     let width_is = field number_of (codes "width") d in
-    c.listing_with.ensures (both gens_is (both origins_is (both ranks_is (both rows_is width_is)))) (c.both-4.ensures gens_is (both origins_is (both ranks_is (both rows_is width_is))) c.field-gens.ensures (c.both-3.ensures origins_is (both ranks_is (both rows_is width_is)) c.field-origins.ensures (c.both-2.ensures ranks_is (both rows_is width_is) c.field-ranks.ensures (c.both.ensures rows_is width_is c.field-rows.ensures c.field-width.ensures))))
+    c.listing_with.ensures (both gens_is (both origins_is (both ranks_is (both rows_is width_is))))
+    (c.both-4.ensures gens_is (both origins_is (both ranks_is (both rows_is width_is))) c.field-gens.ensures
+    (c.both-3.ensures origins_is (both ranks_is (both rows_is width_is)) c.field-origins.ensures
+    (c.both-2.ensures ranks_is (both rows_is width_is) c.field-ranks.ensures
+    (c.both.ensures rows_is width_is c.field-rows.ensures c.field-width.ensures))))

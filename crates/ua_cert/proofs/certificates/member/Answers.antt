@@ -11,4 +11,7 @@ returns c =
     let steps_is = steps (codes "steps") d in
     let target_is = numbers (codes "target") d in
     let width_is = field number_of (codes "width") d in
-    c.member_with.ensures (both gens_is (both steps_is (both target_is width_is))) (c.both-3.ensures gens_is (both steps_is (both target_is width_is)) c.field-gens.ensures (c.both-2.ensures steps_is (both target_is width_is) c.field-steps.ensures (c.both.ensures target_is width_is c.field-target.ensures c.field-width.ensures)))
+    c.member_with.ensures (both gens_is (both steps_is (both target_is width_is)))
+    (c.both-3.ensures gens_is (both steps_is (both target_is width_is)) c.field-gens.ensures
+    (c.both-2.ensures steps_is (both target_is width_is) c.field-steps.ensures
+    (c.both.ensures target_is width_is c.field-target.ensures c.field-width.ensures)))

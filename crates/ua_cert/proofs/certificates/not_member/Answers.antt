@@ -11,4 +11,7 @@ returns c =
     let rows_is = vectors (codes "rows") d in
     let target_is = numbers (codes "target") d in
     let width_is = field number_of (codes "width") d in
-    c.not_member_with.ensures (both gens_is (both rows_is (both target_is width_is))) (c.both-3.ensures gens_is (both rows_is (both target_is width_is)) c.field-gens.ensures (c.both-2.ensures rows_is (both target_is width_is) c.field-rows.ensures (c.both.ensures target_is width_is c.field-target.ensures c.field-width.ensures)))
+    c.not_member_with.ensures (both gens_is (both rows_is (both target_is width_is)))
+    (c.both-3.ensures gens_is (both rows_is (both target_is width_is)) c.field-gens.ensures
+    (c.both-2.ensures rows_is (both target_is width_is) c.field-rows.ensures
+    (c.both.ensures target_is width_is c.field-target.ensures c.field-width.ensures)))

@@ -19,12 +19,14 @@ loop-i-preserved g c =
           ∙ (let list : c.match-item.list.items ≡ xs ++ w.in-Ok.x ∷ [] = (λ j. (w.list-is j).items) ∙ w.in_ok-keep-in-Ok.ensures in λ j. resume (sym list j) (sym w.range-is j) (left reads first values (i + 1)))
       | in-Err-Range+then-is_none w ↦
           let none = none_noted c.loop-i.range w.is_none.result w.is_none.ensures w.if-is_none.true in
-          let e : Reads (under (index_path (first + i)) (reads (view v))) (Err (fault.Range w.in-Err-Range.path)) = subst (λ f. Reads (under (index_path (first + i)) (reads (view v))) (Err f)) w.in-Err-Range.field-0-is w.in-Err-Range.ensures in
+          let e : Reads (under (index_path (first + i)) (reads (view v))) (Err (fault.Range w.in-Err-Range.path)) =
+          subst (λ f. Reads (under (index_path (first + i)) (reads (view v))) (Err f)) w.in-Err-Range.field-0-is w.in-Err-Range.ensures in
           range_noted reads first values whole xs i v c.loop-i-test.true c.index-values-i.is w.in-Err-Range.path (c.loop-i.invariant ∙ ap (λ o. resume xs o (left reads first values i)) none) e
           ∙ (λ j. resume (sym w.list-is j).items (sym w.range-is j) (left reads first values (i + 1)))
       | in-Err-Range+else-is_none w ↦
           let some = some_noted c.loop-i.range w.is_none.result w.is_none.ensures w.if-is_none.false in
-          let e : Reads (under (index_path (first + i)) (reads (view v))) (Err (fault.Range w.in-Err-Range.path)) = subst (λ f. Reads (under (index_path (first + i)) (reads (view v))) (Err f)) w.in-Err-Range.field-0-is w.in-Err-Range.ensures in
+          let e : Reads (under (index_path (first + i)) (reads (view v))) (Err (fault.Range w.in-Err-Range.path)) =
+          subst (λ f. Reads (under (index_path (first + i)) (reads (view v))) (Err f)) w.in-Err-Range.field-0-is w.in-Err-Range.ensures in
           range_kept reads first values whole xs i v c.loop-i-test.true c.index-values-i.is some.0 w.in-Err-Range.path (c.loop-i.invariant ∙ ap (λ o. resume xs o (left reads first values i)) some.1) e
           ∙ (λ j. resume (sym w.list-is j).items (sym some.1 j) (left reads first values (i + 1))) ∙ ap (λ o. resume c.match-item.list.items o (left reads first values (i + 1))) (sym w.range-is)
     ]

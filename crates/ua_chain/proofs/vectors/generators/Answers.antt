@@ -37,5 +37,9 @@ returns-clause-admitted c =
     let kind = c.args.kind.now in
     let width = c.width_of-width.ensures.width ∙ (λ i. length (all_fillings (c.size.ensures.size i) (c.patterns.ensures.patterns i))) in
     let frame : c.in_ok-frame.frame ≡ power_of a kind = c.in_ok-frame.ensures.frame ∙ ap (λ n. replicate n a) width in
-    let gens : c.in_ok-gens.gens.items ≡ generators_of a kind = c.in_ok-gens.ensures.vectors ∙ (λ i. map (place_vector (all_fillings (c.size-2.ensures.size i) (c.patterns-2.ensures.patterns i))) (range_with_len 0 (c.places-places.ensures.places i))) in
+    let gens : c.in_ok-gens.gens.items ≡ generators_of a kind =
+    c.in_ok-gens.ensures.vectors
+    ∙ (λ i.
+    map (place_vector (all_fillings (c.size-2.ensures.size i) (c.patterns-2.ensures.patterns i)))
+    (range_with_len 0 (c.places-places.ensures.places i))) in
     subst (λ (q : Product × List Vector). AllByRecursion (IsVector q.0) q.1) (λ i. (sym frame i, sym gens i)) (generators_fit a kind c.places-places.ensures.kind)

@@ -8,7 +8,9 @@ pub returns-in_ok-enter-clause-entries : goal.returns-in_ok-enter-clause-entries
 returns-in_ok-enter-clause-entries c =
     let chart = c.args.chart.now in
     let p = pattern_at chart.kind.now.patterns c.args.m in
-    entered chart p c.args.marks.now c.args.i c.args.entries.now.items c.requires.entries c.enter.new.self.items (subst (λ v. GoesOnWith c.args.entries.now.items v c.enter.new.self.items) c.part.ensures.entries c.in_ok-enter.ensures.entered) c.if-marks-i.true
+    entered chart p c.args.marks.now c.args.i c.args.entries.now.items c.requires.entries c.enter.new.self.items
+    (subst (λ v. GoesOnWith c.args.entries.now.items v c.enter.new.self.items) c.part.ensures.entries c.in_ok-enter.ensures.entered)
+    c.if-marks-i.true
 
 pub returns-else-marks-i-clause-entries : goal.returns-else-marks-i-clause-entries
 returns-else-marks-i-clause-entries c =

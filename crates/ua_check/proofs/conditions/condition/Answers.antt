@@ -10,4 +10,5 @@ returns-clause-told c = subst (λ steps. Tells (condition_flaw c.args.a.now c.ar
 
 pub returns-clause-holds : goal.returns-clause-holds
 returns-clause-holds c ok =
-    condition_holds c.written.ensures.steps c.written.ensures.term c.args.a.now c.args.name c.args.k c.args.steps.now (told_none (condition_flaw c.args.a.now c.args.name c.args.k c.args.steps.now) c.condition_flaws.result (returns-clause-told c) ok)
+    condition_holds c.written.ensures.steps c.written.ensures.term c.args.a.now c.args.name c.args.k c.args.steps.now
+    (told_none (condition_flaw c.args.a.now c.args.name c.args.k c.args.steps.now) c.condition_flaws.result (returns-clause-told c) ok)

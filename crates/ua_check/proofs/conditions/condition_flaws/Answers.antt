@@ -29,5 +29,7 @@ identities-requires-clause-two c =
 pub returns : goal.returns
 returns c =
     subst (λ f. Tells f c.identities.result)
-    (condition_told c.args.a.now c.args.name c.args.k c.in_ok-condition.condition c.args.steps.now c.as_slice.result.now c.in_ok-condition.ensures.condition (c.as_slice.ensures.value ∙ c.in_ok-steps.ensures.read) c.in_ok-condition.ensures.told (sym c.is_empty.ensures ∙ c.if-is_empty.false) c.in_ok-steps.ensures.told)
+    (condition_told c.args.a.now c.args.name c.args.k c.in_ok-condition.condition c.args.steps.now c.as_slice.result.now
+    c.in_ok-condition.ensures.condition (c.as_slice.ensures.value ∙ c.in_ok-steps.ensures.read) c.in_ok-condition.ensures.told
+    (sym c.is_empty.ensures ∙ c.if-is_empty.false) c.in_ok-steps.ensures.told)
     c.identities.ensures

@@ -1,6 +1,6 @@
 use Rattle.std.proofs.Common.{◌∷◌, [], length, sym, subst, ◌∙◌}
 use Rattle.ua_table.specs.Refusals.{first_refusal}
-use Rattle.ua_table.proofs.RefusalLemmas.{passed}
+use Rattle.ua_table.proofs.RefusalLaws.{passed}
 use Rattle.ua_flaws.specs.Flaws.{Tells}
 use Rattle.ua_check.specs.Reached.{odd_positions, rows_flaw, sides_flaw, reached_flaw, no_chain_lines}
 use Rattle.ua_check.proofs.no_chains.no_chain_flaws.Goals as goal

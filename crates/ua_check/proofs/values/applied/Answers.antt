@@ -2,7 +2,7 @@ use Rattle.std.proofs.Common.{◌<◌, length, take, get_or, length-set, refl, s
 use Rattle.std.specs.Prelude.{slice_index}
 use Rattle.std.specs.List.{AllByRecursion}
 use Rattle.std.proofs.lemmas.List.{length-take-le}
-use Rattle.ua_term.proofs.TreeLemmas.{operation_facts, values_push}
+use Rattle.ua_term.proofs.TreeLaws.{operation_facts, values_push}
 use Rattle.ua_check.proofs.ValueLaws.{operation_value, entries_below}
 use Rattle.ua_check.proofs.values.applied.Goals as goal
 
@@ -33,7 +33,9 @@ value-requires-clause-below c =
 pub returns-clause-value : goal.returns-clause-value
 returns-clause-value c =
     let l = c.loop-j-test.false in
-    c.value.ensures.value ∙ operation_value c.args.a.now c.args.op c.op-table.result.now c.args.values.now c.args.args.now c.loop-j.entries c.loop-j.j c.op-table.ensures.algebra c.op-table.ensures.operation (omega arith) (omega arith) c.loop-j.invariant.done
+    c.value.ensures.value
+    ∙ operation_value c.args.a.now c.args.op c.op-table.result.now c.args.values.now c.args.args.now c.loop-j.entries c.loop-j.j
+    c.op-table.ensures.algebra c.op-table.ensures.operation (omega arith) (omega arith) c.loop-j.invariant.done
 
 pub returns-clause-element : goal.returns-clause-element
 returns-clause-element c =

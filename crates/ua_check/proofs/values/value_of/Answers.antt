@@ -22,6 +22,9 @@ loop-i-preserved c =
     let at : o ≡ slice_index_or c.args.steps.now c.loop-i.i o = get_or_default c.args.steps.now c.loop-i.i (Gen 0) o (omega arith) in
     record {
       room = length-set c.loop-i.values c.loop-i.i c.step_value-value.result ∙ room;
-      known = value_more c.args.a.now (map (slice_index c.args.xs.now) c.args.places.now) (length c.args.places.now) c.args.steps.now c.loop-i.i o c.loop-i.values c.step_value-value.result c.requires.steps (omega arith) at (omega arith) c.loop-i.invariant.known c.step_value-value.ensures.value;
+      known =
+          value_more c.args.a.now (map (slice_index c.args.xs.now) c.args.places.now) (length c.args.places.now) c.args.steps.now c.loop-i.i o
+          c.loop-i.values c.step_value-value.result c.requires.steps (omega arith) at (omega arith) c.loop-i.invariant.known
+          c.step_value-value.ensures.value;
       below = below_more c.args.a.now.size c.loop-i.values c.loop-i.i c.step_value-value.result (omega arith) c.loop-i.invariant.below c.step_value-value.ensures.element;
     }

@@ -1,5 +1,5 @@
 use Rattle.std.proofs.Common.{length}
-use Rattle.ua_table.proofs.AlgebraLemmas.{power_product}
+use Rattle.ua_table.proofs.AlgebraLaws.{power_product}
 use Rattle.ua_clone.specs.Frames.{point_power, point_generators, wanted_values}
 use Rattle.ua_close.proofs.AnswerLaws.{may_member}
 use Rattle.ua_clone.proofs.CloneLaws.{tells}

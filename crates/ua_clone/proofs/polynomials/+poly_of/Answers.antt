@@ -3,7 +3,7 @@ use Rattle.std.proofs.lemmas.List.{take_all}
 use Rattle.ua_table.specs.Terms.{Application, IsTerm}
 use Rattle.ua_term.specs.declared.terms.Term.{Term}
 use Rattle.ua_term.specs.Trees.{tree_of, trees}
-use Rattle.ua_term.proofs.TreeLemmas.{op_tree, term_among, fewer_nodes}
+use Rattle.ua_term.proofs.TreeLaws.{op_tree, term_among, fewer_nodes}
 use Rattle.ua_clone.proofs.PolyLaws.{op_poly, op_variables, greatest_most}
 use Rattle.ua_clone.proofs.polynomials.+poly_of.Goals as goal
 

@@ -2,7 +2,7 @@ use Rattle.std.proofs.Common.{ℕ, ◌≡◌, ◌<◌, ◌++◌, length, take, m
 use Rattle.std.specs.List.{AllByRecursion, range_with_len}
 use Rattle.std.proofs.lemmas.List.{length-take-le, take_all}
 use Rattle.std.proofs.lemmas.List.Elements.{All-from_recursion}
-use Rattle.ua_term.proofs.TreeLemmas.{operation_facts, values_push}
+use Rattle.ua_term.proofs.TreeLaws.{operation_facts, values_push}
 use Rattle.ua_clone.specs.declared.polynomials.Poly.{Poly}
 use Rattle.ua_clone.specs.Polynomials.{polynomial_value, polynomial_of, IsPoly}
 use Rattle.ua_clone.proofs.PolyLaws.{applies, fewer_nodes, applied_value, values_below, variable_value, element_value, variable_low, element_low}

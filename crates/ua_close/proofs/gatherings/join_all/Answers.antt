@@ -9,7 +9,9 @@ pub loop-next-preserved-then-taken-chosen : goal.loop-next-preserved-then-taken-
 loop-next-preserved-then-taken-chosen c =
     let i = c.loop-next.invariant in (
       i.0,
-      taking_step c.args.board c.args.harvests.items i.0 c.args.chosen c.loop-next.taken c.loop-next.seat c.join.new.seat c.loop-next.rows c.in-Some-pop.next.rows c.loop-next.waiting.items c.pop-in-loop-next.new.self.items c.in-Some-pop.next i.1 c.in-Some-pop.ensures.items c.join.ensures.own c.join.ensures.seat
+      taking_step c.args.board c.args.harvests.items i.0 c.args.chosen c.loop-next.taken c.loop-next.seat c.join.new.seat c.loop-next.rows
+          c.in-Some-pop.next.rows c.loop-next.waiting.items c.pop-in-loop-next.new.self.items c.in-Some-pop.next i.1 c.in-Some-pop.ensures.items
+          c.join.ensures.own c.join.ensures.seat
           (λ e. refl) (λ n. absurd (n (sym c.if-taken-chosen.true))),
     )
 
@@ -17,11 +19,16 @@ pub loop-next-preserved : goal.loop-next-preserved
 loop-next-preserved c =
     let i = c.loop-next.invariant in (
       i.0,
-      taking_step c.args.board c.args.harvests.items i.0 c.args.chosen c.loop-next.taken c.loop-next.seat c.join.new.seat c.loop-next.rows c.loop-next.rows c.loop-next.waiting.items c.pop-in-loop-next.new.self.items c.in-Some-pop.next i.1 c.in-Some-pop.ensures.items c.join.ensures.own c.join.ensures.seat
+      taking_step c.args.board c.args.harvests.items i.0 c.args.chosen c.loop-next.taken c.loop-next.seat c.join.new.seat c.loop-next.rows
+          c.loop-next.rows c.loop-next.waiting.items c.pop-in-loop-next.new.self.items c.in-Some-pop.next i.1 c.in-Some-pop.ensures.items
+          c.join.ensures.own c.join.ensures.seat
           (λ e. absurd (c.if-taken-chosen.false (sym e))) (λ n. refl),
     )
 
 pub returns-clause-rule : goal.returns-clause-rule
 returns-clause-rule c =
     let i = c.loop-next.invariant in
-    taken_rule c.args.board c.args.harvests.items i.0 c.args.chosen c.loop-next.taken c.loop-next.seat c.loop-next.rows c.loop-next.waiting.items c.close.result.records c.close.result.claims c.close.result.halted i.1 (none_waits c.loop-next.waiting.items (sym c.loop-next.waiting.ok.0 ∙ c.in_default-pop.ensures.cases.0)) c.close.ensures.own c.close.ensures.rule
+    taken_rule c.args.board c.args.harvests.items i.0 c.args.chosen c.loop-next.taken c.loop-next.seat c.loop-next.rows c.loop-next.waiting.items
+    c.close.result.records c.close.result.claims c.close.result.halted i.1
+    (none_waits c.loop-next.waiting.items (sym c.loop-next.waiting.ok.0 ∙ c.in_default-pop.ensures.cases.0)) c.close.ensures.own
+    c.close.ensures.rule

@@ -31,7 +31,9 @@ module _ (in_bytes : Bool) (block : List (List (List ℕ))) (lane first : ℕ) (
   -- the entries from one place on make a number that fits
   rest_fits : (c : ℕ) → number_l (base in_bytes) (drop c entries) < 2 ^ 64
   rest_fits c =
-      let small = all_weaker (λ x. x < limit in_bytes) (λ x. x < base in_bytes) (λ x less. (let l = limit_base in_bytes in omega (arith, less, l))) entries (entries_low (limit in_bytes) block lane first (digits in_bytes) (some_limit in_bytes) low) in
+      let small =
+      all_weaker (λ x. x < limit in_bytes) (λ x. x < base in_bytes) (λ x less. (let l = limit_base in_bytes in omega (arith, less, l))) entries
+      (entries_low (limit in_bytes) block lane first (digits in_bytes) (some_limit in_bytes) low) in
       let below = number_below (base in_bytes) (drop c entries) (all_drop (λ x. x < base in_bytes) entries c small) in
       let l = length-drop c entries in
       let n = long in
@@ -54,8 +56,14 @@ module _ (in_bytes : Bool) (block : List (List (List ℕ))) (lane first : ℕ) (
       let sum : word * base in_bytes + entry_of block lane (first + (c - 1)) ≡ entry_of block lane (first + (c - 1)) + base in_bytes * word = omega (arith, turn) in
       sum ∙ (λ i. sym at i + base in_bytes * e i) ∙ sym (ap (number_l (base in_bytes)) (drop-cons entries (c - 1) 0 low))
 
-next_word : (c : goal.After-from) → c.loop-c.word * c.if-in_bytes.c.1 + c.from.result ≡ number_l (base c.args.in_bytes) (drop (c.loop-c.c - 1) (map (λ k. entry_of c.args.block.now c.args.lane (c.args.first + k)) (range_with_len 0 (digits c.args.in_bytes))))
-next_word c = (λ i. c.loop-c.word * c.loop-c.invariant.to_base i + (c.from.ensures ∙ c.entry_at.ensures) i) ∙ one_before c.args.in_bytes c.args.block.now c.args.lane c.args.first c.requires.low c.loop-c.c c.loop-c.word c.loop-c-test.true c.loop-c.invariant.within c.loop-c.invariant.word
+next_word : (c : goal.After-from)
+    → c.loop-c.word * c.if-in_bytes.c.1 + c.from.result
+    ≡ number_l (base c.args.in_bytes)
+    (drop (c.loop-c.c - 1) (map (λ k. entry_of c.args.block.now c.args.lane (c.args.first + k)) (range_with_len 0 (digits c.args.in_bytes))))
+next_word c =
+    (λ i. c.loop-c.word * c.loop-c.invariant.to_base i + (c.from.ensures ∙ c.entry_at.ensures) i)
+    ∙ one_before c.args.in_bytes c.args.block.now c.args.lane c.args.first c.requires.low c.loop-c.c c.loop-c.word c.loop-c-test.true
+    c.loop-c.invariant.within c.loop-c.invariant.word
 
 pub overflow_mul-word : goal.overflow_mul-word
 overflow_mul-word c =

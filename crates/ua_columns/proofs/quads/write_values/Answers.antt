@@ -35,6 +35,7 @@ loop-r-preserved c =
           (λ after.
           let here : q ≡ r = omega (arith, low, after) in
           subst (λ i. lanes_of (slice_index (put_mid (r * words) n out part) (i * words + j)) ≡ values_in_word (drop (4 * c.args.size * j) c.args.lines.now) c.args.size (slice_index keys (i * words + j))) (sym here)
-          (ap lanes_of (put_here out part words r j n is long within small) ∙ c.write_at.ensures j (omega (arith, small, key_long)) ∙ ap (values_in_word (drop (4 * c.args.size * j) c.args.lines.now) c.args.size) (part_index keys (r * words) words j small)))
+          (ap lanes_of (put_here out part words r j n is long within small) ∙ c.write_at.ensures j (omega (arith, small, key_long))
+          ∙ ap (values_in_word (drop (4 * c.args.size * j) c.args.lines.now) c.args.size) (part_index keys (r * words) words j small)))
           (cases_lt q r);
     }

@@ -18,4 +18,8 @@ returns c =
     let e6 = c.pair-7.ensures.value r low in
     let e7 = c.pair-8.ensures.value r low in
     λ i. number_l 256 (e0 i ∷ e1 i ∷ e2 i ∷ e3 i ∷ e4 i ∷ e5 i ∷ e6 i ∷ e7 i ∷ [])) in
-    c.transposed.ensures ∙ (λ i. at 0 (omega arith) i ∷ at 1 (omega arith) i ∷ at 2 (omega arith) i ∷ at 3 (omega arith) i ∷ at 4 (omega arith) i ∷ at 5 (omega arith) i ∷ at 6 (omega arith) i ∷ at 7 (omega arith) i ∷ at 8 (omega arith) i ∷ at 9 (omega arith) i ∷ at 10 (omega arith) i ∷ at 11 (omega arith) i ∷ at 12 (omega arith) i ∷ at 13 (omega arith) i ∷ at 14 (omega arith) i ∷ at 15 (omega arith) i ∷ [])
+    c.transposed.ensures
+    ∙ (λ i.
+    at 0 (omega arith) i ∷ at 1 (omega arith) i ∷ at 2 (omega arith) i ∷ at 3 (omega arith) i ∷ at 4 (omega arith) i ∷ at 5 (omega arith) i
+    ∷ at 6 (omega arith) i ∷ at 7 (omega arith) i ∷ at 8 (omega arith) i ∷ at 9 (omega arith) i ∷ at 10 (omega arith) i
+    ∷ at 11 (omega arith) i ∷ at 12 (omega arith) i ∷ at 13 (omega arith) i ∷ at 14 (omega arith) i ∷ at 15 (omega arith) i ∷ [])

@@ -10,7 +10,11 @@ returns-in_err-push-clause-low c n some low = subst (AreBelow n) (sym c.in_err-p
 
 pub loop-preserved : goal.loop-preserved
 loop-preserved c = record {
-  front = ap (take (length c.args.tiles.now.items)) c.in_ok-push.ensures.items ∙ take-append-le (length c.args.tiles.now.items) c.loop.tiles.items (c.zero_tile.result ∷ []) (let l = c.loop.invariant.long in omega (arith, l)) ∙ c.loop.invariant.front;
+  front =
+      ap (take (length c.args.tiles.now.items)) c.in_ok-push.ensures.items
+      ∙ take-append-le (length c.args.tiles.now.items) c.loop.tiles.items (c.zero_tile.result ∷ [])
+      (let l = c.loop.invariant.long in omega (arith, l))
+      ∙ c.loop.invariant.front;
   long = search rules;
   low = λ n some low.
       subst (AreBelow n) (sym c.in_ok-push.ensures.items)

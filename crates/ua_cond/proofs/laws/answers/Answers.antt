@@ -1,6 +1,6 @@
 use Rattle.std.proofs.Common.{arith}
 use Rattle.std.proofs.lemmas.List.{length-map}
-use Rattle.ua_table.proofs.AlgebraLemmas.{power_product}
+use Rattle.ua_table.proofs.AlgebraLaws.{power_product}
 use Rattle.ua_identity.specs.Identities.{TermIdentity}
 use Rattle.ua_identity.specs.Patterns.{condition_power, argument_vectors, value_vector, patterns_of}
 use Rattle.ua_close.proofs.AnswerLaws.{may_member}

@@ -6,10 +6,14 @@ use Rattle.ua_flaws.proofs.WalkLaws.{leaf, goes_in, found_here, found_not}
 use Rattle.ua_flaws.proofs.closing.+first_missing.Goals as goal
 
 pub returns-then-is_missing-clause-first : goal.returns-then-is_missing-clause-first
-returns-then-is_missing-clause-first t c = leaf (is_missing c.args.table.now.operations c.args.table.now.rows.now.items c.args.op) (length c.args.table.now.rows.now.items) c.args.args c.args.arity c.args.filled c.if-filled-arity.true true (sym c.is_missing.ensures.missing ∙ c.if-is_missing.true)
+returns-then-is_missing-clause-first t c =
+    leaf (is_missing c.args.table.now.operations c.args.table.now.rows.now.items c.args.op) (length c.args.table.now.rows.now.items) c.args.args
+    c.args.arity c.args.filled c.if-filled-arity.true true (sym c.is_missing.ensures.missing ∙ c.if-is_missing.true)
 
 pub returns-then-filled-arity-clause-first : goal.returns-then-filled-arity-clause-first
-returns-then-filled-arity-clause-first t c = leaf (is_missing c.args.table.now.operations c.args.table.now.rows.now.items c.args.op) (length c.args.table.now.rows.now.items) c.args.args c.args.arity c.args.filled c.if-filled-arity.true false (sym c.is_missing.ensures.missing ∙ c.if-is_missing.false)
+returns-then-filled-arity-clause-first t c =
+    leaf (is_missing c.args.table.now.operations c.args.table.now.rows.now.items c.args.op) (length c.args.table.now.rows.now.items) c.args.args
+    c.args.arity c.args.filled c.if-filled-arity.true false (sym c.is_missing.ensures.missing ∙ c.if-is_missing.false)
 
 pub loop-x-init : goal.loop-x-init
 loop-x-init t c =

@@ -13,5 +13,8 @@ invariant-loop-x l = record {
   four : length l.next ≡ 4;
   begin : take l.filled l.next ≡ take l.filled l.fn.args;
   scratch : length l.scratch ≡ length l.table.operations;
-  rest : first_behind (is_missing l.table.operations l.table.rows.now.items l.op) (length l.table.rows.now.items) (take l.filled l.fn.args) (l.arity - l.filled) ≡ from (is_missing l.table.operations l.table.rows.now.items l.op) (length l.table.rows.now.items) (take l.filled l.fn.args) (l.arity - (l.filled + 1)) l.x (length l.table.rows.now.items - l.x);
+  rest : first_behind (is_missing l.table.operations l.table.rows.now.items l.op) (length l.table.rows.now.items) (take l.filled l.fn.args)
+      (l.arity - l.filled)
+      ≡ from (is_missing l.table.operations l.table.rows.now.items l.op) (length l.table.rows.now.items) (take l.filled l.fn.args)
+      (l.arity - (l.filled + 1)) l.x (length l.table.rows.now.items - l.x);
 }

@@ -15,7 +15,10 @@ loop-op-init c = record {
 }
 
 pub first_result-requires-clause-arity : goal.first_result-requires-clause-arity
-first_result-requires-clause-arity c = c.from-arity.ensures ∙ c.arity.ensures.arity ∙ arity_at c.args.a.now c.args.table.now.rows.now.width c.args.table.now.operations c.loop-op.op c.op.result.now c.requires.product c.requires.some c.op.ensures.operation
+first_result-requires-clause-arity c =
+    c.from-arity.ensures ∙ c.arity.ensures.arity
+    ∙ arity_at c.args.a.now c.args.table.now.rows.now.width c.args.table.now.operations c.loop-op.op c.op.result.now c.requires.product
+    c.requires.some c.op.ensures.operation
 
 pub returns-in-Some : goal.returns-in-Some
 returns-in-Some c =

@@ -11,7 +11,8 @@ use Rattle.ua_flaws.proofs.members.member_flaws.Goals as goal
 pub last_value-requires-clause-steps : goal.last_value-requires-clause-steps
 last_value-requires-clause-steps c =
     let inside : is_outside c.args.width WIDTH ≡ false = refusal_none (is_outside c.args.width WIDTH) flaw.Width (sym c.in_ok-frame.ensures.flaw) in
-    steps_over c.args.a.now c.in_ok-frame.frame c.args.width c.args.gens.now c.in_ok-list.list.items c.args.steps.now c.in_ok-origins.origins.items c.in_ok-frame.ensures.frame inside c.in_ok-list.ensures.items c.in_ok-origins.ensures.read c.in_ok-origins.ensures.told
+    steps_over c.args.a.now c.in_ok-frame.frame c.args.width c.args.gens.now c.in_ok-list.list.items c.args.steps.now c.in_ok-origins.origins.items
+    c.in_ok-frame.ensures.frame inside c.in_ok-list.ensures.items c.in_ok-origins.ensures.read c.in_ok-origins.ensures.told
 
 pub last_value-requires-clause-gens : goal.last_value-requires-clause-gens
 last_value-requires-clause-gens c =

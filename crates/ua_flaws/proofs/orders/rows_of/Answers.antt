@@ -16,4 +16,7 @@ push-requires-clause-new c h =
     let len : c.loop-row.vector.len ≡ length old = c.loop-row.vector.ok.0 in
     let same : c.as_slice-in-loop-row.result.now ≡ v = c.as_slice-in-loop-row.ensures.value ∙ written_back old new c.loop-row.vector.len kept len ∙ wrote in
     let held : Contains (take c.loop-row.row-index c.args.rows.now) v = subst (λ w. Contains (take c.loop-row.row-index c.args.rows.now) w) same (subst (λ vs. Contains vs c.as_slice-in-loop-row.result.now) c.loop-row.invariant.items h) in
-    row_new c.args.rows.now c.loop-row.row-index v (rows_increase c.args.rows.now c.requires.order) (slice_get_read c.args.rows.now (length c.args.rows.now) c.loop-row.row-index v refl (let l = c.loop-row-test.true in omega arith) c.row-item.is) held
+    row_new c.args.rows.now c.loop-row.row-index v (rows_increase c.args.rows.now c.requires.order)
+    (slice_get_read c.args.rows.now (length c.args.rows.now) c.loop-row.row-index v refl (let l = c.loop-row-test.true in omega arith)
+    c.row-item.is)
+    held

@@ -12,7 +12,12 @@ returns-then-not-is_made c =
     let low : c.loop-i.i < length c.args.table.now.rows.now.items = omega arith in
     let there : c.loop-i.i < length c.args.list.now = omega arith in
     let s : CertStep = c.index-list-i.result in
-    let here = bad_here (is_made c.args.a.now c.args.table.now.rows.now.width c.args.gens.now.items c.args.table.now.rows.now.items c.args.ranks.now) (take (length c.args.table.now.rows.now.items) c.args.list.now) c.loop-i.i s s (taken_long (length c.args.table.now.rows.now.items) c.args.list.now c.loop-i.i low there) (taken_is (length c.args.table.now.rows.now.items) c.args.list.now c.loop-i.i s low c.index-list-i.is) (sym c.is_made.ensures.made ∙ c.if-not-is_made.true) in
+    let here =
+    bad_here (is_made c.args.a.now c.args.table.now.rows.now.width c.args.gens.now.items c.args.table.now.rows.now.items c.args.ranks.now)
+    (take (length c.args.table.now.rows.now.items) c.args.list.now) c.loop-i.i s s
+    (taken_long (length c.args.table.now.rows.now.items) c.args.list.now c.loop-i.i low there)
+    (taken_is (length c.args.table.now.rows.now.items) c.args.list.now c.loop-i.i s low c.index-list-i.is)
+    (sym c.is_made.ensures.made ∙ c.if-not-is_made.true) in
     ap (λ o. option_map flaw.Origin (first_or_short o (length c.args.table.now.rows.now.items) (length c.args.list.now))) (c.loop-i.invariant.rest ∙ here)
 
 pub loop-i-preserved : goal.loop-i-preserved
@@ -23,5 +28,11 @@ loop-i-preserved c =
     let s : CertStep = c.index-list-i.result in
     record {
       scratch = c.is_made.ensures.width;
-      rest = c.loop-i.invariant.rest ∙ bad_later (is_made c.args.a.now c.args.table.now.rows.now.width c.args.gens.now.items c.args.table.now.rows.now.items c.args.ranks.now) (take (length c.args.table.now.rows.now.items) c.args.list.now) c.loop-i.i s s (taken_long (length c.args.table.now.rows.now.items) c.args.list.now c.loop-i.i low there) (taken_is (length c.args.table.now.rows.now.items) c.args.list.now c.loop-i.i s low c.index-list-i.is) (sym c.is_made.ensures.made ∙ c.if-not-is_made.false);
+      rest =
+          c.loop-i.invariant.rest
+          ∙ bad_later (is_made c.args.a.now c.args.table.now.rows.now.width c.args.gens.now.items c.args.table.now.rows.now.items c.args.ranks.now)
+          (take (length c.args.table.now.rows.now.items) c.args.list.now) c.loop-i.i s s
+          (taken_long (length c.args.table.now.rows.now.items) c.args.list.now c.loop-i.i low there)
+          (taken_is (length c.args.table.now.rows.now.items) c.args.list.now c.loop-i.i s low c.index-list-i.is)
+          (sym c.is_made.ensures.made ∙ c.if-not-is_made.false);
     }

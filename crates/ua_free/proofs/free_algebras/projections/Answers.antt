@@ -7,7 +7,11 @@ use Rattle.ua_free.proofs.free_algebras.projections.Goals as goal
 
 pub add-requires-clause-width : goal.add-requires-clause-width
 add-requires-clause-width c =
-    let long = ap length (c.as_slice.ensures.value ∙ c.in_ok-append_values.ensures ∙ ap (λ (row : List ℕ). row ++ projection c.args.size c.args.variables c.loop-variable.variable) c.in_ok-row.ensures.items) ∙ length_projection c.args.size c.args.variables _ in
+    let long =
+    ap length
+    (c.as_slice.ensures.value ∙ c.in_ok-append_values.ensures
+    ∙ ap (λ (row : List ℕ). row ++ projection c.args.size c.args.variables c.loop-variable.variable) c.in_ok-row.ensures.items)
+    ∙ length_projection c.args.size c.args.variables _ in
     let wide = c.loop-variable.invariant.width in
     let width = c.requires.width in
     omega (arith, long, wide, width)

@@ -3,7 +3,7 @@ use Rattle.std.specs.Prelude.{max}
 use Rattle.std.proofs.lemmas.List.{take_all}
 use Rattle.ua_term.specs.declared.terms.Term.{Term}
 use Rattle.ua_term.specs.Trees.{tree_of}
-use Rattle.ua_term.proofs.TreeLemmas.{var_tree, op_tree, fewer_nodes}
+use Rattle.ua_term.proofs.TreeLaws.{var_tree, op_tree, fewer_nodes}
 use Rattle.ua_free.specs.Identities.{variables_of}
 use Rattle.ua_free.proofs.VariableLaws.{most_in, one_low, most_more}
 use Rattle.ua_free.proofs.identities.+variables_of.Goals as goal

@@ -30,7 +30,10 @@ assignment_count-count-requires-clause-variables c =
 
 pub loop-init : goal.loop-init
 loop-init c = record {
-  walk = subst (IsNumbered c.args.a.now.size c.max-variables.result 0) (sym (c.in_ok-xs.ensures.items_if_clones_equal (λ y e. e) ∙ ap (λ n. replicate n 0) c.from-2.ensures)) (walk_begins c.args.a.now.size c.max-variables.result c.size.ensures.algebra.algebra.inhabited);
+  walk =
+      subst (IsNumbered c.args.a.now.size c.max-variables.result 0)
+      (sym (c.in_ok-xs.ensures.items_if_clones_equal (λ y e. e) ∙ ap (λ n. replicate n 0) c.from-2.ensures))
+      (walk_begins c.args.a.now.size c.max-variables.result c.size.ensures.algebra.algebra.inhabited);
   below = λ ys fine less. absurd (omega (arith, less));
 }
 
@@ -85,12 +88,25 @@ loop-preserved c =
     let less = c.loop-test.true in
     let size = c.size-in-loop.ensures.size in
     let lent = c.as_mut_slice.ensures.value in
-    let fine : IsAssignment a.size c.max-variables.result ys = record { count = c.next_tuple.auto.xs ∙ ap length lent ∙ c.loop.invariant.walk.assignment.count; elements = subst (λ n. AllByRecursion (λ x. x < n) ys) size c.next_tuple.ensures.below } in
+    let fine : IsAssignment a.size c.max-variables.result ys =
+    record {
+      count = c.next_tuple.auto.xs ∙ ap length lent
+          ∙ c.loop.invariant.walk.assignment.count;
+      elements = subst (λ n. AllByRecursion (λ x. x < n) ys) size c.next_tuple.ensures.below;
+    } in
     let next : numeral a.size xs + 1 < a.size ^ length xs → numeral a.size ys ≡ numeral a.size xs + 1 =
-    subst (λ n. numeral n xs + 1 < n ^ length xs → numeral n ys ≡ numeral n xs + 1) size (subst (λ us. numeral c.size-in-loop.result us + 1 < c.size-in-loop.result ^ length us → numeral c.size-in-loop.result ys ≡ numeral c.size-in-loop.result us + 1) lent c.next_tuple.ensures.next) in
+    subst (λ n. numeral n xs + 1 < n ^ length xs → numeral n ys ≡ numeral n xs + 1) size
+    (subst
+    (λ us.
+    numeral c.size-in-loop.result us + 1 < c.size-in-loop.result ^ length us
+    → numeral c.size-in-loop.result ys ≡ numeral c.size-in-loop.result us + 1)
+    lent c.next_tuple.ensures.next)
+    in
     let room : length ys ≡ c.loop.xs.len = omega (arith, c.loop.xs.ok.0, fine.count, c.loop.invariant.walk.assignment.count) in
     record {
-      walk = subst (IsNumbered a.size c.max-variables.result (c.loop.counter + 1)) (sym (take_at ys (drop (length ys) xs) c.loop.xs.len room)) (walk_goes_on a.size c.max-variables.result c.loop.counter xs ys c.loop.invariant.walk fine next);
+      walk =
+          subst (IsNumbered a.size c.max-variables.result (c.loop.counter + 1)) (sym (take_at ys (drop (length ys) xs) c.loop.xs.len room))
+          (walk_goes_on a.size c.max-variables.result c.loop.counter xs ys c.loop.invariant.walk fine next);
       below = one_more_holds a c.max-variables.result s t c.loop.counter c.loop.invariant.below xs c.loop.invariant.walk (omega (arith, less, count)) (sym values.0 ∙ c.if-eval.false ∙ values.1);
     }
 

@@ -1,5 +1,5 @@
 use Rattle.std.proofs.Common.{◌^◌}
-use Rattle.ua_table.proofs.AlgebraLemmas.{power_product}
+use Rattle.ua_table.proofs.AlgebraLaws.{power_product}
 use Rattle.ua_term.specs.Assignments.{projections, power_of_assignments}
 use Rattle.ua_close.proofs.AnswerLaws.{may_close}
 use Rattle.ua_free.proofs.MemberLaws.{power_some, projections_admitted}

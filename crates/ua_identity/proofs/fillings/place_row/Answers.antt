@@ -20,7 +20,9 @@ pub variable-requires : goal.variable-requires
 variable-requires g c =
     let xs = c.args.list.now in
     let P = λ (p : VariablePattern). c.args.place < length p.places in
-    subst P (sym c.pattern-pattern.ensures) (row_at g.P.Patterned.pattern_of c.args.size xs c.loop-item.item-index c.item-item.result c.loop-item-test.true c.item-item.is P (subst (AllByRecursion P) (g.met.P.Patterned.each xs) c.requires.place))
+    subst P (sym c.pattern-pattern.ensures)
+    (row_at g.P.Patterned.pattern_of c.args.size xs c.loop-item.item-index c.item-item.result c.loop-item-test.true c.item-item.is P
+    (subst (AllByRecursion P) (g.met.P.Patterned.each xs) c.requires.place))
 
 pub loop-item-preserved : goal.loop-item-preserved
 loop-item-preserved g c =
@@ -29,5 +31,9 @@ loop-item-preserved g c =
     let pattern = c.pattern-pattern.ensures in
     let places = subst (AllByRecursion (λ (p : VariablePattern). j < length p.places)) (g.met.P.Patterned.each xs) c.requires.place in
     c.in_ok-append_values.ensures
-    ∙ (λ i. c.loop-item.invariant i ++ projection c.args.size ((c.variables.ensures.variables ∙ ap (λ (p : VariablePattern). p.variables) pattern) i) ((c.variable.ensures.variable ∙ ap (λ (p : VariablePattern). slice_index p.places j) pattern) i))
+    ∙
+    (λ i.
+    c.loop-item.invariant i
+    ++ projection c.args.size ((c.variables.ensures.variables ∙ ap (λ (p : VariablePattern). p.variables) pattern) i)
+    ((c.variable.ensures.variable ∙ ap (λ (p : VariablePattern). slice_index p.places j) pattern) i))
     ∙ sym (row_more g.P.Patterned.pattern_of c.args.size xs c.loop-item.item-index c.item-item.result c.loop-item-test.true c.item-item.is j places)

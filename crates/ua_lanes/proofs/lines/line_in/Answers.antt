@@ -35,7 +35,8 @@ returns-clause-numbers c y =
     let few = c.requires.few in
     let long : length xs ≡ c.args.arity = length-take-le c.args.arity c.args.args (omega (arith, few)) in
     let low = c.requires.free in
-    let start : c.number_of-start.result ≡ numeral c.args.table.now.size (slice_set xs c.args.free 0) = c.number_of-start.ensures.number ∙ ap (numeral c.args.table.now.size) (take-set-lt c.args.arity c.args.args c.args.free 0 c.requires.free) in
+    let start : c.number_of-start.result ≡ numeral c.args.table.now.size (slice_set xs c.args.free 0) =
+    c.number_of-start.ensures.number ∙ ap (numeral c.args.table.now.size) (take-set-lt c.args.arity c.args.args c.args.free 0 c.requires.free) in
     let step : c.pow-step.result ≡ c.args.table.now.size ^ (length xs - c.args.free - 1) = c.pow-step.ensures ∙ (λ i. c.size.ensures.size i ^ (sym long i - c.args.free - 1)) in
     (λ i. start i + y * step i) ∙ sym (numeral_set c.args.table.now.size xs c.args.free y (omega (arith, low, long)))
 
@@ -45,7 +46,8 @@ returns-clause-within c y small =
     let few = c.requires.few in
     let long : length xs ≡ c.args.arity = length-take-le c.args.arity c.args.args (omega (arith, few)) in
     let low = c.requires.free in
-    let start : c.number_of-start.result ≡ numeral c.args.table.now.size (slice_set xs c.args.free 0) = c.number_of-start.ensures.number ∙ ap (numeral c.args.table.now.size) (take-set-lt c.args.arity c.args.args c.args.free 0 c.requires.free) in
+    let start : c.number_of-start.result ≡ numeral c.args.table.now.size (slice_set xs c.args.free 0) =
+    c.number_of-start.ensures.number ∙ ap (numeral c.args.table.now.size) (take-set-lt c.args.arity c.args.args c.args.free 0 c.requires.free) in
     let step : c.pow-step.result ≡ c.args.table.now.size ^ (length xs - c.args.free - 1) = c.pow-step.ensures ∙ (λ i. c.size.ensures.size i ^ (sym long i - c.args.free - 1)) in
     subst (λ n. n < length c.args.table.now.values) (sym ((λ i. start i + y * step i) ∙ sym (numeral_set c.args.table.now.size xs c.args.free y (omega (arith, low, long)))))
     (numeral_within c.args.table.now xs c.args.free y c.size.ensures.table (long ∙ c.requires.arity) c.requires.below small)

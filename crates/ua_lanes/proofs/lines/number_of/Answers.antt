@@ -16,19 +16,25 @@ more o m i args t arity below h b =
 
 pub overflow_mul-number : goal.overflow_mul-number
 overflow_mul-number c =
-    let m = more c.args.table.now c.loop-x.number c.loop-x.x-index c.args.args.now c.size-size.ensures.table c.requires.arity c.requires.below c.loop-x-test.true (subst (λ n. c.loop-x.number < n ^ c.loop-x.x-index) c.size-size.ensures.size c.loop-x.invariant.below) in
+    let m =
+    more c.args.table.now c.loop-x.number c.loop-x.x-index c.args.args.now c.size-size.ensures.table c.requires.arity c.requires.below
+    c.loop-x-test.true (subst (λ n. c.loop-x.number < n ^ c.loop-x.x-index) c.size-size.ensures.size c.loop-x.invariant.below) in
     let e = ap (λ n. c.loop-x.number * n) c.size-size.ensures.size in
     omega (arith, m.1, e)
 
 pub overflow_add-number : goal.overflow_add-number
 overflow_add-number c =
-    let m = more c.args.table.now c.loop-x.number c.loop-x.x-index c.args.args.now c.size-size.ensures.table c.requires.arity c.requires.below c.loop-x-test.true (subst (λ n. c.loop-x.number < n ^ c.loop-x.x-index) c.size-size.ensures.size c.loop-x.invariant.below) in
+    let m =
+    more c.args.table.now c.loop-x.number c.loop-x.x-index c.args.args.now c.size-size.ensures.table c.requires.arity c.requires.below
+    c.loop-x-test.true (subst (λ n. c.loop-x.number < n ^ c.loop-x.x-index) c.size-size.ensures.size c.loop-x.invariant.below) in
     let e = ap (λ n. c.loop-x.number * n) c.size-size.ensures.size in
     omega (arith, m.1, e)
 
 pub loop-x-preserved : goal.loop-x-preserved
 loop-x-preserved c =
-    let m = more c.args.table.now c.loop-x.number c.loop-x.x-index c.args.args.now c.size-size.ensures.table c.requires.arity c.requires.below c.loop-x-test.true (subst (λ n. c.loop-x.number < n ^ c.loop-x.x-index) c.size-size.ensures.size c.loop-x.invariant.below) in
+    let m =
+    more c.args.table.now c.loop-x.number c.loop-x.x-index c.args.args.now c.size-size.ensures.table c.requires.arity c.requires.below
+    c.loop-x-test.true (subst (λ n. c.loop-x.number < n ^ c.loop-x.x-index) c.size-size.ensures.size c.loop-x.invariant.below) in
     record {
       number = ap (λ k. k * c.size-size.result + get_or c.args.args.now c.loop-x.x-index 0) c.loop-x.invariant.number ∙ sym (numeral_more c.size-size.result c.loop-x.x-index c.args.args.now c.loop-x-test.true);
       below = subst (λ n. c.loop-x.number * n + get_or c.args.args.now c.loop-x.x-index 0 < n ^ (c.loop-x.x-index + 1)) (sym c.size-size.ensures.size) m.0;

@@ -16,7 +16,9 @@ loop-j-preserved c =
     let covers = c.args.covers.now in
     let j = c.loop-j.j in
     let h = c.loop-j.invariant in
-    let count : c.index.result.now ≡ lower_covers covers j = c.index.ensures ∙ ap (λ (xs : List ℕ). get_or xs j c.index.result.now) c.in_ok-counts.ensures ∙ get_or-map-range_with_len (lower_covers covers) 0 c.args.count j j c.index.result.now c.loop-j-test.true (omega arith) in
+    let count : c.index.result.now ≡ lower_covers covers j =
+    c.index.ensures ∙ ap (λ (xs : List ℕ). get_or xs j c.index.result.now) c.in_ok-counts.ensures
+    ∙ get_or-map-range_with_len (lower_covers covers) 0 c.args.count j j c.index.result.now c.loop-j-test.true (omega arith) in
     elim c.if-index-eq1.branch [
       | then-index-eq1+in_ok-push w ↦
           let one = sym count ∙ w.if-index-eq1.true in

@@ -73,7 +73,8 @@ returns-clause-kept c = λ _. old_among c.args.found.now.rows.items c.args.part.
 pub returns-clause-there : goal.returns-clause-there
 returns-clause-there c = λ whole.
     let old = c.args.found.now in
-    generator_there c.args.search.now.algebra.now old.generators.items old.rows.items c.args.part.now c.enter_joins.new.rows.items c.requires.found.algebra.algebra c.requires.found.spanned c.requires.congruence c.in_ok-whole.ensures.joins (c.in_ok-whole.ensures.all whole)
+    generator_there c.args.search.now.algebra.now old.generators.items old.rows.items c.args.part.now c.enter_joins.new.rows.items
+    c.requires.found.algebra.algebra c.requires.found.spanned c.requires.congruence c.in_ok-whole.ensures.joins (c.in_ok-whole.ensures.all whole)
 
 pub returns-clause-congruences : goal.returns-clause-congruences
 returns-clause-congruences c =

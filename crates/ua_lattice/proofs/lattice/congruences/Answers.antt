@@ -47,7 +47,12 @@ covers_of-requires-clause-list g c =
     let whole = c.if-not-whole.false in
     let parts = subst (λ (ps : List Partition). AreAmong ps rows) c.as_slice.ensures.value (c.in_ok-whole.ensures.there whole) in
     subst (IsCongruenceList a) (sym c.as_slice-2.ensures.value)
-    (congruence_list rows c.in_ok-list.list.items c.in_ok-list.ensures a c.take_in_all.new.found.generators.items (c.in_ok-whole.ensures.found whole).spanned c.in_ok-parts.parts.items (c.in_ok-parts.ensures.all (few_parts c.in_ok-parts.parts.items rows c.args.run.now.budget c.in_ok-parts.ensures.in_order parts (c.in_ok-whole.ensures.found whole).within)) parts)
+    (congruence_list rows c.in_ok-list.list.items c.in_ok-list.ensures a c.take_in_all.new.found.generators.items
+    (c.in_ok-whole.ensures.found whole).spanned c.in_ok-parts.parts.items
+    (c.in_ok-parts.ensures.all
+    (few_parts c.in_ok-parts.parts.items rows c.args.run.now.budget c.in_ok-parts.ensures.in_order parts
+    (c.in_ok-whole.ensures.found whole).within))
+    parts)
 
 pub covers_of-requires-clause-spanned : goal.covers_of-requires-clause-spanned
 covers_of-requires-clause-spanned g c =
@@ -93,7 +98,13 @@ returns g c =
     let long = arranged_length rows list c.in_ok-list.ensures in
     let few = (c.in_ok-whole.ensures.found whole).within in
     record {
-      all_of_them = congruence_list rows list c.in_ok-list.ensures a c.take_in_all.new.found.generators.items (c.in_ok-whole.ensures.found whole).spanned c.in_ok-parts.parts.items (c.in_ok-parts.ensures.all (few_parts c.in_ok-parts.parts.items rows c.args.run.now.budget c.in_ok-parts.ensures.in_order parts (c.in_ok-whole.ensures.found whole).within)) parts;
+      all_of_them =
+          congruence_list rows list c.in_ok-list.ensures a c.take_in_all.new.found.generators.items (c.in_ok-whole.ensures.found whole).spanned
+          c.in_ok-parts.parts.items
+          (c.in_ok-parts.ensures.all
+          (few_parts c.in_ok-parts.parts.items rows c.args.run.now.budget c.in_ok-parts.ensures.in_order parts
+          (c.in_ok-whole.ensures.found whole).within))
+          parts;
       within = omega (arith, long, few);
       covering = subst (λ (ps : List Partition). AreCovers a ps covers) c.as_slice-2.ensures.value c.in_ok-covers.ensures;
       irreducible = subst (λ (ps : List (ℕ × ℕ)). AreIrreducible ps irreducibles) c.as_slice-3.ensures.value c.in_ok-irreducibles.ensures;

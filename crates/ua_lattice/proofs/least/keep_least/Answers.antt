@@ -24,7 +24,8 @@ loop-k-preserved c =
     elim c.if-not-lies_above_one.branch [
       | then-not-lies_above_one+in_ok-push w ↦
           let none : ¬ LiesAboveOne list least place = (λ l. iff_false c.lies_above_one.ensures w.if-not-lies_above_one.true (subst (λ (js : List ℕ). LiesAboveOne list js place) (sym slice) l)) in
-          subst (AreLeastOfFirst list places (k + 1)) (sym (ap (λ (v : Vec ℕ Global). v.items) w.least-is ∙ w.in_ok-push.ensures.items)) (least_pushed list places k least h c.requires.list c.requires.in_order c.requires.within c.loop-k-test.true none)
+          subst (AreLeastOfFirst list places (k + 1)) (sym (ap (λ (v : Vec ℕ Global). v.items) w.least-is ∙ w.in_ok-push.ensures.items))
+          (least_pushed list places k least h c.requires.list c.requires.in_order c.requires.within c.loop-k-test.true none)
       | else-not-lies_above_one w ↦
           let above : LiesAboveOne list least place = subst (λ (js : List ℕ). LiesAboveOne list js place) slice (c.lies_above_one.ensures.0 w.if-not-lies_above_one.false) in
           subst (AreLeastOfFirst list places (k + 1)) (sym (ap (λ (v : Vec ℕ Global). v.items) w.least-is)) (least_kept list places k least h above)

@@ -32,7 +32,10 @@ returns c =
     let permutation = moved rows list sorted c.in_ok-list.ensures.partitions c.in_ok-sort.ensures.permutation in
     let counts = all_permutation IsCounted list sorted c.in_ok-sort.ensures.permutation c.in_ok-list.ensures.counts in
     let different = IsDistinct-IsPermutation (pointwise nat_eq) nat_list_eq_equiv.symm rows (partitions_of sorted) permutation c.with_counts.ensures.rows.different in
-    let in_order = strictly_sorted (partitions_of sorted) different (sorted_partitions _ (λ a b ha hb i. ordering_then (nat_cmp (hb i) (ha i)) (slice_cmp nat_cmp a.leaders.items b.leaders.items)) sorted counts c.in_ok-sort.ensures.sorted) in
+    let in_order =
+    strictly_sorted (partitions_of sorted) different
+    (sorted_partitions _ (λ a b ha hb i. ordering_then (nat_cmp (hb i) (ha i)) (slice_cmp nat_cmp a.leaders.items b.leaders.items)) sorted counts
+    c.in_ok-sort.ensures.sorted) in
     IfOk-weaker c.without_counts.result _ _
     (λ parts is. record {
       permutation = subst (IsPermutation rows) (sym is) permutation;

@@ -38,7 +38,8 @@ search_start p gens vs s n all order reached heights origins =
       found = λ q c. absurd (Contains-none q (subst (λ (xs : List ℕ). Contains xs q) order c));
     }
 
-whole_from : (t : Table) (a b c : Search) → IsRowTable t → GeneratorsVisitedIn t a → ReachesMore (arities t.operations) a b → ConstantsVisitedIn t b → ReachesMore (arities t.operations) b c → IsSearchOf t c → SlicesVisitedIn t c (bound t.shape (length c.order.items))
+whole_from : (t : Table) (a b c : Search) → IsRowTable t → GeneratorsVisitedIn t a → ReachesMore (arities t.operations) a b → ConstantsVisitedIn t b
+    → ReachesMore (arities t.operations) b c → IsSearchOf t c → SlicesVisitedIn t c (bound t.shape (length c.order.items))
     → IsWholeSearch t.operations t.gens.now.items t.rows.items c
 whole_from t a b c table generators l constants m search slices = record {
   search = search;

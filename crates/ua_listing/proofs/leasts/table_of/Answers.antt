@@ -58,7 +58,8 @@ rows_whole_at old n places taken rows e f g h = e ∙ (λ i. rows_at (vectors_of
 
 pub returns-clause-table : goal.returns-clause-table
 returns-clause-table c =
-    table_is c.args.frame.now c.args.gens.now.items c.args.list.now c.requires.closed c.width.ensures.product c.requires.admitted c.in_ok-shape.ensures.shape _ c.in_ok-new.ensures c.in_ok-shape.ensures.arities refl (c.in_ok-rows_at.ensures.width ∙ c.width.ensures.width)
+    table_is c.args.frame.now c.args.gens.now.items c.args.list.now c.requires.closed c.width.ensures.product c.requires.admitted
+    c.in_ok-shape.ensures.shape _ c.in_ok-new.ensures c.in_ok-shape.ensures.arities refl (c.in_ok-rows_at.ensures.width ∙ c.width.ensures.width)
     (rows_whole_at c.args.list.now c.len.result c.in_ok-places.places.items c.as_slice.result.now c.in_ok-rows_at.field-0.items c.in_ok-rows_at.ensures.rows c.as_slice.ensures.value c.in_ok-places.ensures c.len.ensures)
 
 pub returns-clause-rows : goal.returns-clause-rows

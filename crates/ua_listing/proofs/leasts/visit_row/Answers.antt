@@ -58,7 +58,10 @@ loop-s-init c =
       width = c.requires.width;
       mark = c.requires.mark;
       earlier = c.requires.earlier;
-      goes = subst (GoesOnTo t s s) (let h : suc (height_number s c.args.m) ≡ c.index-2.result.now + 1 = omega (arith, e) in h) (goes_on_start t s (suc (height_number s c.args.m)) c.requires.search (top_of t.operations t.gens.now.items t.rows.items s c.args.m c.requires.search c.requires.row c.requires.near));
+      goes =
+          subst (GoesOnTo t s s) (let h : suc (height_number s c.args.m) ≡ c.index-2.result.now + 1 = omega (arith, e) in h)
+          (goes_on_start t s (suc (height_number s c.args.m)) c.requires.search
+          (top_of t.operations t.gens.now.items t.rows.items s c.args.m c.requires.search c.requires.row c.requires.near));
       visited = c.requires.visited;
     }
 

@@ -25,7 +25,16 @@ positions_of-requires-clause-count c =
 pub moved_origins-requires-clause-origins : goal.moved_origins-requires-clause-origins
 moved_origins-requires-clause-origins c =
     let ranking = c.in_ok-ranks.ensures.ranking in
-    let n : length c.args.records.now ≡ length c.as_slice-3.result.now = omega (arith, ap length c.as_slice-3.ensures.value, c.in_ok-positions.ensures.count, ap length c.as_slice.ensures.value, ranking.count, length-map c.args.records.now (λ (r : Record). r.0)) in
+    let n : length c.args.records.now ≡ length c.as_slice-3.result.now =
+    omega (
+      arith,
+      ap length c.as_slice-3.ensures.value,
+      c.in_ok-positions.ensures.count,
+      ap length c.as_slice.ensures.value,
+      ranking.count,
+      length-map
+          c.args.records.now (λ (r : Record). r.0),
+    ) in
     subst (λ m. AllByRecursion (λ (r : Record). IsOriginOver c.args.shape.now m r.1) c.args.records.now) n c.requires
 
 pub moved_origins-requires-clause-ranks : goal.moved_origins-requires-clause-ranks
@@ -37,6 +46,9 @@ moved_origins-requires-clause-ranks c =
 pub returns-clause-arranged : goal.returns-clause-arranged
 returns-clause-arranged c =
     let positions = subst (λ (ns : List ℕ). ArePositions ns c.in_ok-positions.positions.items) c.as_slice.ensures.value c.in_ok-positions.ensures in
-    let origins : c.in_ok-origins.origins.items ≡ origins_at c.args.shape.now c.in_ok-positions.positions.items c.args.records.now c.in_ok-ranks.ranks.items = c.in_ok-origins.ensures ∙ (λ i. origins_at c.args.shape.now (c.as_slice-3.ensures.value i) c.args.records.now (c.as_slice-2.ensures.value i)) in
+    let origins : c.in_ok-origins.origins.items
+    ≡ origins_at c.args.shape.now c.in_ok-positions.positions.items c.args.records.now c.in_ok-ranks.ranks.items =
+    c.in_ok-origins.ensures
+    ∙ (λ i. origins_at c.args.shape.now (c.as_slice-3.ensures.value i) c.args.records.now (c.as_slice-2.ensures.value i)) in
     subst (λ (os : List Origin). IsArranged c.args.shape.now c.args.records.now (listed (rows_of c.args.records.now) c.in_ok-ranks.ranks.items os)) (sym origins)
     (arranged c.args.shape.now c.args.records.now c.in_ok-ranks.ranks.items c.in_ok-positions.positions.items c.in_ok-ranks.ensures.ranking positions c.requires)

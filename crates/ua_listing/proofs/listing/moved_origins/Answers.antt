@@ -16,7 +16,9 @@ loop-rank-preserved c =
     let ranks = c.args.ranks.now in
     let i = c.loop-rank.rank-index in
     let f = λ (r : ℕ). by_position c.args.shape.now c.args.positions.now (get_or c.args.records.now r ([], Gen 0)).1 in
-    let here : c.origin.result ≡ (get_or c.args.records.now (get_or ranks i 0) ([], Gen 0)).1 = ap (λ (r : Record). r.1) (sym (get_or_from_slice_get c.args.records.now (get_or ranks i 0) (c.origin.ensures.0, c.origin.result) ([], Gen 0) c.origin.ensures.1)) in
+    let here : c.origin.result ≡ (get_or c.args.records.now (get_or ranks i 0) ([], Gen 0)).1 =
+    ap (λ (r : Record). r.1)
+    (sym (get_or_from_slice_get c.args.records.now (get_or ranks i 0) (c.origin.ensures.0, c.origin.result) ([], Gen 0) c.origin.ensures.1)) in
     c.in_ok-push.ensures.items
     ∙ (λ l. c.loop-rank.invariant l ++ (c.moved.ensures ∙ ap (by_position c.args.shape.now c.args.positions.now) here) l ∷ [])
     ∙ sym (map-append f (take i ranks) (get_or ranks i 0 ∷ []))

@@ -10,7 +10,8 @@ use Rattle.ua_matrix.specs.inner.Matrices.{IsFirstOfFront}
 use Rattle.ua_matrix.proofs.FailureLaws.{all_go}
 use Rattle.ua_matrix.proofs.failures.first_failure.Goals as goal
 
-if_none : (delta : Partition) (matrices : List Vector) (ranks : List ℕ) (first : Option ℕ) → AllByRecursion (AreFour (length delta)) matrices → IsFirstOfFront delta matrices ranks (length matrices) first → IfNone first (AllByRecursion (Goes delta) matrices)
+if_none : (delta : Partition) (matrices : List Vector) (ranks : List ℕ) (first : Option ℕ) → AllByRecursion (AreFour (length delta)) matrices
+    → IsFirstOfFront delta matrices ranks (length matrices) first → IfNone first (AllByRecursion (Goes delta) matrices)
 if_none delta matrices ranks None four h = all_go delta matrices four h
 if_none delta matrices ranks (Some i) four h = tt
 

@@ -5,7 +5,7 @@ use Rattle.ua_table.specs.declared.limits.TheConstants.{BUDGET}
 use Rattle.ua_table.specs.Algebras.{Operation, FiniteAlgebra, arities_of}
 use Rattle.ua_table.specs.Numbering.{greatest}
 use Rattle.ua_table.specs.Tables.{IsAlgebraTable}
-use Rattle.ua_table.proofs.FrameLemmas.{IsShape-arities}
+use Rattle.ua_table.proofs.FrameLaws.{IsShape-arities}
 use Rattle.ua_table.proofs.Packed.{power_wide, greatest_small}
 use Rattle.ua_matrix.proofs.leading.is_narrow.Goals as goal
 
@@ -34,12 +34,16 @@ pow-power-requires c =
 pub overflow_mul-records : goal.overflow_mul-records
 overflow_mul-records c =
     let low = low_from c.args.a.now c.ops-ops.result.now c.ops-ops.ensures.operations c.ops-ops.ensures.algebra in
-    let m = product_small c.ops-ops.result.now c.from.result c.from-2.result c.pow-power.result low (omega (arith, c.requires, c.from.ensures)) (let l = low.low in omega (arith, l, c.from-2.ensures, c.greatest_arity.ensures)) c.pow-power.ensures in
+    let m =
+    product_small c.ops-ops.result.now c.from.result c.from-2.result c.pow-power.result low (omega (arith, c.requires, c.from.ensures))
+    (let l = low.low in omega (arith, l, c.from-2.ensures, c.greatest_arity.ensures)) c.pow-power.ensures in
     omega (arith, m)
 
 pub overflow_add-records-2 : goal.overflow_add-records-2
 overflow_add-records-2 c =
     let low = low_from c.args.a.now c.ops-ops.result.now c.ops-ops.ensures.operations c.ops-ops.ensures.algebra in
-    let m = product_small c.ops-ops.result.now c.from.result c.from-2.result c.pow-power.result low (omega (arith, c.requires, c.from.ensures)) (let l = low.low in omega (arith, l, c.from-2.ensures, c.greatest_arity.ensures)) c.pow-power.ensures in
+    let m =
+    product_small c.ops-ops.result.now c.from.result c.from-2.result c.pow-power.result low (omega (arith, c.requires, c.from.ensures))
+    (let l = low.low in omega (arith, l, c.from-2.ensures, c.greatest_arity.ensures)) c.pow-power.ensures in
     let gens = c.ranges.gens.fits in
     omega (arith, m, c.from-3.ensures, gens)

@@ -23,5 +23,8 @@ loop-place-preserved c =
     record {
       width = ap (λ (v : VectorList). v.width) c.in_ok-add-2.ensures.ok ∙ ap (λ (v : VectorList). v.width) c.in_ok-add.ensures.ok ∙ c.loop-place.invariant.width;
       count = omega (arith, long, longer, before);
-      items = leading_more (left_of n pairs) (right_of n pairs) delta e c.loop-place.matrices.items c.add.new.self.items c.add-in-loop-place.new.self.items c.matrix_of_rows.result c.matrix_of_rows-in-loop-place.result c.loop-place.invariant.items one two first second;
+      items =
+          leading_more (left_of n pairs) (right_of n pairs) delta e c.loop-place.matrices.items c.add.new.self.items
+          c.add-in-loop-place.new.self.items c.matrix_of_rows.result c.matrix_of_rows-in-loop-place.result c.loop-place.invariant.items one two first
+          second;
     }

@@ -9,5 +9,10 @@ abbrev pub invariant-loop-place : goal.invariant-loop-place
 invariant-loop-place l = record {
   width : l.matrices.width ≡ 4;
   count : length l.matrices.items ≡ 2 * l.place;
-  items : l.matrices.items ≡ flat_map (λ e. matrix_of_rows (left_of l.size l.delta.pairs.items) (right_of l.size l.delta.pairs.items) (slice_index l.delta.blocks e) e ∷ matrix_of_rows (left_of l.size l.delta.pairs.items) (right_of l.size l.delta.pairs.items) e (slice_index l.delta.blocks e) ∷ []) (range_with_len 0 l.place);
+  items : l.matrices.items
+      ≡ flat_map
+      (λ e.
+      matrix_of_rows (left_of l.size l.delta.pairs.items) (right_of l.size l.delta.pairs.items) (slice_index l.delta.blocks e) e
+      ∷ matrix_of_rows (left_of l.size l.delta.pairs.items) (right_of l.size l.delta.pairs.items) e (slice_index l.delta.blocks e) ∷ [])
+      (range_with_len 0 l.place);
 }

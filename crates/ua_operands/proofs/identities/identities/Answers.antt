@@ -5,7 +5,7 @@ use Rattle.ua_text.specs.Signs.{sign_at}
 use Rattle.ua_text.specs.Tokens.{tokens_left}
 use Rattle.ua_operands.specs.declared.written.IdentityText.{IdentityText}
 use Rattle.ua_operands.specs.Written.{identity, identity_behind}
-use Rattle.ua_operands.proofs.ReadLemmas.{more_step, more_missed, more_done}
+use Rattle.ua_operands.proofs.ReadLaws.{more_step, more_missed, more_done}
 use Rattle.ua_operands.proofs.identities.identities.Goals as goal
 
 pub returns-in_err-read-clause-only : goal.returns-in_err-read-clause-only

@@ -5,7 +5,7 @@ use Rattle.ua_text.specs.Reading.{begins_with}
 use Rattle.ua_text.specs.Tokens.{tokens_left, source_of}
 use Rattle.ua_operands.specs.declared.written.IdentityText.{IdentityText}
 use Rattle.ua_operands.specs.Written.{identity}
-use Rattle.ua_operands.proofs.ReadLemmas.{More}
+use Rattle.ua_operands.proofs.ReadLaws.{More}
 use Rattle.ua_operands.proofs.identities.identities.Given as goal
 
 -- of identities that stand there, those so far are read

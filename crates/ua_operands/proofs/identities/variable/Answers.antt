@@ -1,7 +1,7 @@
 use Rattle.std.proofs.Common.{rules, [], sym}
 use Rattle.ua_operands.specs.declared.written.Variable.TheVariants.{X, Y, Z, W}
 use Rattle.ua_operands.specs.Written.{variable}
-use Rattle.ua_operands.proofs.ReadLemmas.{variable_is, some_variable}
+use Rattle.ua_operands.proofs.ReadLaws.{variable_is, some_variable}
 use Rattle.ua_operands.proofs.identities.variable.Goals as goal
 
 pub returns-in_err-token-clause-only : goal.returns-in_err-token-clause-only

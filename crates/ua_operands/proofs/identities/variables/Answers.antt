@@ -4,7 +4,7 @@ use Rattle.ua_text.specs.declared.symbols.Role.TheVariants as roles
 use Rattle.ua_text.specs.Signs.{sign}
 use Rattle.ua_operands.specs.declared.written.Variable.{Variable}
 use Rattle.ua_operands.specs.Written.{variable}
-use Rattle.ua_operands.proofs.ReadLemmas.{single_step, single_missed, single_done, variable_apart}
+use Rattle.ua_operands.proofs.ReadLaws.{single_step, single_missed, single_done, variable_apart}
 use Rattle.ua_operands.proofs.identities.variables.Goals as goal
 
 pub returns-in_err-read-clause-only : goal.returns-in_err-read-clause-only

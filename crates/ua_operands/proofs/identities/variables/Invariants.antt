@@ -4,7 +4,7 @@ use Rattle.ua_text.specs.Signs.{Wanted, Front, sign}
 use Rattle.ua_text.specs.Tokens.{tokens_left, source_of}
 use Rattle.ua_operands.specs.declared.written.Variable.{Variable}
 use Rattle.ua_operands.specs.Written.{variable}
-use Rattle.ua_operands.proofs.ReadLemmas.{MoreSingles}
+use Rattle.ua_operands.proofs.ReadLaws.{MoreSingles}
 use Rattle.ua_operands.proofs.identities.variables.Given as goal
 
 -- of variables that stand there, those so far are read

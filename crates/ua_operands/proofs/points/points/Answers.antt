@@ -4,7 +4,7 @@ use Rattle.ua_text.specs.Signs.{sign, Front}
 use Rattle.ua_text.specs.Tokens.{tokens_left}
 use Rattle.ua_text.specs.Reading.{Gives}
 use Rattle.ua_operands.specs.Reading.{ArePointsShort}
-use Rattle.ua_operands.proofs.CloneLemmas.{first_of, behind, points_front, is_total, is_partial, some_points}
+use Rattle.ua_operands.proofs.CloneLaws.{first_of, behind, points_front, is_total, is_partial, some_points}
 use Rattle.ua_operands.proofs.points.points.Goals as goal
 
 pub returns-in_err-first-clause-only : goal.returns-in_err-first-clause-only

@@ -5,7 +5,7 @@ use Rattle.ua_text.specs.declared.symbols.Role.TheVariants as roles
 use Rattle.ua_text.specs.Printing.{Shows}
 use Rattle.ua_text.proofs.Prints.{shows_both, flat_push}
 use Rattle.ua_operands.specs.Written.{part_block}
-use Rattle.ua_operands.proofs.ReadLemmas.{blocks_flat}
+use Rattle.ua_operands.proofs.ReadLaws.{blocks_flat}
 use Rattle.ua_operands.proofs.printers.put_part_blocks.Goals as goal
 
 pub loop-block-preserved : goal.loop-block-preserved

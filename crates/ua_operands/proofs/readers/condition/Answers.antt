@@ -3,7 +3,7 @@ use Rattle.ua_text.specs.declared.symbols.Role.TheVariants as roles
 use Rattle.ua_text.specs.Signs.{sign}
 use Rattle.ua_operands.specs.declared.written.CondWord.TheVariants.{Maltsev, Majority, Minority, Pixley}
 use Rattle.ua_operands.specs.Written.{cond_word}
-use Rattle.ua_operands.proofs.ReadLemmas.{condition_is, some_condition}
+use Rattle.ua_operands.proofs.ReadLaws.{condition_is, some_condition}
 use Rattle.ua_operands.proofs.readers.condition.Goals as goal
 
 pub returns-in_err-token-clause-only : goal.returns-in_err-token-clause-only

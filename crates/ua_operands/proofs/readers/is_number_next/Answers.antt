@@ -1,7 +1,7 @@
 use Rattle.std.proofs.Common.{sym, ap, ◌∙◌}
 use Rattle.std.specs.Option.{is_some}
 use Rattle.ua_operands.specs.inner.Reading.{is_number_front}
-use Rattle.ua_operands.proofs.ReadLemmas.{front_is_number}
+use Rattle.ua_operands.proofs.ReadLaws.{front_is_number}
 use Rattle.ua_operands.proofs.readers.is_number_next.Goals as goal
 
 pub returns-in-Some : goal.returns-in-Some

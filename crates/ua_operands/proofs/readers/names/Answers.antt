@@ -3,7 +3,7 @@ use Rattle.ua_text.specs.declared.symbols.Role.TheVariants as roles
 use Rattle.ua_text.specs.Signs.{sign}
 use Rattle.ua_text.specs.Tokens.{tokens_left}
 use Rattle.ua_operands.specs.Written.{names}
-use Rattle.ua_operands.proofs.ReadLemmas.{names_front}
+use Rattle.ua_operands.proofs.ReadLaws.{names_front}
 use Rattle.ua_operands.proofs.readers.names.Goals as goal
 
 pub returns-in_err-exact-clause-only : goal.returns-in_err-exact-clause-only

@@ -3,7 +3,7 @@ use Rattle.ua_text.specs.declared.symbols.Role.TheVariants as roles
 use Rattle.ua_text.specs.Signs.{sign_at}
 use Rattle.ua_text.specs.Tokens.{tokens_left}
 use Rattle.ua_operands.specs.Written.{part_blocks}
-use Rattle.ua_operands.proofs.ReadLemmas.{blocks_front, part_is}
+use Rattle.ua_operands.proofs.ReadLaws.{blocks_front, part_is}
 use Rattle.ua_operands.proofs.readers.part.Goals as goal
 
 pub returns-in_err-bar-clause-only : goal.returns-in_err-bar-clause-only

@@ -4,7 +4,7 @@ use Rattle.ua_text.specs.Tokens.{tokens_left}
 use Rattle.ua_operands.specs.declared.written.Number.{Number}
 use Rattle.ua_operands.specs.Written.{part_block, part_blocks}
 use Rattle.ua_operands.specs.Reading.{IsShortBlock}
-use Rattle.ua_operands.proofs.ReadLemmas.{more_step, more_missed, more_done, block_number, tail_number}
+use Rattle.ua_operands.proofs.ReadLaws.{more_step, more_missed, more_done, block_number, tail_number}
 use Rattle.ua_operands.proofs.readers.part_blocks.Goals as goal
 
 pub returns-in_err-block-clause-only : goal.returns-in_err-block-clause-only

@@ -6,7 +6,7 @@ use Rattle.ua_text.specs.Tokens.{tokens_left, source_of}
 use Rattle.ua_operands.specs.declared.written.Number.{Number}
 use Rattle.ua_operands.specs.Written.{part_blocks}
 use Rattle.ua_operands.specs.Reading.{IsShortBlock, begins_number}
-use Rattle.ua_operands.proofs.ReadLemmas.{More}
+use Rattle.ua_operands.proofs.ReadLaws.{More}
 use Rattle.ua_operands.proofs.readers.part_blocks.Given as goal
 
 -- of blocks that stand there, those so far are read

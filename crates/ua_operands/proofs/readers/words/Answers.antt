@@ -5,7 +5,7 @@ use Rattle.ua_text.specs.Signs.{sign}
 use Rattle.ua_operands.specs.declared.written.Word.{Word}
 use Rattle.ua_operands.specs.Written.{word}
 use Rattle.ua_operands.specs.Reading.{IsNamed}
-use Rattle.ua_operands.proofs.ReadLemmas.{single_step, single_missed, single_done, word_apart}
+use Rattle.ua_operands.proofs.ReadLaws.{single_step, single_missed, single_done, word_apart}
 use Rattle.ua_operands.proofs.readers.words.Goals as goal
 
 pub returns-in_err-read-clause-only : goal.returns-in_err-read-clause-only

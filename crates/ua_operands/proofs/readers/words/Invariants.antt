@@ -6,7 +6,7 @@ use Rattle.ua_text.specs.Tokens.{tokens_left, source_of}
 use Rattle.ua_operands.specs.declared.written.Word.{Word}
 use Rattle.ua_operands.specs.Written.{word}
 use Rattle.ua_operands.specs.Reading.{IsNamed}
-use Rattle.ua_operands.proofs.ReadLemmas.{MoreSingles}
+use Rattle.ua_operands.proofs.ReadLaws.{MoreSingles}
 use Rattle.ua_operands.proofs.readers.words.Given as goal
 
 -- of words that stand there, those so far are read

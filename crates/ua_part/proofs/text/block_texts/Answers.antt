@@ -18,7 +18,10 @@ loop-member-preserved c =
     let within : leader < length texts = omega (arith, c.rep-leader.ensures.leader, part.low n w, ap length all ∙ length_push (members_of before) [], length-map texts items, c.loop-member.invariant.count) in
     let text = c.in_ok-push_member.ensures ∙ ap (with_member leader n) (ap items c.index_mut.ensures.value ∙ sym (get_or-map items texts leader c.index_mut.result.now [] within) ∙ ap (λ (ts : List (List ℕ)). get_or ts leader []) all) in
     subst (AreTexts p (n + 1))
-    (sym (map-set items texts leader c.push_member.new.text ∙ ap₂ (λ (ts : List (List ℕ)) (t : List ℕ). set ts leader t) all text ∙ ap (λ l. set (members_of before ++ [] ∷ []) l (with_member l n (get_or (members_of before ++ [] ∷ []) l []))) c.rep-leader.ensures.leader))
+    (sym
+    (map-set items texts leader c.push_member.new.text ∙ ap₂ (λ (ts : List (List ℕ)) (t : List ℕ). set ts leader t) all text
+    ∙ ap (λ l. set (members_of before ++ [] ∷ []) l (with_member l n (get_or (members_of before ++ [] ∷ []) l [])))
+    c.rep-leader.ensures.leader))
     (texts_more p part n w (members_of before) c.loop-member.invariant)
 
 pub returns-clause-texts : goal.returns-clause-texts

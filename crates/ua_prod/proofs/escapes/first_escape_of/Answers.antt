@@ -35,5 +35,9 @@ returns-clause-none c =
     let set = c.args.renumbering.now.members.items in
     let tuples = tuples_among set o.arity in
     let numbers = c.in_ok-numbers.ensures.numbers ∙ (λ j. map (numeral (c.size.ensures.size j)) (tuples_among (c.as_slice-members.ensures.value j) (c.arity.ensures.arity j))) in
-    let all = take_all c.loop-i.i tuples (let n = c.in_ok-numbers.numbers.ok.0 in let m = c.len-i-end.ensures in let t = c.loop-i-test.false in let l = length-map tuples (numeral o.size) in let e = ap length numbers in omega (arith, n, m, t, l, e)) in
+    let all =
+    take_all c.loop-i.i tuples
+    (let n = c.in_ok-numbers.numbers.ok.0 in
+    let m = c.len-i-end.ensures in
+    let t = c.loop-i-test.false in let l = length-map tuples (numeral o.size) in let e = ap length numbers in omega (arith, n, m, t, l, e)) in
     keeps_all o set (subst (AllByRecursion (Stays o set)) all c.loop-i.invariant)

@@ -8,7 +8,9 @@ loop-f-preserved c =
     let ks = c.args.arities.now in
     let f = c.loop-f.f in
     record {
-      tables = drawn_more n s f c.loop-f.lcg ks c.in_ok-table_drawn.field-0 c.loop-f.tables.items c.push.new.self.items c.loop-f-test.true c.loop-f.invariant.tables c.loop-f.invariant.state c.in_ok-push.ensures.items c.in_ok-table_drawn.ensures.table;
+      tables =
+          drawn_more n s f c.loop-f.lcg ks c.in_ok-table_drawn.field-0 c.loop-f.tables.items c.push.new.self.items c.loop-f-test.true
+          c.loop-f.invariant.tables c.loop-f.invariant.state c.in_ok-push.ensures.items c.in_ok-table_drawn.ensures.table;
       state = state_behind n s f c.loop-f.lcg c.table_drawn.new.lcg ks c.loop-f-test.true c.loop-f.invariant.state c.in_ok-table_drawn.ensures.state;
     }
 

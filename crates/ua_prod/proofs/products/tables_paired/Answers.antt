@@ -25,7 +25,10 @@ table_paired-requires-clause-values c =
     let right = size_is c.args.b.now c.loop-f.f c.op-in-loop-f.result.now c.op-in-loop-f.ensures.algebra.algebra c.op-in-loop-f.ensures.operation in
     let n = c.args.a.now.size * c.args.b.now.size in
     let power : (c.op.result.now.size * c.op-in-loop-f.result.now.size) ^ c.op.result.now.arity ≡ (c.args.a.now.size * c.args.b.now.size) ^ c.op.result.now.arity = λ j. (left j * right j) ^ c.op.result.now.arity in
-    let within = All-slice_get (λ k. n ^ k ≤ VALUES) (arities_of c.args.a.now) c.loop-f.f c.op.result.now.arity (each_within n VALUES (arities_of c.args.a.now) c.requires.values) (mapped_at (λ (o : Operation). o.arity) c.args.a.now.operations c.loop-f.f c.op.result.now c.op.ensures.operation) in
+    let within =
+    All-slice_get (λ k. n ^ k ≤ VALUES) (arities_of c.args.a.now) c.loop-f.f c.op.result.now.arity
+    (each_within n VALUES (arities_of c.args.a.now) c.requires.values)
+    (mapped_at (λ (o : Operation). o.arity) c.args.a.now.operations c.loop-f.f c.op.result.now c.op.ensures.operation) in
     omega (arith, power, within)
 
 pub table_paired-requires-clause-firsts : goal.table_paired-requires-clause-firsts

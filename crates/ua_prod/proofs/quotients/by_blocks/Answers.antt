@@ -10,12 +10,14 @@ use Rattle.ua_prod.proofs.quotients.by_blocks.Goals as goal
 use Rattle.ua_prod.proofs.quotients.by_blocks.Goals.{then-leader-a+in_ok-push+in_ok-push-2, else-leader-a+in_ok-push-3}
 
 -- the numbers of one element more
-numbers_more : (p : Partition) (a x number : ℕ) (old new : List ℕ) → a < length p → slice_index p a ≡ x → old ≡ map (blocks_below p) (take a p) → new ≡ old ++ number ∷ [] → number ≡ blocks_below p x → new ≡ map (blocks_below p) (take (a + 1) p)
+numbers_more : (p : Partition) (a x number : ℕ) (old new : List ℕ) → a < length p → slice_index p a ≡ x → old ≡ map (blocks_below p) (take a p)
+    → new ≡ old ++ number ∷ [] → number ≡ blocks_below p x → new ≡ map (blocks_below p) (take (a + 1) p)
 numbers_more p a x number old new w is before pushed value =
     pushed ∙ ap₂ (λ (os : List ℕ) n. os ++ n ∷ []) before (value ∙ ap (blocks_below p) (sym is)) ∙ sym (ap (map (blocks_below p)) (take_more p a 0 w) ∙ map-append (blocks_below p) (take a p) (slice_index p a ∷ []))
 
 -- what is read at the leader of an element that is none
-number_read : (p : Partition) (a x number : ℕ) (numbers : List ℕ) → a < length p → IsPartition p → x ≡ slice_index p a → slice_index p a ≢ a → numbers ≡ map (blocks_below p) (take a p) → number ≡ get_or numbers x number → number ≡ blocks_below p (slice_index p a)
+number_read : (p : Partition) (a x number : ℕ) (numbers : List ℕ) → a < length p → IsPartition p → x ≡ slice_index p a → slice_index p a ≢ a
+    → numbers ≡ map (blocks_below p) (take a p) → number ≡ get_or numbers x number → number ≡ blocks_below p (slice_index p a)
 number_read p a x number numbers w h leads apart is read =
     let low = h.low a w in
     let before : x < a = omega (arith, leads, low, apart) in
@@ -54,7 +56,10 @@ loop-a-preserved c =
           (let apart : slice_index c.args.p.now c.loop-a.a ≢ c.loop-a.a = (λ e. v.if-leader-a.false (leader ∙ e)) in
           record {
             members = ap (λ v. v.items) v.members-is ∙ c.loop-a.invariant.members
-                ∙ sym (passed_more (λ k. slice_index p k == k) a ∙ ap (λ b. filter (λ k. slice_index p k == k) (range_with_len 0 a) ++ cond b (a ∷ []) []) (ne_eqb (slice_index p a) a apart) ∙ append-nil (filter (λ k. slice_index p k == k) (range_with_len 0 a)));
+                ∙ sym
+                (passed_more (λ k. slice_index p k == k) a
+                ∙ ap (λ b. filter (λ k. slice_index p k == k) (range_with_len 0 a) ++ cond b (a ∷ []) []) (ne_eqb (slice_index p a) a apart)
+                ∙ append-nil (filter (λ k. slice_index p k == k) (range_with_len 0 a)));
             few = (
                 let old = c.loop-a.invariant.few in
                 let is = ap (λ v. length v.items) v.members-is in

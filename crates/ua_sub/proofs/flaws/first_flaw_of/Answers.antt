@@ -35,7 +35,9 @@ pub value_at_images-requires-clause-below : goal.value_at_images-requires-clause
 value_at_images-requires-clause-below c = subst (λ n. AllByRecursion (λ x. x < n) (take c.from-count.result c.loop-value.args)) (sym c.requires.count) c.loop-value.invariant.below
 
 pub value_at_images-requires-clause-images : goal.value_at_images-requires-clause-images
-value_at_images-requires-clause-images c = subst (λ n. AllByRecursion (λ x. x < n) c.args.images.now) (sym (size_is c.args.b.now c.args.op c.op-other.result.now c.op-other.ensures.algebra.algebra c.op-other.ensures.operation)) c.requires.below
+value_at_images-requires-clause-images c =
+    subst (λ n. AllByRecursion (λ x. x < n) c.args.images.now)
+    (sym (size_is c.args.b.now c.args.op c.op-other.result.now c.op-other.ensures.algebra.algebra c.op-other.ensures.operation)) c.requires.below
 
 pub returns-then-images-from-clause-some : goal.returns-then-images-from-clause-some
 returns-then-images-from-clause-some c =
@@ -47,7 +49,10 @@ returns-then-images-from-clause-some c =
     let table = c.arity.ensures.table in
     let within : c.loop-value.value-index < length o.values = omega (arith, c.loop-value-test.true, ap length c.values-value-items.ensures.values) in
     let same = ap (λ vs. slice_index vs c.loop-value.value-index) c.values-value-items.ensures.values in
-    let goes = goes_here a b c.args.images.now c.args.op c.from-count.result o alg.algebra stands table c.loop-value.value-index c.loop-value.args c.loop-value.invariant within c.op-other.result.now c.op-other.ensures.algebra.algebra c.op-other.ensures.operation c.from.result c.value_at_images.result (c.from.ensures ∙ same) c.value_at_images.ensures in
+    let goes =
+    goes_here a b c.args.images.now c.args.op c.from-count.result o alg.algebra stands table c.loop-value.value-index c.loop-value.args
+    c.loop-value.invariant within c.op-other.result.now c.op-other.ensures.algebra.algebra c.op-other.ensures.operation c.from.result
+    c.value_at_images.result (c.from.ensures ∙ same) c.value_at_images.ensures in
     first_here a b c.args.images.now c.args.op c.from-count.result o alg.algebra stands table c.loop-value.value-index c.loop-value.args c.loop-value.invariant within (λ h. c.if-images-from.true (goes.0 h))
 
 pub next_tuple-requires-clause-below : goal.next_tuple-requires-clause-below
@@ -68,7 +73,10 @@ loop-value-preserved c =
     let new = c.next_tuple.new.xs in
     let within : c.loop-value.value-index < length o.values = omega (arith, c.loop-value-test.true, ap length c.values-value-items.ensures.values) in
     let value = ap (λ vs. slice_index vs c.loop-value.value-index) c.values-value-items.ensures.values in
-    let goes = goes_here a b c.args.images.now c.args.op k o alg.algebra stands table c.loop-value.value-index c.loop-value.args c.loop-value.invariant within c.op-other.result.now c.op-other.ensures.algebra.algebra c.op-other.ensures.operation c.from.result c.value_at_images.result (c.from.ensures ∙ value) c.value_at_images.ensures in
+    let goes =
+    goes_here a b c.args.images.now c.args.op k o alg.algebra stands table c.loop-value.value-index c.loop-value.args c.loop-value.invariant
+    within c.op-other.result.now c.op-other.ensures.algebra.algebra c.op-other.ensures.operation c.from.result c.value_at_images.result
+    (c.from.ensures ∙ value) c.value_at_images.ensures in
     let same : c.size.result ≡ a.size = c.size.ensures.size ∙ size_is a c.args.op o alg.algebra stands in
     let long : length c.next_tuple.new.xs ≡ c.from-count.result = c.next_tuple.auto.xs ∙ c.loop-value.invariant.long in
     let front : take c.from-count.result (c.next_tuple.new.xs ++ drop c.from-count.result c.loop-value.args) ≡ c.next_tuple.new.xs = take_at new (drop k c.loop-value.args) k long in
@@ -80,5 +88,6 @@ loop-value-preserved c =
 
 pub returns-clause-none : goal.returns-clause-none
 returns-clause-none c =
-    none_at_end c.args.a.now c.args.b.now c.args.images.now c.args.op c.from-count.result c.op-table.result.now c.op-table.ensures.algebra.algebra c.op-table.ensures.operation c.arity.ensures.table c.loop-value.value-index c.loop-value.args c.loop-value.invariant
+    none_at_end c.args.a.now c.args.b.now c.args.images.now c.args.op c.from-count.result c.op-table.result.now c.op-table.ensures.algebra.algebra
+    c.op-table.ensures.operation c.arity.ensures.table c.loop-value.value-index c.loop-value.args c.loop-value.invariant
     (omega (arith, c.loop-value-test.false, ap length c.values-value-items.ensures.values))

@@ -4,7 +4,7 @@ use Rattle.std.specs.List.{AllByRecursion}
 use Rattle.ua_table.specs.Listings.{IsClosedListing, IsExceedingListing}
 use Rattle.ua_table.specs.Algebras.{Vector, Product, IsProduct, IsVector}
 use Rattle.ua_table.specs.Tables.{IsAlgebraTable}
-use Rattle.ua_table.proofs.FrameLemmas.{IsShape-arities}
+use Rattle.ua_table.proofs.FrameLaws.{IsShape-arities}
 use Rattle.ua_close.specs.declared.close.Closure.{Closure}
 use Rattle.ua_close.specs.Answers.{IsCause, IsWide}
 use Rattle.ua_close.specs.Permitted.{MayClose}

@@ -12,7 +12,9 @@ take_in-requires-clause-generated c =
     let a = c.args.question.now.algebra.now in
     let x = c.args.question.now.element in
     let o = c.op-table.result.now in
-    let all = all_found c.args.question.now c.args.found.now c.members_at-args.result c.arity.result c.requires.found (subst (λ (ms : List ℕ). AllByRecursion (Contains ms) c.members_at-args.result) c.as_slice.ensures.value c.members_at-args.ensures) in (
+    let all =
+    all_found c.args.question.now c.args.found.now c.members_at-args.result c.arity.result c.requires.found
+    (subst (λ (ms : List ℕ). AllByRecursion (Contains ms) c.members_at-args.result) c.as_slice.ensures.value c.members_at-args.ensures) in (
       subst (λ n. c.value-value.result < n) (size_is a c.args.op o c.op-table.ensures.algebra.algebra c.op-table.ensures.operation) c.value-value.ensures.element,
       subst (Generates a x) (sym c.value-value.ensures.value)
           (value_generated a x c.args.op o _ c.op-table.ensures.algebra.algebra c.op-table.ensures.operation c.requires.operation (search rules) (all_weaker (IsFound c.args.question.now) (Generates a x) (λ y h. h.1) _ all)),

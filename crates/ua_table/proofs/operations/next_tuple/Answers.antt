@@ -35,5 +35,8 @@ pub loop-place-preserved : goal.loop-place-preserved
 loop-place-preserved c =
     let place = c.loop-place.place in
     let behind = length c.loop-place.xs - place in
-    let back = goes_back c.args.size (place - 1) behind _ c.loop-place.xs (omega (arith, c.loop-place-test.true, c.loop-place.auto.place, c.loop-place.auto.xs)) c.loop-place.invariant.below (omega (arith, c.if-from-size.false, c.from.ensures)) c.loop-place.invariant.number in
+    let back =
+    goes_back c.args.size (place - 1) behind _ c.loop-place.xs
+    (omega (arith, c.loop-place-test.true, c.loop-place.auto.place, c.loop-place.auto.xs)) c.loop-place.invariant.below
+    (omega (arith, c.if-from-size.false, c.from.ensures)) c.loop-place.invariant.number in
     record { below = back.0; number = back.1 }

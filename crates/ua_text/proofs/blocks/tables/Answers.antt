@@ -1,6 +1,6 @@
 use Rattle.std.proofs.Common.{rules, ◌∙◌, arith}
 use Rattle.ua_text.specs.Tokens.{tokens_left}
-use Rattle.ua_text.proofs.ReadLemmas.{operation_step, operation_missed, operation_done}
+use Rattle.ua_text.proofs.ReadLaws.{operation_step, operation_missed, operation_done}
 use Rattle.ua_text.proofs.blocks.tables.Goals as goal
 
 pub returns-in_err-table-clause-only : goal.returns-in_err-table-clause-only

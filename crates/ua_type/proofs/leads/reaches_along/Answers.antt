@@ -14,22 +14,30 @@ new-translations-requires c = omega (arith, c.requires.place, arity_is c.args.b.
 
 pub row-firsts-requires-clause-element : goal.row-firsts-requires-clause-element
 row-firsts-requires-clause-element c =
-    let same : c.new-translations.result.table.now.size ≡ c.args.b.now.size = ap (λ (o : Operation). o.size) c.new-translations.ensures.table ∙ size_is c.args.b.now c.args.op c.op.result.now c.op.ensures.algebra.algebra c.op.ensures.operation in
+    let same : c.new-translations.result.table.now.size ≡ c.args.b.now.size =
+    ap (λ (o : Operation). o.size) c.new-translations.ensures.table
+    ∙ size_is c.args.b.now c.args.op c.op.result.now c.op.ensures.algebra.algebra c.op.ensures.operation in
     omega (arith, same, c.requires.first)
 
 pub row-seconds-requires-clause-element : goal.row-seconds-requires-clause-element
 row-seconds-requires-clause-element c =
-    let same : c.new-translations.result.table.now.size ≡ c.args.b.now.size = ap (λ (o : Operation). o.size) c.new-translations.ensures.table ∙ size_is c.args.b.now c.args.op c.op.result.now c.op.ensures.algebra.algebra c.op.ensures.operation in
+    let same : c.new-translations.result.table.now.size ≡ c.args.b.now.size =
+    ap (λ (o : Operation). o.size) c.new-translations.ensures.table
+    ∙ size_is c.args.b.now c.args.op c.op.result.now c.op.ensures.algebra.algebra c.op.ensures.operation in
     omega (arith, same, c.requires.second)
 
 pub meet-requires-clause-firsts : goal.meet-requires-clause-firsts
 meet-requires-clause-firsts c =
-    let same : c.new-translations.result.table.now.size ≡ c.args.b.now.size = ap (λ (o : Operation). o.size) c.new-translations.ensures.table ∙ size_is c.args.b.now c.args.op c.op.result.now c.op.ensures.algebra.algebra c.op.ensures.operation in
+    let same : c.new-translations.result.table.now.size ≡ c.args.b.now.size =
+    ap (λ (o : Operation). o.size) c.new-translations.ensures.table
+    ∙ size_is c.args.b.now c.args.op c.op.result.now c.op.ensures.algebra.algebra c.op.ensures.operation in
     subst (λ (n : ℕ). AllByRecursion (λ v. v < n) c.row-firsts.result.now) (same ∙ sym c.requires.size) c.row-firsts.ensures.elements
 
 pub meet-requires-clause-seconds : goal.meet-requires-clause-seconds
 meet-requires-clause-seconds c =
-    let same : c.new-translations.result.table.now.size ≡ c.args.b.now.size = ap (λ (o : Operation). o.size) c.new-translations.ensures.table ∙ size_is c.args.b.now c.args.op c.op.result.now c.op.ensures.algebra.algebra c.op.ensures.operation in
+    let same : c.new-translations.result.table.now.size ≡ c.args.b.now.size =
+    ap (λ (o : Operation). o.size) c.new-translations.ensures.table
+    ∙ size_is c.args.b.now c.args.op c.op.result.now c.op.ensures.algebra.algebra c.op.ensures.operation in
     subst (λ (n : ℕ). AllByRecursion (λ v. v < n) c.row-seconds.result.now) (same ∙ sym c.requires.size) c.row-seconds.ensures.elements
 
 pub returns-then-meet : goal.returns-then-meet
@@ -45,7 +53,9 @@ returns-then-meet c _ =
     let met = c.meet.ensures c.if-meet.true in
     let k = met.place in
     let w = met.within in
-    let g = translated b c.args.pair.0 c.args.pair.1 c.args.op o place front k alg.algebra t stands c.requires.operation c.new-translations.result.placed (omega (arith, c.loop-front-test.true, c.fronts-front-end.ensures)) (omega (arith, w, c.row-firsts.ensures.length)) in
+    let g =
+    translated b c.args.pair.0 c.args.pair.1 c.args.op o place front k alg.algebra t stands c.requires.operation c.new-translations.result.placed
+    (omega (arith, c.loop-front-test.true, c.fronts-front-end.ensures)) (omega (arith, w, c.row-firsts.ensures.length)) in
     let low = All-from_recursion (λ v. v < o.size) c.row-seconds.result.now c.row-seconds.ensures.elements k 0 (omega (arith, w, c.row-firsts.ensures.length, c.row-seconds.ensures.length)) in
     record {
       first = slice_index c.row-firsts.result.now k;

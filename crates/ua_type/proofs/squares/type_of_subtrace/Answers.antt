@@ -21,7 +21,10 @@ returns-in-Exceeds g c =
     let gens = square_generators b c.args.pair.low c.args.pair.high in
     let budget = c.args.run.now.budget in
     let w = c.args.run.now.workers in
-    let told = subst (λ (q : Product). MayClose q gens budget w (Ok c.in_ok-close_set.field-0)) c.in-Ok.ensures.ok (subst (λ (gs : List Vector). MayClose c.in-Ok.frame gs budget w (Ok c.in_ok-close_set.field-0)) c.in_ok-gens.ensures c.in_ok-close_set.ensures.permitted) in
+    let told =
+    subst (λ (q : Product). MayClose q gens budget w (Ok c.in_ok-close_set.field-0)) c.in-Ok.ensures.ok
+    (subst (λ (gs : List Vector). MayClose c.in-Ok.frame gs budget w (Ok c.in_ok-close_set.field-0)) c.in_ok-gens.ensures
+    c.in_ok-close_set.ensures.permitted) in
     squares_exceed b budget w c.args.pair.low c.args.pair.high c.in-Exceeds.field-0 (subst (λ (closure : Closure). MayClose p gens budget w (Ok closure)) c.in-Exceeds.is told)
 
 pub returns : goal.returns
@@ -31,5 +34,8 @@ returns g c =
     let gens = square_generators b c.args.pair.low c.args.pair.high in
     let budget = c.args.run.now.budget in
     let w = c.args.run.now.workers in
-    let told = subst (λ (q : Product). MayClose q gens budget w (Ok c.in_ok-close_set.field-0)) c.in-Ok.ensures.ok (subst (λ (gs : List Vector). MayClose c.in-Ok.frame gs budget w (Ok c.in_ok-close_set.field-0)) c.in_ok-gens.ensures c.in_ok-close_set.ensures.permitted) in
+    let told =
+    subst (λ (q : Product). MayClose q gens budget w (Ok c.in_ok-close_set.field-0)) c.in-Ok.ensures.ok
+    (subst (λ (gs : List Vector). MayClose c.in-Ok.frame gs budget w (Ok c.in_ok-close_set.field-0)) c.in_ok-gens.ensures
+    c.in_ok-close_set.ensures.permitted) in
     squares_closed b budget w c.args.pair.low c.args.pair.high c.in-Closed.list c.type_by.result (subst (λ (closure : Closure). MayClose p gens budget w (Ok closure)) c.in-Closed.is told) c.type_by.ensures

@@ -1,5 +1,5 @@
 use Rattle.std.proofs.Common.{◌≤◌, length, arith}
-use Rattle.ua_rows.proofs.RowLemmas.{length-rows_at}
+use Rattle.ua_rows.proofs.RowLaws.{length-rows_at}
 use Rattle.ua_bases.specs.Bases.{row_at}
 use Rattle.ua_work.specs.inner.Replicas.{values_in}
 use Rattle.ua_work.proofs.WorkLaws.{places_seen}

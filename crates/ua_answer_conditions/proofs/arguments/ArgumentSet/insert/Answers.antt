@@ -6,7 +6,7 @@ use Rattle.std.specs.Ordering.{nat_cmp}
 use Rattle.std.specs.declared.alloc.Global.{Global}
 use Rattle.std.proofs.lemmas.Map.Text.{is_eq-slice_cmp}
 use Rattle.ua_text.specs.Words.{same, among}
-use Rattle.ua_text.proofs.WordLemmas.{same_turned}
+use Rattle.ua_text.proofs.WordLaws.{same_turned}
 use Rattle.ua_answer_conditions.proofs.arguments.ArgumentSet.insert.Goals as goal
 
 chosen : (b x : Bool) → cond b true x ≡ b || x

@@ -21,7 +21,12 @@ returns-then-width-from c =
     let width = c.if-width-from.true ∙ ap (λ m. m + 1) c.from-in-Partial.ensures in
     let wide = subst (λ w. AllByRecursion (λ (v : Vector). length v ≡ w) vs) (sym c.width.ensures.width) c.width.ensures.widths in
     let below = c.are_elements.ensures in (
-      λ yes. subst (ArePoints n k) (sym c.in-Partial.is) (some, entries_from n k c.width.result vs width wide (subst (λ m. AllByRecursion (λ (v : Vector). AllByRecursion (λ x. x < m) v) vs) c.size-then-width-from.ensures.size (below.0 yes))),
+      λ yes.
+          subst (ArePoints n k) (sym c.in-Partial.is) (
+            some,
+            entries_from n k c.width.result vs width wide
+                (subst (λ m. AllByRecursion (λ (v : Vector). AllByRecursion (λ x. x < m) v) vs) c.size-then-width-from.ensures.size (below.0 yes)),
+          ),
       λ h. below.1 (subst (λ m. AllByRecursion (λ (v : Vector). AllByRecursion (λ x. x < m) v) vs) (sym c.size-then-width-from.ensures.size) (entries_below n k vs (are_entries n k c.args.self.now h c.in-Partial.vectors c.in-Partial.is))),
     )
 

@@ -30,4 +30,10 @@ returns-in_ok-append_values-in-Total c =
 
 pub returns-in-Partial : goal.returns-in-Partial
 returns-in-Partial c =
-    IfOk-weaker c.column.result _ _ (λ row e. e ∙ (λ i. column c.in-Partial.vectors.items (c.from.ensures i)) ∙ sym (partial_variable c.args.a.now.size c.args.k c.args.self.now c.requires.points c.in-Partial.vectors c.in-Partial.is c.args.i c.requires.variable)) c.column.ensures
+    IfOk-weaker c.column.result _ _
+    (λ row e.
+    e ∙ (λ i. column c.in-Partial.vectors.items (c.from.ensures i))
+    ∙ sym
+    (partial_variable c.args.a.now.size c.args.k c.args.self.now c.requires.points c.in-Partial.vectors c.in-Partial.is c.args.i
+    c.requires.variable))
+    c.column.ensures

@@ -56,5 +56,7 @@ returns-clause-known c f are r low bit =
     let lines : AreLinesOf here.in_bytes f c.args.lines.now = subst (λ t. AreLinesOf t f c.args.lines.now) form are in
     let digits : AreDigits here.in_bytes f (block_of here.tiles.items here.parts b) values = subst (λ (bs : List (List (List ℕ))). AreDigits here.in_bytes f bs values) block (c.write_digits-hashes.ensures f lines) in
     let row : IsSomeKeyAt here.keys.items here.words here.count values r = subst (λ (q : List ℕ × ℕ). IsSomeKeyAt q.0 q.1 here.count values r) (λ i. (c.as_slice-2.ensures.value i, values_long i)) (c.known_lanes-bits.ensures r low told.1) in
-    let found = known_vector here.width here.in_bytes here.parts here.words here.count here.blocks here.tiles.items here.keys here.key.items here.front.items here.ready h f c.args.lines.now values b r row.0 lines values_long digits low within row.1 row.2 in
+    let found =
+    known_vector here.width here.in_bytes here.parts here.words here.count here.blocks here.tiles.items here.keys here.key.items here.front.items
+    here.ready h f c.args.lines.now values b r row.0 lines values_long digits low within row.1 row.2 in
     subst (λ (vs : List Vector). (16 * b + r < length vs) × Contains vs (values_at f (slice_index_or vs (16 * b + r) []))) view (omega (arith, within, all), found)

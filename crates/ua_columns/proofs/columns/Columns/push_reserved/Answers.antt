@@ -39,7 +39,9 @@ write_key-requires-clause-low c =
     let old : c.as_mut_slice.result.now ≡ here.tiles.items = c.as_mut_slice.ensures.value in
     let to : c.args.self.now.in_bytes ≡ here.in_bytes = sym (ap (λ (v : VectorColumns). v.in_bytes) c.self.view_is) in
     let back = written_back here.tiles.items tiles here.tiles.len (c.enter_lane.ensures.length ∙ ap (length {A = List (List ℕ)}) old) here.tiles.ok.0 in
-    let low : AreBelow (limit here.in_bytes) tiles = c.enter_lane.ensures.low (limit here.in_bytes) (subst (λ b. AllByRecursion (λ x. x < limit b) c.args.v.now) to c.requires.entries) (subst (AreBelow (limit here.in_bytes)) (sym old) c.self.invariant.low) in
+    let low : AreBelow (limit here.in_bytes) tiles =
+    c.enter_lane.ensures.low (limit here.in_bytes) (subst (λ b. AllByRecursion (λ x. x < limit b) c.args.v.now) to c.requires.entries)
+    (subst (AreBelow (limit here.in_bytes)) (sym old) c.self.invariant.low) in
     subst (AreBelow (limit here.in_bytes)) (sym (c.block_in-columns.ensures.block ∙ ap (λ (ts : List (List (List ℕ))). block_of ts here.parts (here.count / 16)) (c.as_slice.ensures.value ∙ back)))
     (block_low (limit here.in_bytes) tiles here.parts (here.count / 16) low)
 
@@ -60,12 +62,17 @@ invariant_of-self c =
     let word : ℕ → ℕ = λ j. word_of (base here.in_bytes) (digits here.in_bytes) block (here.count % 16) (digits here.in_bytes * j) in
     let words : length key ≡ here.words = ap (length {A = ℕ}) c.write_key.ensures ∙ length-map-range_with_len word 0 (length c.as_mut_slice-2.result.now) ∙ old in
     let keyed : take here.key.len (key ++ drop (length key) here.key.items) ≡ key = written_back here.key.items key here.key.len (words ∙ sym c.self.invariant.key_long) here.key.ok.0 in
-    let added : c.extend_from_slice.new.self.items ≡ here.keys.items ++ key = c.extend_from_slice.ensures.items ∙ ap (λ r. cond (is_ok r) (here.keys.items ++ c.as_slice-2.result.now) here.keys.items) c.unwrap.ensures ∙ ap (λ (k : List ℕ). here.keys.items ++ k) (c.as_slice-2.ensures.value ∙ keyed) in
+    let added : c.extend_from_slice.new.self.items ≡ here.keys.items ++ key =
+    c.extend_from_slice.ensures.items ∙ ap (λ r. cond (is_ok r) (here.keys.items ++ c.as_slice-2.result.now) here.keys.items) c.unwrap.ensures
+    ∙ ap (λ (k : List ℕ). here.keys.items ++ k) (c.as_slice-2.ensures.value ∙ keyed) in
     let named = c.enter.ensures.named here.count (omega arith) (all_weaker (λ r. r ≤ here.count - 1) (λ r. r ≤ here.count) (λ r low. omega (arith, low)) here.front.items c.self.invariant.named) in
     let some : 0 < length c.enter.new.front.items = (let l = c.enter.ensures.length in let s = c.self.invariant.some in omega (arith, l, s)) in
     let is : key ≡ key_of here.in_bytes here.words (block_of c.enter_lane.new.tiles here.parts (here.count / 16)) (here.count % 16) =
     c.write_key.ensures ∙ ap (λ n. key_of here.in_bytes n block (here.count % 16)) old
-    ∙ ap (λ (b : List (List (List ℕ))). key_of here.in_bytes here.words b (here.count % 16)) (c.block_in-columns.ensures.block ∙ ap (λ (ts : List (List (List ℕ))). block_of ts here.parts (here.count / 16)) (c.as_slice.ensures.value ∙ written c)) in
+    ∙ ap (λ (b : List (List (List ℕ))). key_of here.in_bytes here.words b (here.count % 16))
+    (c.block_in-columns.ensures.block
+    ∙ ap (λ (ts : List (List (List ℕ))). block_of ts here.parts (here.count / 16)) (c.as_slice.ensures.value ∙ written c))
+    in
     subst (λ (q : List (List (List ℕ)) × List ℕ). AreColumns here.width here.in_bytes here.parts here.words (here.count + 1) here.blocks q.0 c.extend_from_slice.new.self q.1 c.enter.new.front.items false)
     (λ j. (sym (written c) j, sym keyed j))
     (pushed_columns here.width here.in_bytes here.parts here.words here.count here.blocks here.tiles.items here.keys here.key.items here.front.items here.ready c.self.invariant

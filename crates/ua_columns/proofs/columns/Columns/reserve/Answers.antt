@@ -41,7 +41,8 @@ invariant_of-self-in_err-reserve_slots c =
     let h = c.self.invariant in
     let e = c.reserve_block.ensures in
     columns_roomy here.width here.in_bytes here.parts here.words here.count here.blocks here.tiles.items here.keys here.key.items here.front.items here.ready h
-    c.reserve_block.new.blocks c.reserve_block.new.tiles.items c.reserve.new.self c.reserve_slots.new.front.items here.ready e.front e.low e.whole e.within e.tight c.reserve.ensures.items c.reserve_slots.ensures.some c.reserve_slots.ensures.named
+    c.reserve_block.new.blocks c.reserve_block.new.tiles.items c.reserve.new.self c.reserve_slots.new.front.items here.ready e.front e.low e.whole
+    e.within e.tight c.reserve.ensures.items c.reserve_slots.ensures.some c.reserve_slots.ensures.named
     (λ t. let no : true ≡ false = sym t ∙ c.if-self.false in absurd cc)
 
 pub returns-in_err-reserve_slots-clause-items : goal.returns-in_err-reserve_slots-clause-items

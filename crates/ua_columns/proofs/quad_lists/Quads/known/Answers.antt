@@ -71,7 +71,12 @@ returns-clause-known c f are r low bit =
     let row : IsSomeKey here.keys.items here.words here.count values r = subst (λ (ks : List ℕ). IsSomeKey ks here.words here.count values r) c.as_slice-2.ensures.value (c.known_keys-bits.ensures r low told.1) in
     let part = c.block_keys-keys.result.now in
     let part_is : (k : ℕ) → k < lanes * here.words → slice_index part k ≡ slice_index here.keys.items (16 * b * here.words + k) =
-    (λ k inside. ap (λ (ks : List ℕ). slice_index ks k) (c.block_keys-keys.ensures.part ∙ ap (λ (ks : List ℕ). slice_range ks (16 * b * here.words) (16 * b * here.words + lanes * here.words)) c.as_slice.ensures.value) ∙ part_index here.keys.items (16 * b * here.words) (lanes * here.words) k inside) in
+    (λ k inside.
+    ap (λ (ks : List ℕ). slice_index ks k)
+    (c.block_keys-keys.ensures.part
+    ∙ ap (λ (ks : List ℕ). slice_range ks (16 * b * here.words) (16 * b * here.words + lanes * here.words)) c.as_slice.ensures.value)
+    ∙ part_index here.keys.items (16 * b * here.words) (lanes * here.words) k inside)
+    in
     let lined : AreLongLines here.size here.width f c.args.lines.now = subst (λ (q : ℕ × ℕ). AreLongLines q.0 q.1 f c.args.lines.now) (λ i. (sym size i, sym width i)) are in
     let found = known_quads here.width here.size here.words here.count here.keys.items c.args.lines.now f b r row.0 lanes values part h.words_are h.keyed h.some_size h.below lined part_is
     c.write_values-hashes.ensures fewer top row.1 row.2 in

@@ -16,4 +16,6 @@ invariant_of-result c =
     let some = c.requires.some in
     let end = c.loop-i-test.false in
     let auto = c.loop-i.auto.i-end in
-    subst (λ (is : List TermIdentity). IsCondition (record { arity = c.args.k; identities = is })) (sym (c.loop-i.invariant ∙ all_near_unanimous c.args.k c.loop-i.i (omega (arith, end, auto)))) (near_unanimity_is c.args.k (omega (arith, some)) c.requires.small)
+    subst (λ (is : List TermIdentity). IsCondition (record { arity = c.args.k; identities = is }))
+    (sym (c.loop-i.invariant ∙ all_near_unanimous c.args.k c.loop-i.i (omega (arith, end, auto))))
+    (near_unanimity_is c.args.k (omega (arith, some)) c.requires.small)

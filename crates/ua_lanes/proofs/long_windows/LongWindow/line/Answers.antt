@@ -29,7 +29,11 @@ returns-clause-window c =
     let out = c.write_long_lines.new.out in
     let long : length out ≡ length old.items = c.write_long_lines.ensures.length ∙ ap (length {A = ℕ}) c.as_mut_slice.ensures.value in
     let written : take old.len (out ++ drop (length out) old.items) ≡ out = written_back old.items out old.len long old.ok.0 in
-    let arity : c.from-arity.result ≡ slice_index (arities p) c.args.op = c.from-arity.ensures ∙ c.arity.ensures.arity ∙ sym (arity_is p c.args.op 0 c.algebra_at.result.now c.algebra_at.ensures.product c.algebra_at.ensures.algebra c.op.result.now c.op.ensures.operation) in
+    let arity : c.from-arity.result ≡ slice_index (arities p) c.args.op =
+    c.from-arity.ensures ∙ c.arity.ensures.arity
+    ∙ sym
+    (arity_is p c.args.op 0 c.algebra_at.result.now c.algebra_at.ensures.product c.algebra_at.ensures.algebra c.op.result.now
+    c.op.ensures.operation) in
     record {
       four = c.told-args;
       lines_long = w.lines_long;
@@ -38,6 +42,10 @@ returns-clause-window c =
         operation = c.requires.operation;
         place = c.requires.place;
         named = c.requires.named;
-        lines_are = subst (λ (q : (ℕ × ℕ) × List ℕ). AreLongLines quads.size q.0.0 (line_value p c.args.op (rows_at quads.items (take q.0.1 args)) c.args.place) q.1) (λ i. ((sym c.requires.vectors.width i, arity i), sym written i)) c.write_long_lines.ensures.lines;
+        lines_are =
+            subst
+            (λ (q : (ℕ × ℕ) × List ℕ).
+            AreLongLines quads.size q.0.0 (line_value p c.args.op (rows_at quads.items (take q.0.1 args)) c.args.place) q.1)
+            (λ i. ((sym c.requires.vectors.width i, arity i), sym written i)) c.write_long_lines.ensures.lines;
       };
     }

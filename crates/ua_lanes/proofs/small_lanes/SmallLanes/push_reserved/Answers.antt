@@ -36,5 +36,7 @@ invariant_of-self c =
       };
       many = h.many;
       windows = subst (λ (q : Bool × List Vector). AllByRecursion (IsWindow here.frame.now q.0 q.1) here.windows.items) (λ i. (sym e.in_bytes i, sym e.items i))
-          (all_weaker (IsWindow here.frame.now here.columns.in_bytes here.columns.items) (IsWindow here.frame.now here.columns.in_bytes (here.columns.items ++ c.args.v.now ∷ [])) (window_more here.frame.now here.columns.in_bytes here.columns.items (c.args.v.now ∷ [])) here.windows.items h.windows);
+          (all_weaker (IsWindow here.frame.now here.columns.in_bytes here.columns.items)
+          (IsWindow here.frame.now here.columns.in_bytes (here.columns.items ++ c.args.v.now ∷ []))
+          (window_more here.frame.now here.columns.in_bytes here.columns.items (c.args.v.now ∷ [])) here.windows.items h.windows);
     }

@@ -8,7 +8,9 @@ use Rattle.ua_lanes.proofs.WindowLaws.{agreeing_with, told_by_value}
 use Rattle.ua_lanes.proofs.windows.Window.look.Goals as goal
 
 -- a bit of the block that was looked at tells of a tuple
-told : (c : goal.After-self-4-1) (r : ℕ) → r < 16 → c.known-self.result / 2 ^ r % 2 ≡ 1 → IsKnown c.args.frame.now c.args.columns.now.items c.line.new.self.op (slice_set c.line.new.self.fixed c.line.new.self.free (16 * (slice_index c.args.args.now c.args.place / 16) + r))
+told : (c : goal.After-self-4-1) (r : ℕ) → r < 16 → c.known-self.result / 2 ^ r % 2 ≡ 1
+    → IsKnown c.args.frame.now c.args.columns.now.items c.line.new.self.op
+    (slice_set c.line.new.self.fixed c.line.new.self.free (16 * (slice_index c.args.args.now c.args.place / 16) + r))
 told c r low bit =
     let p = c.args.frame.now in
     let items = c.args.columns.now.items in
@@ -43,6 +45,9 @@ returns-clause-known c r low bit =
     let place = c.args.place in
     let n : ℕ = 16 * (slice_index args place / 16) + r in
     let free = c.line.ensures.free in
-    let same : slice_set w.fixed w.free n ≡ slice_set args place n = ap (λ k. slice_set w.fixed k n) free ∙ agreeing_with args w.fixed place n c.told-args h.four (let q = h.place in omega (arith, q, free)) (λ j four apart. l.others j four (λ e. apart (e ∙ free))) in
+    let same : slice_set w.fixed w.free n ≡ slice_set args place n =
+    ap (λ k. slice_set w.fixed k n) free
+    ∙ agreeing_with args w.fixed place n c.told-args h.four (let q = h.place in omega (arith, q, free))
+    (λ j four apart. l.others j four (λ e. apart (e ∙ free))) in
     subst (λ (q : ℕ × List ℕ). IsKnown p items q.0 q.1) (λ i. (l.operation i, same i))
     (told c r low bit)

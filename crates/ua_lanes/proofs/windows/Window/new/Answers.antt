@@ -12,7 +12,10 @@ pub returns : goal.returns
 returns c p in_bytes is are = record {
   place = omega arith;
   four = refl;
-  lines_long = (let n = c.in_ok-push_tiles.ensures.length in let z = ap (length {A = List (List ℕ)}) c.new-lines.ensures.items in let l = c.push_tiles.new.tiles.ok.0 in let e : vec_len c.push_tiles.new.tiles ≡ c.args.tiles = omega (arith, n, z, l) in e ∙ is);
+  lines_long =
+      (let n = c.in_ok-push_tiles.ensures.length in
+      let z = ap (length {A = List (List ℕ)}) c.new-lines.ensures.items in
+      let l = c.push_tiles.new.tiles.ok.0 in let e : vec_len c.push_tiles.new.tiles ≡ c.args.tiles = omega (arith, n, z, l) in e ∙ is);
   values_long = c.in_ok-vec.ensures.len ∙ are;
   bytes = c.push_tiles.ensures.low 256 (omega arith) (subst (AreBelow 256) (sym c.new-lines.ensures.items) tt);
   lined = λ t. absurd cc;

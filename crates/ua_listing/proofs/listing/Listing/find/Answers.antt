@@ -12,11 +12,16 @@ use Rattle.ua_listing.proofs.listing.Listing.find.Goals as goal
 pub returns-in_err-rank-clause-absent : goal.returns-in_err-rank-clause-absent
 returns-in_err-rank-clause-absent c =
     rw c.from_residual.ensures
-    (λ h. c.in_err-rank.ensures.absent (member-index c.self.inside.rows.items c.self.inside.index.ranks.items c.self.inside.index.positions.items c.self.inside.index.origins.items c.self.invariant c.args.v.now (subst (λ (rows : List Row). Contains (vectors_of rows) c.args.v.now) (sym c.self.view_is) h)))
+    (λ h.
+    c.in_err-rank.ensures.absent
+    (member-index c.self.inside.rows.items c.self.inside.index.ranks.items c.self.inside.index.positions.items c.self.inside.index.origins.items
+    c.self.invariant c.args.v.now (subst (λ (rows : List Row). Contains (vectors_of rows) c.args.v.now) (sym c.self.view_is) h)))
 
 pub returns-then-v-width-clause-absent : goal.returns-then-v-width-clause-absent
 returns-then-v-width-clause-absent c = λ h.
-    let there = member-index c.self.inside.rows.items c.self.inside.index.ranks.items c.self.inside.index.positions.items c.self.inside.index.origins.items c.self.invariant c.args.v.now (subst (λ (rows : List Row). Contains (vectors_of rows) c.args.v.now) (sym c.self.view_is) h) in
+    let there =
+    member-index c.self.inside.rows.items c.self.inside.index.ranks.items c.self.inside.index.positions.items c.self.inside.index.origins.items
+    c.self.invariant c.args.v.now (subst (λ (rows : List Row). Contains (vectors_of rows) c.args.v.now) (sym c.self.view_is) h) in
     let n : length c.args.v.now ≡ c.self.inside.rows.width = all_at (λ (v : Vector). length v ≡ c.self.inside.rows.width) c.self.inside.rows.items c.args.v.now c.width.ensures.rows.widths there in
     let w = c.width.ensures.width in
     let other = c.if-v-width.true in

@@ -11,7 +11,8 @@ use Rattle.ua_listing.proofs.ArrangementLaws.{vectors_of-listed, ranks_of-listed
 use Rattle.ua_listing.proofs.RearrangeLaws.{rearranged_index, rows_back}
 use Rattle.ua_listing.proofs.listing.Listing.rearranged.Goals as goal
 
-module _ (old : List Row) (places ranks : List ℕ) (once : EachOnceBelow (length old) places) (all : length places ≡ length old) (inverse : ArePositions places ranks) (inc : IsIncreasing (vectors_of old)) (os : List Origin) (count : length os ≡ length old)
+module _ (old : List Row) (places ranks : List ℕ) (once : EachOnceBelow (length old) places) (all : length places ≡ length old)
+    (inverse : ArePositions places ranks) (inc : IsIncreasing (vectors_of old)) (os : List Origin) (count : length os ≡ length old)
     (rows : List Vector) (rows_are : rows ≡ rows_at (vectors_of old) places) where
   vs_count : length (vectors_of old) ≡ length old
   vs_count = length-map old (λ (r : Row). r.vector)

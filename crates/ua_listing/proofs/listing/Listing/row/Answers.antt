@@ -10,14 +10,28 @@ index-requires c = omega (arith, c.requires, ap length c.self.view_is, length-li
 
 pub row-requires : goal.row-requires
 row-requires c =
-    let low : c.args.i < length c.self.inside.index.ranks.items = omega (arith, c.requires, ap length c.self.view_is, length-listed c.self.inside.rows.items c.self.inside.index.ranks.items c.self.inside.index.origins.items c.self.invariant.origins) in
+    let low : c.args.i < length c.self.inside.index.ranks.items =
+    omega (
+      arith,
+      c.requires,
+      ap length c.self.view_is,
+      length-listed c.self.inside.rows.items c.self.inside.index.ranks.items
+          c.self.inside.index.origins.items c.self.invariant.origins,
+    ) in
     let same = get_or_default c.self.inside.index.ranks.items c.args.i c.index.result.now 0 low in
     let r = rank-below c.self.inside.rows.items c.self.inside.index.ranks.items c.self.inside.index.positions.items c.self.inside.index.origins.items c.self.invariant c.args.i low in
     omega (arith, r, same, c.index.ensures)
 
 pub returns : goal.returns
 returns c =
-    let low : c.args.i < length c.self.inside.index.ranks.items = omega (arith, c.requires, ap length c.self.view_is, length-listed c.self.inside.rows.items c.self.inside.index.ranks.items c.self.inside.index.origins.items c.self.invariant.origins) in
+    let low : c.args.i < length c.self.inside.index.ranks.items =
+    omega (
+      arith,
+      c.requires,
+      ap length c.self.view_is,
+      length-listed c.self.inside.rows.items c.self.inside.index.ranks.items
+          c.self.inside.index.origins.items c.self.invariant.origins,
+    ) in
     let same = c.index.ensures ∙ get_or_default c.self.inside.index.ranks.items c.args.i c.index.result.now 0 low in
     subst (λ (rows : List Row). slice_get (vectors_of rows) c.args.i ≡ Some c.row.result.now) c.self.view_is
     (row_at-index c.self.inside.rows.items c.self.inside.index.ranks.items c.self.inside.index.positions.items c.self.inside.index.origins.items c.self.invariant c.args.i c.row.result.now low

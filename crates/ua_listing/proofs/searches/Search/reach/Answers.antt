@@ -28,7 +28,8 @@ returns-then-not-index c =
     let low = slice_get_within vs c.args.q (origin_value p gens vs c.args.origin) c.requires.row in
     let mark = mark_is s.reached.items c.args.q c.index.result.now (let n = c.requires.search.marks_count in omega (arith, low, n)) c.index.ensures in
     on_four c.enter.result _ _ _ _ _
-    (entered p gens vs c.requires.table.different s c.args.q c.args.height c.args.origin c.requires.search c.requires.top c.requires.origin c.requires.row c.enter.new.self (λ m. let bad : true ≡ false = sym m ∙ mark ∙ c.if-not-index.true in cc))
+    (entered p gens vs c.requires.table.different s c.args.q c.args.height c.args.origin c.requires.search c.requires.top c.requires.origin
+    c.requires.row c.enter.new.self (λ m. let bad : true ≡ false = sym m ∙ mark ∙ c.if-not-index.true in cc))
     c.enter.ensures.order c.enter.ensures.reached c.enter.ensures.heights c.enter.ensures.origins
 
 pub index-requires-2 : goal.index-requires-2
@@ -47,7 +48,8 @@ height_read s q x h e = get_or_default s.heights.items q 0 x h ∙ sym e
 origin_read : (s : Search) (q : ℕ) (o : Origin) → q < length s.origins.items → o ≡ get_or s.origins.items q o → origin_in s q ≡ o
 origin_read s q o h e = get_or_default s.origins.items q (Gen 0) o h ∙ sym e
 
-module _ (t : Table) (s : Search) (q h : ℕ) (o : Origin) (table : IsRowTable t) (is : IsSearchOf t s) (top : IsTop s h) (may : MayVisitIn t s h o) (row : slice_get t.rows.items q ≡ Some (origin_value t.operations t.gens.now.items t.rows.items o))
+module _ (t : Table) (s : Search) (q h : ℕ) (o : Origin) (table : IsRowTable t) (is : IsSearchOf t s) (top : IsTop s h) (may : MayVisitIn t s h o)
+    (row : slice_get t.rows.items q ≡ Some (origin_value t.operations t.gens.now.items t.rows.items o))
     (index : Bool) (index_is : index ≡ get_or s.reached.items q index) (marked : index ≡ true) where
   low : q < length t.rows.items
   low = slice_get_within t.rows.items q (origin_value t.operations t.gens.now.items t.rows.items o) row
@@ -88,9 +90,18 @@ returns-else-index-height c =
     elim c.else-index-height.branch [
       | else-index-height-via-then-index-height+else-is_before w ↦
           stay (λ e b.
-          let back = same_order_back t s c.args.q c.args.height c.args.origin c.requires.table c.requires.search c.requires.top c.requires.origin c.requires.row c.index.result.now c.index.ensures c.if-not-index.false (origin_in s c.args.q) w.index-then-index-height.result.now
-          (origin_at t s c.args.q c.args.height c.args.origin c.requires.table c.requires.search c.requires.top c.requires.origin c.requires.row c.index.result.now c.index.ensures c.if-not-index.false w.index-then-index-height.result.now w.index-then-index-height.ensures) b in
+          let back = same_order_back t s c.args.q c.args.height c.args.origin c.requires.table c.requires.search c.requires.top c.requires.origin
+          c.requires.row c.index.result.now c.index.ensures c.if-not-index.false (origin_in s c.args.q) w.index-then-index-height.result.now
+          (origin_at t s c.args.q c.args.height c.args.origin c.requires.table c.requires.search c.requires.top c.requires.origin c.requires.row
+          c.index.result.now c.index.ensures c.if-not-index.false w.index-then-index-height.result.now w.index-then-index-height.ensures)
+          b in
           let bad : true ≡ false = sym (w.is_before.ensures.1 back) ∙ w.if-is_before.false in cc)
       | else-index-height-via-else-index-height w ↦
-          stay (λ e b. w.if-index-height.false (sym (height_at t s c.args.q c.args.height c.args.origin c.requires.table c.requires.search c.requires.top c.requires.origin c.requires.row c.index.result.now c.index.ensures c.if-not-index.false c.index-2.result.now c.index-2.ensures) ∙ e))
+          stay
+          (λ e b.
+          w.if-index-height.false
+          (sym
+          (height_at t s c.args.q c.args.height c.args.origin c.requires.table c.requires.search c.requires.top c.requires.origin
+          c.requires.row c.index.result.now c.index.ensures c.if-not-index.false c.index-2.result.now c.index-2.ensures)
+          ∙ e))
     ]

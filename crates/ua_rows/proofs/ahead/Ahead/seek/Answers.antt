@@ -27,7 +27,9 @@ first c = length-take-le c.min-count.result c.seek_each-near.new.vectors (short 
 pub invariant_of-self : goal.invariant_of-self
 invariant_of-self c = (
   (let e = ap length (written c) in let s = short c in omega (arith, e, s)),
-  subst (AllByRecursion (λ (v : Vector). length v ≡ c.self.inside.width)) (sym (written c)) (subst (λ m. AllByRecursion (λ (v : Vector). length v ≡ m) c.seek_each-near.new.vectors) (sym (ap (λ (s : SoughtValues). s.width) c.self.view_is ∙ c.requires.room)) c.seek_each-near.ensures.widths),
+  subst (AllByRecursion (λ (v : Vector). length v ≡ c.self.inside.width)) (sym (written c))
+      (subst (λ m. AllByRecursion (λ (v : Vector). length v ≡ m) c.seek_each-near.new.vectors)
+      (sym (ap (λ (s : SoughtValues). s.width) c.self.view_is ∙ c.requires.room)) c.seek_each-near.ensures.widths),
 )
 
 pub returns-clause-values : goal.returns-clause-values

@@ -26,5 +26,8 @@ returns-in-Line c =
     let is = c.in-Line.is in
     let reads = subst (λ (k : Kernel). Reads k (length rows)) is c.requires.reads in
     let below = subst (λ (k : Kernel). AllByRecursion (AllByRecursion (λ x. x < base_of k)) (vectors_behind rows)) is c.requires.below in
-    let read = line_read c.in-Line.line c.in-Line.values.now (vectors_behind rows) (get_or rows 0 (record { ref_ptr = (0, 0); now = [] })).now c.word_at.result c.look_in_line.result.0 c.args.i (one_behind rows reads.2) reads.0 reads.3 below c.word_at.ensures c.look_in_line.ensures.first in
+    let read =
+    line_read c.in-Line.line c.in-Line.values.now (vectors_behind rows) (get_or rows 0 (record { ref_ptr = (0, 0); now = [] })).now
+    c.word_at.result c.look_in_line.result.0 c.args.i (one_behind rows reads.2) reads.0 reads.3 below c.word_at.ensures
+    c.look_in_line.ensures.first in
     subst (λ (k : Kernel). lanes_of c.look_in_line.result.0 ≡ map (looked (cells_of k) (base_of k) (vectors_behind rows)) (range_with_len c.args.i 4)) (sym is) read

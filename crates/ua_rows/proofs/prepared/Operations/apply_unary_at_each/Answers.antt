@@ -2,7 +2,7 @@ use Rattle.std.proofs.Common.{◌≡◌, ◌<◌, ℕ, List, [], ◌∷◌, leng
 use Rattle.std.specs.Prelude.{slice_index}
 use Rattle.std.proofs.lemmas.List.{length-set}
 use Rattle.ua_table.specs.Algebras.{Vector, Product, IsProduct, apply}
-use Rattle.ua_table.proofs.ApplyLemmas.{length-apply}
+use Rattle.ua_table.proofs.ApplyLaws.{length-apply}
 use Rattle.ua_table.proofs.Lists.{all_set, all_get_or}
 use Rattle.ua_rows.specs.RowLists.{rows_at}
 use Rattle.ua_rows.specs.Kernels.{AreKernels}
@@ -29,7 +29,9 @@ loop-k-preserved c =
     }
 
 -- what the kernel gives at the row that argument k names
-fine_here : (c : goal.After-read-arg-1) → Fine c.args.self.now c.args.op c.in-Some.kernel.now c.args.rows.now.items (slice_index c.args.args.now c.loop-k-2.k ∷ []) (c.padded.result.now ∷ []) (length (get_or c.loop-k-2.out c.loop-k-2.k c.index-out-k-in-loop-k-2.result))
+fine_here : (c : goal.After-read-arg-1)
+    → Fine c.args.self.now c.args.op c.in-Some.kernel.now c.args.rows.now.items (slice_index c.args.args.now c.loop-k-2.k ∷ [])
+    (c.padded.result.now ∷ []) (length (get_or c.loop-k-2.out c.loop-k-2.k c.index-out-k-in-loop-k-2.result))
 fine_here c =
     let p = c.args.self.now in
     let k = c.loop-k-2.k in
@@ -38,7 +40,9 @@ fine_here c =
     let here : k < length c.loop-k-2.out = (let room = before.room in omega (arith, test, room)) in
     let named = all_get_or (λ a. a < length c.args.rows.now.items) c.args.args.now k 0 test c.requires.named in
     let wide = all_get_or (λ (w : Vector). length w ≡ length p) c.loop-k-2.out k c.index-out-k-in-loop-k-2.result here before.widths in
-    fine_unary p c.args.op c.self.inside.kernels.items c.deref.result.now c.in-Some.kernel.now c.args.rows.now.items (slice_index c.args.args.now k) c.padded.result.now _ (subst IsProduct c.self.view_is c.self.invariant.0) (subst (λ (q : Product). AreKernels q c.self.inside.kernels.items) c.self.view_is c.self.invariant.1)
+    fine_unary p c.args.op c.self.inside.kernels.items c.deref.result.now c.in-Some.kernel.now c.args.rows.now.items (slice_index c.args.args.now k)
+    c.padded.result.now _ (subst IsProduct c.self.view_is c.self.invariant.0)
+    (subst (λ (q : Product). AreKernels q c.self.inside.kernels.items) c.self.view_is c.self.invariant.1)
     c.deref.ensures.value c.in-Some.ensures.lookup.3.0 c.in-Some.ensures.lookup.1 c.requires.operation c.requires.unary c.requires.rows named c.padded.ensures wide
 
 pub read-requires-clause-reads : goal.read-requires-clause-reads
@@ -64,7 +68,9 @@ loop-k-2-preserved c =
     let here : k < length out = (let room = before.room in omega (arith, test, room)) in
     let named = all_get_or (λ a. a < length rows) args k 0 test c.requires.named in
     let wide = all_get_or (λ (w : Vector). length w ≡ length p) out k c.index-out-k-in-loop-k-2.result here before.widths in
-    let fine = fine_unary p f c.self.inside.kernels.items c.deref.result.now c.in-Some.kernel.now rows (slice_index args k) c.padded.result.now (length (get_or out k c.index-out-k-in-loop-k-2.result)) (subst IsProduct c.self.view_is c.self.invariant.0) (subst (λ (q : Product). AreKernels q c.self.inside.kernels.items) c.self.view_is c.self.invariant.1)
+    let fine = fine_unary p f c.self.inside.kernels.items c.deref.result.now c.in-Some.kernel.now rows (slice_index args k) c.padded.result.now
+    (length (get_or out k c.index-out-k-in-loop-k-2.result)) (subst IsProduct c.self.view_is c.self.invariant.0)
+    (subst (λ (q : Product). AreKernels q c.self.inside.kernels.items) c.self.view_is c.self.invariant.1)
     c.deref.ensures.value c.in-Some.ensures.lookup.3.0 c.in-Some.ensures.lookup.1 c.requires.operation c.requires.unary c.requires.rows named c.padded.ensures wide in
     let v = c.read.new.self in
     let value : v ≡ apply p f (rows_at rows row) = c.read.ensures ∙ fine.value in

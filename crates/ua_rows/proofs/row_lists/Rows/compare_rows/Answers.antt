@@ -22,7 +22,10 @@ returns-then-is_free-clause-absent c =
     subst (λ (l : RowList). NoneBefore l.items buckets s tag (take l.width key) c.loop.counter → ¬ Contains l.items (take l.width key)) c.self.view_is
     (λ none. not_there here.width here.pages.rows buckets (take here.width key) c.args.hash tag index
     (c.requires.hash ∙ sym (ap (λ (l : RowList). hash_of (take l.width key)) c.self.view_is)) c.tag_of-tag.ensures
-    (λ f tagged taken there has. has_before (λ e. e.tag ≡ tag → slice_get (items_of here.width here.pages.rows) e.row ≡ Some (take here.width key) → ⊥) buckets s c.loop.counter c.loop.bucket _ f none c.loop.invariant.behind at (c.if-is_free.ensures.0 refl) (ap (slot_of (length buckets)) (sym tagged)) taken has tagged there))
+    (λ f tagged taken there has.
+    has_before (λ e. e.tag ≡ tag → slice_get (items_of here.width here.pages.rows) e.row ≡ Some (take here.width key) → ⊥) buckets s
+    c.loop.counter c.loop.bucket _ f none c.loop.invariant.behind at (c.if-is_free.ensures.0 refl) (ap (slot_of (length buckets)) (sym tagged))
+    taken has tagged there))
     c.loop.invariant.none
 
 pub returns-clause-absent : goal.returns-clause-absent
@@ -36,7 +39,9 @@ returns-clause-absent c =
     subst (λ (l : RowList). NoneBefore l.items buckets s tag (take l.width key) c.loop.counter → ¬ Contains l.items (take l.width key)) c.self.view_is
     (λ none. not_there here.width here.pages.rows buckets (take here.width key) c.args.hash tag index
     (c.requires.hash ∙ sym (ap (λ (l : RowList). hash_of (take l.width key)) c.self.view_is)) c.tag_of-tag.ensures
-    (λ f tagged taken there has. has_round (λ e. e.tag ≡ tag → slice_get (items_of here.width here.pages.rows) e.row ≡ Some (take here.width key) → ⊥) buckets s c.loop.counter f none c.loop-test.false (ap (slot_of (length buckets)) (sym tagged)) has tagged there))
+    (λ f tagged taken there has.
+    has_round (λ e. e.tag ≡ tag → slice_get (items_of here.width here.pages.rows) e.row ≡ Some (take here.width key) → ⊥) buckets s c.loop.counter
+    f none c.loop-test.false (ap (slot_of (length buckets)) (sym tagged)) has tagged there))
     c.loop.invariant.none
 
 pub stands_at-requires-clause-named : goal.stands_at-requires-clause-named

@@ -28,10 +28,14 @@ pub slices_at-requires-clause-low : goal.slices_at-requires-clause-low
 slices_at-requires-clause-low c = (next_low c.args.self.now c.args.rows c.args.s c.loop-mark.mark c.next_unit-parts.result c.requires.low c.requires.below c.loop-mark.invariant.mark c.loop-mark-test.true c.next_unit-parts.ensures.next).row
 
 pub slices_at-requires-clause-in_range : goal.slices_at-requires-clause-in_range
-slices_at-requires-clause-in_range c = (next_low c.args.self.now c.args.rows c.args.s c.loop-mark.mark c.next_unit-parts.result c.requires.low c.requires.below c.loop-mark.invariant.mark c.loop-mark-test.true c.next_unit-parts.ensures.next).operation
+slices_at-requires-clause-in_range c =
+    (next_low c.args.self.now c.args.rows c.args.s c.loop-mark.mark c.next_unit-parts.result c.requires.low c.requires.below
+    c.loop-mark.invariant.mark c.loop-mark-test.true c.next_unit-parts.ensures.next).operation
 
 pub slices_at-requires-clause-within : goal.slices_at-requires-clause-within
-slices_at-requires-clause-within c = (next_low c.args.self.now c.args.rows c.args.s c.loop-mark.mark c.next_unit-parts.result c.requires.low c.requires.below c.loop-mark.invariant.mark c.loop-mark-test.true c.next_unit-parts.ensures.next).place
+slices_at-requires-clause-within c =
+    (next_low c.args.self.now c.args.rows c.args.s c.loop-mark.mark c.next_unit-parts.result c.requires.low c.requires.below
+    c.loop-mark.invariant.mark c.loop-mark-test.true c.next_unit-parts.ensures.next).place
 
 pub overflow_add-mark-in-loop-mark : goal.overflow_add-mark-in-loop-mark
 overflow_add-mark-in-loop-mark c =

@@ -4,7 +4,7 @@ use Rattle.std.specs.Cmp.Lexicographic.{slice_cmp}
 use Rattle.std.specs.Ordering.{nat_cmp}
 use Rattle.std.proofs.lemmas.Map.Text.{btree_map_updates_str}
 use Rattle.ua_text.specs.Labels.{place_in}
-use Rattle.ua_text.proofs.LabelLemmas.{found_step}
+use Rattle.ua_text.proofs.LabelLaws.{found_step}
 use Rattle.ua_text.proofs.labels.Labels.new.Goals as goal
 
 pub loop-place-preserved : goal.loop-place-preserved

@@ -3,7 +3,7 @@ use Rattle.std.proofs.Common.{◌≡◌, ℕ, suc, ◌<◌, Bool, true, false, c
 use Rattle.std.proofs.Math.Seq.{drop-cons}
 use Rattle.ua_text.specs.Words.{same}
 use Rattle.ua_text.specs.Labels.{place_in}
-use Rattle.ua_text.proofs.WordLemmas.{same_turned}
+use Rattle.ua_text.proofs.WordLaws.{same_turned}
 
 pub found_step : (names : List (List ℕ)) (i : ℕ) (name key t : List ℕ) (old new : Option ℕ) → i < length names → key ≡ name → name ≡ get_or names i name
     → new ≡ cond (same key t) (Some i) old → old ≡ place_in (suc i) (drop (suc i) names) t → new ≡ place_in i (drop i names) t

@@ -15,7 +15,7 @@ use Rattle.ua_table.proofs.Lists.{all_at, All-slice_get, found, all_from_contain
 use Rattle.ua_table.proofs.Rows.{slices_of_rows}
 use Rattle.ua_table.proofs.SliceLaws.{bound_laws}
 use Rattle.ua_rows.specs.RowLists.{rows_at}
-use Rattle.ua_table.proofs.ApplyLemmas.{IsVector-apply}
+use Rattle.ua_table.proofs.ApplyLaws.{IsVector-apply}
 use Rattle.ua_rows.specs.Results.{HasResults}
 use Rattle.ua_table.specs.Orders.{AreMade}
 
