@@ -28,9 +28,9 @@ use Rattle.ua_reply.proofs.CheckLaws.{known_step}
 use Rattle.ua_reply.proofs.ReplyExistence.{known_table, answered_on}
 use Rattle.ua_answer_conditions.specs.CondCommand as words
 use Rattle.ua_answer_conditions.specs.CondCommand.{nu_checks}
-use Rattle.ua_answer_conditions.specs.declared.chains.ChainWord.TheVariants as asked
+use Rattle.ua_chain.specs.declared.least_chains.NamedKind.TheVariants as asked
 use Rattle.ua_answer_conditions.specs.Replied.{ConditionsReplied}
-use Rattle.ua_answer_conditions.proofs.RepliesExist.{CanDecide, named_condition, near_unanimous}
+use Rattle.ua_answer_conditions.proofs.RepliesExist.{CanDecide, CanChain, named_condition, near_unanimous}
 use Rattle.ua_answer_algebras.specs.CloseCommand.{close_checks}
 use Rattle.ua_answer_algebras.specs.MemberCommand.{member_checks}
 use Rattle.ua_answer_algebras.specs.Replied.{AlgebrasReplied}
@@ -67,18 +67,13 @@ places_of k h = known_step (nat_le 3 k.value && nat_le k.value 16) k.place h.ran
 
 -- ---- with a certificate
 
--- a chain can be told
-abbrev CanChain : ChainName → Type 0
-CanChain name = (a : FiniteAlgebra) (b w : ℕ) → IsAlgebra a → IsAnswerable (MayChain a (kind_of name) b w) OutOfMemory
-
 pub record CertLaws : Type 0 where
   pub closure : ClosureIsFlawless
   pub membership : MembershipIsFlawless
   pub condition : ConditionIsFlawless
   pub chain : ChainIsFlawless
   pub can_decide : CanDecide
-  pub jonsson : CanChain chains.Jonsson
-  pub hm : CanChain chains.Hm
+  pub can_chain : CanChain
 
 named : CertLaws → (s : List Block) (b : Bounds) (w : Word) (name : CondWord) → AreAlgebras s → 1 ≤ b.budget → HasBytes (CertReply s b (Cond w name))
 named l s b w name algebras one =
@@ -88,8 +83,9 @@ named l s b w name algebras one =
     condition_exists l.condition k b (name_of name) 3 (three_places name)
     (subst (λ c. IsAnswerable (MayDecide k.algebra c b.budget b.workers) OutOfMemory) (same_condition name) may) table one)
 
-chained : CertLaws → (name : ChainName) → CanChain name → (s : List Block) (b : Bounds) (w : Word) → AreAlgebras s → 1 ≤ b.budget
-    → HasBytes (AnsweredOn s w (λ k. passed) (λ k. CertifiedChain k b name))
+-- a chain of this name can be told, with its certificate
+chained : CertLaws → (name : ChainName) → ((a : FiniteAlgebra) (b w : ℕ) → IsAlgebra a → IsAnswerable (MayChain a (kind_of name) b w) OutOfMemory)
+    → (s : List Block) (b : Bounds) (w : Word) → AreAlgebras s → 1 ≤ b.budget → HasBytes (AnsweredOn s w (λ k. passed) (λ k. CertifiedChain k b name))
 chained l name can s b w algebras one =
     answered_on s w (λ k. passed) (λ k. CertifiedChain k b name) (λ k known passes.
     let table = known_table s w.name k algebras known in
@@ -108,8 +104,8 @@ cert_replied l s b (Nu w n) algebras one =
     let table = known_table s w.name k algebras known in
     let may = l.can_decide k.algebra (near_unanimity n.value) b.budget b.workers table.algebra (near_unanimous n passes) in
     condition_exists l.condition k b conditions.Nu n.value (places_of n passes) may table one)
-cert_replied l s b (Jonsson w) algebras one = chained l chains.Jonsson l.jonsson s b w algebras one
-cert_replied l s b (Hm w) algebras one = chained l chains.Hm l.hm s b w algebras one
+cert_replied l s b (Jonsson w) algebras one = chained l chains.Jonsson (λ a. l.can_chain a asked.Jonsson) s b w algebras one
+cert_replied l s b (Hm w) algebras one = chained l chains.Hm (λ a. l.can_chain a asked.HagemannMitschke) s b w algebras one
 
 -- ---- by itself, or with a certificate
 

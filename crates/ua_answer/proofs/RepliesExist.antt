@@ -8,7 +8,7 @@ use Rattle.ua_script.specs.Forms.{asked, parts_of}
 use Rattle.ua_reply.specs.Sessions.{Bounds, AreAlgebras, AreBounds}
 use Rattle.ua_reply.specs.Replies.{HasBytes}
 use Rattle.ua_answer_congruences.specs.Replied.{CongruencesReplied}
-use Rattle.ua_answer_conditions.specs.declared.chains.ChainWord.TheVariants as chains
+use Rattle.ua_chain.specs.declared.least_chains.NamedKind.TheVariants as chains
 use Rattle.ua_answer_conditions.specs.Replied.{ConditionsReplied}
 use Rattle.ua_answer_algebras.specs.MakeCommand.{HasReply}
 use Rattle.ua_answer_algebras.specs.Replied.{AlgebrasReplied}

@@ -14,7 +14,7 @@ use Rattle.ua_reply.specs.Sessions.{Bounds}
 use Rattle.ua_reply.specs.Checks.{Checks, passed}
 use Rattle.ua_reply.specs.Replies.{AnsweredOn}
 use Rattle.ua_answer_conditions.specs.CondCommand.{nu_checks, CondReply, NuReply}
-use Rattle.ua_answer_conditions.specs.declared.chains.ChainWord.TheVariants as asked
+use Rattle.ua_chain.specs.declared.least_chains.NamedKind.TheVariants as asked
 use Rattle.ua_answer_conditions.specs.ChainCommand.{ChainReply}
 use Rattle.ua_answer_algebras.specs.CloseCommand.{close_checks, CloseReply}
 use Rattle.ua_answer_algebras.specs.MemberCommand.{member_checks, MemberReply}

@@ -14,7 +14,7 @@ use Rattle.ua_answer_congruences.specs.CommCommand.{CommReply}
 use Rattle.ua_answer_congruences.specs.SeriesCommand.{SeriesReply}
 use Rattle.ua_answer_conditions.specs.ConditionCommand.{ConditionReply}
 use Rattle.ua_answer_conditions.specs.CloneCommand.{CloneReply}
-use Rattle.ua_answer_conditions.specs.declared.chains.ChainWord.TheVariants as chains
+use Rattle.ua_chain.specs.declared.least_chains.NamedKind.TheVariants as chains
 use Rattle.ua_answer_conditions.specs.ChainCommand.{ChainReply}
 use Rattle.ua_answer_conditions.specs.HoldsCommand.{HoldsReply}
 use Rattle.ua_answer_algebras.specs.FreeCommand.{FreeReply}

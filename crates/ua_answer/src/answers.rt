@@ -12,10 +12,11 @@ use ua_answer_algebras::{
     Answered, answer_check, answer_eval, answer_free, answer_hom, answer_make, answer_ones,
     answer_sub, said,
 };
-use ua_answer_conditions::{ChainWord, answer_chain, answer_clone, answer_condition, answer_holds};
+use ua_answer_conditions::{answer_chain, answer_clone, answer_condition, answer_holds};
 use ua_answer_congruences::{
     answer_central, answer_cg, answer_comm, answer_con, answer_series, answer_types,
 };
+use ua_chain::NamedKind;
 use ua_reply::Context;
 use ua_script::Command;
 use ua_table::Gate;
@@ -26,7 +27,7 @@ pub fn answer_plain<R: Threads + Sync, G: Gate>(
     command: &Command,
 ) -> Result<Vec<u8>, AllocError>
     requires { IsPlainBuilt command.now }
-    ensures { IfOk result (λ v. PlainReply context.now.session.now (bounds_of context.now.run.now) command.now v.items) }
+    ensures { IfOk result (λ v. PlainReply context.now.session.now (bounds_in context.now) command.now v.items) }
 {
     match command {
         Command::Ask { what, mode, cert } => answer_asked(context, what, *mode, *cert),
@@ -65,7 +66,7 @@ pub fn answer_plain<R: Threads + Sync, G: Gate>(
             left,
             right,
         } => answer_holds(context, algebra, left, right),
-        Command::Day { algebra } => answer_chain(context, algebra, ChainWord::Day),
+        Command::Day { algebra } => answer_chain(context, algebra, NamedKind::Day),
         Command::Condition {
             algebra,
             arity,
@@ -87,7 +88,7 @@ pub fn answer<'a, R: Threads + Sync, G: Gate>(
     command: &'a Command,
 ) -> Result<Answered<'a>, AllocError>
     requires { IsBuilt command.now }
-    ensures reply { IfOk result (λ v. Reply context.now.session.now (bounds_of context.now.run.now) command.now v.reply.items (left_by context.now.session.now v.made)) }
+    ensures reply { IfOk result (λ v. Reply context.now.session.now (bounds_in context.now) command.now v.reply.items (left_by context.now.session.now v.made)) }
     ensures named { IfOk result (λ v. IsNamedRight v.made) }
 {
     match command {

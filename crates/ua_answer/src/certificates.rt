@@ -53,7 +53,7 @@ pub fn certified_closure<R: Threads + Sync, G: Gate>(
     requires width { Passes (positive width) }
     requires gens { Passes (vectors_in known.now width.value gens.now) }
     requires few { length gens.now ≤ SCRIPT }
-    ensures { IfOk result (λ v. CertifiedClosure known.now (bounds_of context.now.run.now) width gens.now v.items) }
+    ensures { IfOk result (λ v. CertifiedClosure known.now (bounds_in context.now) width gens.now v.items) }
 {
     let alloc = context.alloc;
     let budget = context.run.budget;
@@ -85,7 +85,7 @@ pub fn certified_membership<R: Threads + Sync, G: Gate>(
     requires gens { Passes (vectors_in known.now width.value gens.now) }
     requires target { Passes (vector_in known.now width.value target.now) }
     requires few { length gens.now ≤ SCRIPT }
-    ensures { IfOk result (λ v. CertifiedMembership known.now (bounds_of context.now.run.now) width gens.now target.now v.items) }
+    ensures { IfOk result (λ v. CertifiedMembership known.now (bounds_in context.now) width gens.now target.now v.items) }
 {
     let alloc = context.alloc;
     let budget = context.run.budget;
@@ -116,7 +116,7 @@ pub fn certified_condition<R: Threads + Sync, G: Gate>(
 ) -> Result<Vec<u8>, AllocError>
     requires places { has_places name places ≡ true }
     requires permitted { MayDecide known.now.algebra (condition_of name places) context.now.run.now.budget context.now.run.now.workers answer }
-    ensures { IfOk result (λ v. CertifiedCondition known.now (bounds_of context.now.run.now) name places v.items) }
+    ensures { IfOk result (λ v. CertifiedCondition known.now (bounds_in context.now) name places v.items) }
 {
     let alloc = context.alloc;
     let answer = match answer {
@@ -135,7 +135,7 @@ pub fn certified_chain<R: Threads + Sync, G: Gate>(
     answer: Result<Chain, CloseError>,
 ) -> Result<Vec<u8>, AllocError>
     requires { MayChain known.now.algebra (kind_of name) context.now.run.now.budget context.now.run.now.workers answer }
-    ensures { IfOk result (λ v. CertifiedChain known.now (bounds_of context.now.run.now) name v.items) }
+    ensures { IfOk result (λ v. CertifiedChain known.now (bounds_in context.now) name v.items) }
 {
     let alloc = context.alloc;
     let answer = match answer {

@@ -16,10 +16,10 @@ use std::alloc::AllocError;
 use std::thread::Threads;
 use ua_answer_algebras::{answer_close, answer_member};
 use ua_answer_conditions::{
-    ChainWord, answer_chain, answer_cond, answer_nu, chain, decide_named, near_unanimous,
-    variables_of,
+    answer_chain, answer_cond, answer_nu, chain, decide_named, near_unanimous, variables_of,
 };
 use ua_cert::{ChainName, CondName};
+use ua_chain::NamedKind;
 use ua_reply::{
     Context, FirstErrors, Known, Refusal, positive, refusal_reply, vector_in, vectors_in,
 };
@@ -33,7 +33,7 @@ fn answer_question<R: Threads + Sync, G: Gate>(
     mode: Mode,
 ) -> Result<Vec<u8>, AllocError>
     requires { HasFewVectors what.now }
-    ensures { IfOk result (λ v. QuestionReply context.now.session.now (bounds_of context.now.run.now) what.now mode v.items) }
+    ensures { IfOk result (λ v. QuestionReply context.now.session.now (bounds_in context.now) what.now mode v.items) }
 {
     match what {
         Provable::Close {
@@ -49,8 +49,8 @@ fn answer_question<R: Threads + Sync, G: Gate>(
         } => answer_member(context, algebra, *width, gens.as_slice(), target),
         Provable::Cond { algebra, name } => answer_cond(context, algebra, *name),
         Provable::Nu { algebra, k } => answer_nu(context, algebra, *k),
-        Provable::Jonsson { algebra } => answer_chain(context, algebra, ChainWord::Jonsson),
-        Provable::Hm { algebra } => answer_chain(context, algebra, ChainWord::HagemannMitschke),
+        Provable::Jonsson { algebra } => answer_chain(context, algebra, NamedKind::Jonsson),
+        Provable::Hm { algebra } => answer_chain(context, algebra, NamedKind::HagemannMitschke),
     }
 }
 
@@ -95,7 +95,7 @@ fn certified_named<R: Threads + Sync, G: Gate>(
     known: &Known,
     name: CondWord,
 ) -> Result<Vec<u8>, AllocError>
-    ensures { IfOk result (λ v. CertifiedCondition known.now (bounds_of context.now.run.now) (name_of name) 3 v.items) }
+    ensures { IfOk result (λ v. CertifiedCondition known.now (bounds_in context.now) (name_of name) 3 v.items) }
 {
     let answer = decide_named(context, known, name);
     certified_condition(context, known, name_of(name), 3, answer)
@@ -108,7 +108,7 @@ fn certified_near_unanimity<R: Threads + Sync, G: Gate>(
     k: Number,
 ) -> Result<Vec<u8>, AllocError>
     requires { Passes (nu_checks k) }
-    ensures { IfOk result (λ v. CertifiedCondition known.now (bounds_of context.now.run.now) CondName.Nu k.value v.items) }
+    ensures { IfOk result (λ v. CertifiedCondition known.now (bounds_in context.now) CondName.Nu k.value v.items) }
 {
     let answer = near_unanimous(context, known, k);
     certified_condition(context, known, CondName::Nu, k.value, answer)
@@ -122,7 +122,7 @@ fn certified_known<R: Threads + Sync, G: Gate>(
 ) -> Result<Vec<u8>, AllocError>
     requires few { HasFewVectors what.now }
     requires passed { Passes (question_checks known.now what.now) }
-    ensures { IfOk result (λ v. Certified known.now (bounds_of context.now.run.now) what.now v.items) }
+    ensures { IfOk result (λ v. Certified known.now (bounds_in context.now) what.now v.items) }
 {
     match what {
         Provable::Close { width, gens, .. } => {
@@ -137,11 +137,11 @@ fn certified_known<R: Threads + Sync, G: Gate>(
         Provable::Cond { name, .. } => certified_named(context, known, *name),
         Provable::Nu { k, .. } => certified_near_unanimity(context, known, *k),
         Provable::Jonsson { .. } => {
-            let answer = chain(context, known, ChainWord::Jonsson);
+            let answer = chain(context, known, NamedKind::Jonsson);
             certified_chain(context, known, ChainName::Jonsson, answer)
         }
         Provable::Hm { .. } => {
-            let answer = chain(context, known, ChainWord::HagemannMitschke);
+            let answer = chain(context, known, NamedKind::HagemannMitschke);
             certified_chain(context, known, ChainName::Hm, answer)
         }
     }
@@ -167,7 +167,7 @@ fn answer_cert<R: Threads + Sync, G: Gate>(
     what: &Provable,
 ) -> Result<Vec<u8>, AllocError>
     requires { HasFewVectors what.now }
-    ensures { IfOk result (λ v. CertReply context.now.session.now (bounds_of context.now.run.now) what.now v.items) }
+    ensures { IfOk result (λ v. CertReply context.now.session.now (bounds_in context.now) what.now v.items) }
 {
     let algebra = algebra_of(what);
     let Some(known) = context.session.find(algebra.name.text()) else {
@@ -187,7 +187,7 @@ pub fn answer_asked<R: Threads + Sync, G: Gate>(
     cert: bool,
 ) -> Result<Vec<u8>, AllocError>
     requires { HasFewVectors what.now }
-    ensures { IfOk result (λ v. AskedReply context.now.session.now (bounds_of context.now.run.now) what.now mode cert v.items) }
+    ensures { IfOk result (λ v. AskedReply context.now.session.now (bounds_in context.now) what.now mode cert v.items) }
 {
     if cert {
         answer_cert(context, what)

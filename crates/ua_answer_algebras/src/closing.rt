@@ -41,7 +41,7 @@ pub fn closing<R: Threads + Sync, G: Gate>(
     mode: Mode,
 ) -> Result<Vec<u8>, AllocError>
     requires { AllByRecursion (IsVector frame.now) gens.now.items }
-    ensures { IfOk result (λ v. ClosureAnswer known.now (bounds_of context.now.run.now) frame.now gens.now.items mode v.items) }
+    ensures { IfOk result (λ v. ClosureAnswer known.now (bounds_in context.now) frame.now gens.now.items mode v.items) }
 {
     let alloc = context.alloc;
     let budget = context.run.budget;

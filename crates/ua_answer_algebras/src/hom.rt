@@ -148,7 +148,7 @@ pub fn answer_hom<R: Threads + Sync, G: Gate>(
     images: &Items,
 ) -> Result<Vec<u8>, AllocError>
     requires { length gens.now.values ≤ SCRIPT }
-    ensures { IfOk result (λ v. HomReply context.now.session.now (bounds_of context.now.run.now) first.now second.now gens.now images.now v.items) }
+    ensures { IfOk result (λ v. HomReply context.now.session.now (bounds_in context.now) first.now second.now gens.now images.now v.items) }
 {
     let alloc = context.alloc;
     let Some(source) = context.session.find(first.name.text()) else {

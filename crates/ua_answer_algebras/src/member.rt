@@ -54,7 +54,7 @@ pub fn answer_member<R: Threads + Sync, G: Gate>(
     target: &Items,
 ) -> Result<Vec<u8>, AllocError>
     requires { length gens.now ≤ SCRIPT }
-    ensures { IfOk result (λ v. MemberReply context.now.session.now (bounds_of context.now.run.now) algebra.now width gens.now target.now v.items) }
+    ensures { IfOk result (λ v. MemberReply context.now.session.now (bounds_in context.now) algebra.now width gens.now target.now v.items) }
 {
     let Some(known) = context.session.find(algebra.name.text()) else {
         return refusal_reply(context.alloc, Refusal::Unknown(algebra.place));

@@ -52,8 +52,8 @@ use Rattle.ua_answer_conditions.specs.CloneCommand.{kind_of, written_points, clo
 use Rattle.ua_answer_conditions.specs.HoldsCommand.{holds_checks, holds_text, HoldsAnswer, HoldsReply}
 use Rattle.ua_answer_conditions.proofs.WrittenConditions.{is_condition, few_letters}
 use Rattle.ua_answer_conditions.proofs.WrittenTables.{points_written}
-use Rattle.ua_answer_conditions.specs.declared.chains.ChainWord.{ChainWord}
-use Rattle.ua_answer_conditions.specs.ChainCommand as chains
+use Rattle.ua_chain.specs.declared.least_chains.NamedKind.{NamedKind}
+use Rattle.ua_chain.specs.Names.{kind_named}
 use Rattle.ua_answer_conditions.specs.ChainCommand.{chain_text, ChainAnswer, ChainReply}
 
 -- ---- conditions
@@ -151,12 +151,12 @@ holds_replied can s w left right =
 
 -- ---- chains
 
--- a least chain of a kind can be told
-abbrev pub CanChain : ChainKind → Type 0
-CanChain kind = (a : FiniteAlgebra) (b w : ℕ) → IsAlgebra a → IsAnswerable (MayChain a kind b w) OutOfMemory
+-- a least chain of each kind that has a name can be told
+abbrev pub CanChain : Type 0
+CanChain = (a : FiniteAlgebra) (asked : NamedKind) (b w : ℕ) → IsAlgebra a → IsAnswerable (MayChain a (kind_named asked) b w) OutOfMemory
 
-pub chain_replied : ((asked : ChainWord) → CanChain (chains.kind_of asked)) → (s : List Block) (b : Bounds) (w : Word) (asked : ChainWord) → AreAlgebras s → HasBytes (ChainReply s b w asked)
+pub chain_replied : CanChain → (s : List Block) (b : Bounds) (w : Word) (asked : NamedKind) → AreAlgebras s → HasBytes (ChainReply s b w asked)
 chain_replied can s b w asked algebras =
-    let kind = chains.kind_of asked in
+    let kind = kind_named asked in
     answered_on s w (λ k. passed) (λ k. ChainAnswer k b kind) (λ k known passes.
-    says_exists (MayChain k.algebra kind b.budget b.workers) (chain_text k b.budget kind) (can asked k.algebra b.budget b.workers (known_algebra s w.name k algebras known)))
+    says_exists (MayChain k.algebra kind b.budget b.workers) (chain_text k b.budget kind) (can k.algebra asked b.budget b.workers (known_algebra s w.name k algebras known)))

@@ -3,9 +3,10 @@ use Rattle.std.specs.Prelude.{ℕ, suc, ◌-◌, if◌then◌else◌, List, [], 
 use Rattle.std.specs.Fmt.{decimal}
 use Rattle.ua_term.specs.Steps.{StepList}
 use Rattle.ua_identity.specs.Chains.{ChainKind}
-use Rattle.ua_identity.specs.Kinds as kinds
 use Rattle.ua_chain.specs.declared.chains.Chain.{Chain}
 use Rattle.ua_chain.specs.declared.chains.Chain.TheVariants.{Yes, No, Exceeds}
+use Rattle.ua_chain.specs.declared.least_chains.NamedKind.{NamedKind}
+use Rattle.ua_chain.specs.Names.{kind_named}
 use Rattle.ua_chain.specs.Permitted.{MayChain}
 use Rattle.ua_text.specs.declared.named.Block.{Block}
 use Rattle.ua_operands.specs.declared.written.Word.{Word}
@@ -14,14 +15,6 @@ use Rattle.ua_reply.specs.Checks.{passed}
 use Rattle.ua_reply.specs.Closures.{told}
 use Rattle.ua_reply.specs.Replies.{Says, AnsweredOn}
 use Rattle.ua_reply.specs.Texts.{line, lines, counted, row_text, listed_text, steps_text}
-use Rattle.ua_answer_conditions.specs.declared.chains.ChainWord.{ChainWord}
-use Rattle.ua_answer_conditions.specs.declared.chains.ChainWord.TheVariants.{Jonsson, HagemannMitschke, Day}
-
--- the kind of chain that a command asks for
-abbrev pub kind_of : ChainWord → ChainKind
-kind_of Jonsson = kinds.jonsson
-kind_of HagemannMitschke = kinds.hagemann_mitschke
-kind_of Day = kinds.day
 
 -- term 1 steps 3, and the steps
 abbrev pub term_text : Block → ℕ → StepList → List ℕ
@@ -46,5 +39,5 @@ abbrev pub ChainAnswer : Block → Bounds → ChainKind → List ℕ → Type 0
 ChainAnswer k b kind bytes = Says (MayChain k.algebra kind b.budget b.workers) (told (chain_text k b.budget kind)) bytes
 
 -- jonsson NAME, hm NAME, day NAME
-abbrev pub ChainReply : List Block → Bounds → Word → ChainWord → List ℕ → Type 0
-ChainReply s b w asked bytes = AnsweredOn s w (λ k. passed) (λ k. ChainAnswer k b (kind_of asked)) bytes
+abbrev pub ChainReply : List Block → Bounds → Word → NamedKind → List ℕ → Type 0
+ChainReply s b w asked bytes = AnsweredOn s w (λ k. passed) (λ k. ChainAnswer k b (kind_named asked)) bytes

@@ -10,7 +10,7 @@ use Rattle.ua_operands.specs.declared.written.PointsText.{PointsText}
 use Rattle.ua_operands.specs.declared.written.IdentityText.{IdentityText}
 use Rattle.ua_reply.specs.Sessions.{Bounds, AreAlgebras}
 use Rattle.ua_reply.specs.Replies.{HasBytes}
-use Rattle.ua_answer_conditions.specs.declared.chains.ChainWord.{ChainWord}
+use Rattle.ua_chain.specs.declared.least_chains.NamedKind.{NamedKind}
 use Rattle.ua_answer_conditions.specs.CondCommand.{CondReply, NuReply}
 use Rattle.ua_answer_conditions.specs.ConditionCommand.{ConditionReply}
 use Rattle.ua_answer_conditions.specs.CloneCommand.{CloneReply}
@@ -22,6 +22,6 @@ pub record ConditionsReplied : Type 0 where
   pub named : (s : List Block) (b : Bounds) (w : Word) (name : CondWord) → AreAlgebras s → HasBytes (CondReply s b w name)
   pub near_unanimity : (s : List Block) (b : Bounds) (w : Word) (k : Number) → AreAlgebras s → HasBytes (NuReply s b w k)
   pub written : (s : List Block) (b : Bounds) (w : Word) (k : Number) (is : List IdentityText) → AreAlgebras s → 0 < length is → HasBytes (ConditionReply s b w k is)
-  pub chain : (s : List Block) (b : Bounds) (w : Word) (asked : ChainWord) → AreAlgebras s → HasBytes (ChainReply s b w asked)
+  pub chain : (s : List Block) (b : Bounds) (w : Word) (asked : NamedKind) → AreAlgebras s → HasBytes (ChainReply s b w asked)
   pub clone : (s : List Block) (b : Bounds) (w : Word) (k : Number) (kind : CloneWord) (points : PointsText) → AreAlgebras s → HasBytes (CloneReply s b w k kind points)
   pub identity : (s : List Block) (w : Word) (left right : Phrase) → HasBytes (HoldsReply s w left right)

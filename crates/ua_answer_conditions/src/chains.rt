@@ -1,15 +1,16 @@
 //! The commands `jonsson`, `hm` and `day`.
 
 ghost use Rattle.std.specs.Prelude.{◌≡◌, ◌++◌, Some, IfOk, OnOk};
+ghost use Rattle.ua_chain.specs.Names.{kind_named};
 ghost use Rattle.ua_chain.specs.Permitted.{MayChain};
 ghost use Rattle.ua_reply.specs.Sessions.{bounds_of};
 ghost use Rattle.ua_reply.specs.Closures.{told};
 ghost use Rattle.ua_reply.specs.Texts.{line, lines, counted, row_text};
-ghost use Rattle.ua_answer_conditions.specs.ChainCommand.{kind_of, term_text, terms_text, reached_text, chain_text, ChainReply};
+ghost use Rattle.ua_answer_conditions.specs.ChainCommand.{term_text, terms_text, reached_text, chain_text, ChainReply};
 
 use std::alloc::{AllocError, Global};
 use std::thread::Threads;
-use ua_chain::{Chain, day, hagemann_mitschke, jonsson};
+use ua_chain::{Chain, NamedKind, named_chain};
 use ua_close::{CloseError, Listing};
 use ua_part::push_number;
 use ua_reply::{
@@ -20,30 +21,15 @@ use ua_script::Word;
 use ua_table::Gate;
 use ua_term::Steps;
 
-/// Which chain a command asks for.
-#[derive(Clone, Copy, Debug, PartialEq, Eq)]
-pub enum ChainWord {
-    Jonsson,
-    HagemannMitschke,
-    Day,
-}
-
 /// A least chain of this kind.
 pub fn chain<R: Threads + Sync, G: Gate>(
     context: &Context<R, G>,
     known: &Known,
-    asked: ChainWord,
+    asked: NamedKind,
 ) -> Result<Chain, CloseError>
-    ensures { MayChain known.now.algebra (kind_of asked) context.now.run.now.budget context.now.run.now.workers result }
+    ensures { MayChain known.now.algebra (kind_named asked) context.now.run.now.budget context.now.run.now.workers result }
 {
-    let algebra = known.algebra();
-    match asked {
-        ChainWord::Jonsson => jonsson(context.rt, context.alloc, algebra, context.run),
-        ChainWord::HagemannMitschke => {
-            hagemann_mitschke(context.rt, context.alloc, algebra, context.run)
-        }
-        ChainWord::Day => day(context.rt, context.alloc, algebra, context.run),
-    }
+    named_chain(context.rt, context.alloc, known.algebra(), asked, context.run)
 }
 
 /// Appends the steps of a term of a chain, behind its number and theirs.
@@ -74,16 +60,16 @@ fn push_terms(out: &mut Vec<u8>, known: &Known, terms: &[Steps]) -> Result<(), A
 /// Appends the positions of the rows that are reached.
 fn push_reached(
     out: &mut Vec<u8>,
-    asked: ChainWord,
+    asked: NamedKind,
     even: &[u32],
     odd: &[u32],
 ) -> Result<(), AllocError>
-    ensures { OnOk result (out.new.items ≡ out.old.items ++ reached_text (kind_of asked) even.now odd.now) }
+    ensures { OnOk result (out.new.items ≡ out.old.items ++ reached_text (kind_named asked) even.now odd.now) }
 {
     push_listed(out, b"reached even", even)?;
     match asked {
-        ChainWord::HagemannMitschke => Ok(()),
-        ChainWord::Jonsson | ChainWord::Day => push_listed(out, b"reached odd", odd),
+        NamedKind::HagemannMitschke => Ok(()),
+        NamedKind::Jonsson | NamedKind::Day => push_listed(out, b"reached odd", odd),
     }
 }
 
@@ -106,10 +92,10 @@ fn chain_reply(
     alloc: Global,
     known: &Known,
     budget: u32,
-    asked: ChainWord,
+    asked: NamedKind,
     answer: &Result<Chain, CloseError>,
 ) -> Result<Vec<u8>, AllocError>
-    ensures { IfOk result (λ v. told (chain_text known.now budget (kind_of asked)) answer.now ≡ Some v.items) }
+    ensures { IfOk result (λ v. told (chain_text known.now budget (kind_named asked)) answer.now ≡ Some v.items) }
 {
     let mut out = Vec::new(alloc);
     match answer {
@@ -131,9 +117,9 @@ fn chain_reply(
 pub fn answer_chain<R: Threads + Sync, G: Gate>(
     context: &Context<R, G>,
     algebra: &Word,
-    asked: ChainWord,
+    asked: NamedKind,
 ) -> Result<Vec<u8>, AllocError>
-    ensures { IfOk result (λ v. ChainReply context.now.session.now (bounds_of context.now.run.now) algebra.now asked v.items) }
+    ensures { IfOk result (λ v. ChainReply context.now.session.now (bounds_in context.now) algebra.now asked v.items) }
 {
     let Some(known) = context.session.find(algebra.name.text()) else {
         return refusal_reply(context.alloc, Refusal::Unknown(algebra.place));

@@ -191,7 +191,7 @@ pub fn answer_clone<R: Threads + Sync, G: Gate>(
     points: &PointsText,
 ) -> Result<Vec<u8>, AllocError>
     requires { IsShortTable points.now }
-    ensures { IfOk result (λ v. CloneReply context.now.session.now (bounds_of context.now.run.now) algebra.now k kind points.now v.items) }
+    ensures { IfOk result (λ v. CloneReply context.now.session.now (bounds_in context.now) algebra.now k kind points.now v.items) }
 {
     let Some(known) = context.session.find(algebra.name.text()) else {
         return refusal_reply(context.alloc, Refusal::Unknown(algebra.place));

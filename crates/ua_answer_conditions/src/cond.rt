@@ -53,7 +53,7 @@ pub fn answer_cond<R: Threads + Sync, G: Gate>(
     algebra: &Word,
     name: CondWord,
 ) -> Result<Vec<u8>, AllocError>
-    ensures { IfOk result (λ v. CondReply context.now.session.now (bounds_of context.now.run.now) algebra.now name v.items) }
+    ensures { IfOk result (λ v. CondReply context.now.session.now (bounds_in context.now) algebra.now name v.items) }
 {
     let Some(known) = context.session.find(algebra.name.text()) else {
         return refusal_reply(context.alloc, Refusal::Unknown(algebra.place));
@@ -98,7 +98,7 @@ pub fn answer_nu<R: Threads + Sync, G: Gate>(
     algebra: &Word,
     k: Number,
 ) -> Result<Vec<u8>, AllocError>
-    ensures { IfOk result (λ v. NuReply context.now.session.now (bounds_of context.now.run.now) algebra.now k v.items) }
+    ensures { IfOk result (λ v. NuReply context.now.session.now (bounds_in context.now) algebra.now k v.items) }
 {
     let Some(known) = context.session.find(algebra.name.text()) else {
         return refusal_reply(context.alloc, Refusal::Unknown(algebra.place));

@@ -166,7 +166,7 @@ pub fn answer_condition<R: Threads + Sync, G: Gate>(
     identities: &[IdentityText],
 ) -> Result<Vec<u8>, AllocError>
     requires { 0 < length identities.now }
-    ensures { IfOk result (λ v. ConditionReply context.now.session.now (bounds_of context.now.run.now) algebra.now arity identities.now v.items) }
+    ensures { IfOk result (λ v. ConditionReply context.now.session.now (bounds_in context.now) algebra.now arity identities.now v.items) }
 {
     let Some(known) = context.session.find(algebra.name.text()) else {
         return refusal_reply(context.alloc, Refusal::Unknown(algebra.place));

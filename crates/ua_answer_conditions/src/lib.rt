@@ -9,7 +9,7 @@ mod condition;
 mod holds;
 pub mod laws;
 
-pub use chains::{ChainWord, answer_chain, chain};
+pub use chains::{answer_chain, chain};
 pub use clone::answer_clone;
 pub use cond::{answer_cond, answer_nu, decide_named, near_unanimous, variables_of};
 pub use condition::answer_condition;

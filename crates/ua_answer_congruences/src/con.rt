@@ -69,7 +69,7 @@ pub fn answer_con<R: Threads + Sync, G: Gate>(
     context: &Context<R, G>,
     algebra: &Word,
 ) -> Result<Vec<u8>, AllocError>
-    ensures { IfOk result (λ v. ConReply context.now.session.now (bounds_of context.now.run.now) algebra.now v.items) }
+    ensures { IfOk result (λ v. ConReply context.now.session.now (bounds_in context.now) algebra.now v.items) }
 {
     let Some(known) = context.session.find(algebra.name.text()) else {
         return refusal_reply(context.alloc, Refusal::Unknown(algebra.place));

@@ -80,7 +80,7 @@ pub fn answer_types<R: Threads + Sync, G: Gate>(
     context: &Context<R, G>,
     algebra: &Word,
 ) -> Result<Vec<u8>, AllocError>
-    ensures { IfOk result (λ v. TypesReply context.now.session.now (bounds_of context.now.run.now) algebra.now v.items) }
+    ensures { IfOk result (λ v. TypesReply context.now.session.now (bounds_in context.now) algebra.now v.items) }
 {
     let alloc = context.alloc;
     let Some(known) = context.session.find(algebra.name.text()) else {

@@ -59,7 +59,7 @@ pub fn answer_series<R: Threads + Sync, G: Gate>(
     algebra: &Word,
     kind: SeriesWord,
 ) -> Result<Vec<u8>, AllocError>
-    ensures { IfOk result (λ v. SeriesReply context.now.session.now (bounds_of context.now.run.now) algebra.now kind v.items) }
+    ensures { IfOk result (λ v. SeriesReply context.now.session.now (bounds_in context.now) algebra.now kind v.items) }
 {
     let Some(known) = context.session.find(algebra.name.text()) else {
         return refusal_reply(context.alloc, Refusal::Unknown(algebra.place));

@@ -42,13 +42,16 @@ use Rattle.ua_walk.proofs.ClimbsExist.{bool_or, both_or, test_of, climb_exists}
 use Rattle.ua_identity.specs.Chains.{ChainKind, power_of, generators_of}
 use Rattle.ua_identity.specs.Identities.{VariablePattern, xxy, xyx, xyy}
 use Rattle.ua_identity.specs.KindTables.{pattern_at, own_of, kind_of, IsKindTable}
-use Rattle.ua_identity.specs.Kinds.{IsKind, jonsson, hagemann_mitschke, day, xyyx, xxww, xyyw}
+use Rattle.ua_identity.specs.Kinds.{IsKind, xyyx, xxww, xyyw}
 use Rattle.ua_identity.specs.Patterns.{all_fillings, vector_of}
 use Rattle.ua_identity.specs.declared.kinds.PatternPair.{PatternPair}
 use Rattle.ua_identity.proofs.KindLaws.{is_jonsson, is_hagemann_mitschke, is_day}
 use Rattle.ua_chain.specs.declared.chains.Chain.{Chain}
 use Rattle.ua_chain.specs.declared.chains.Chain.TheVariants.{Yes, No, Exceeds}
+use Rattle.ua_chain.specs.declared.least_chains.NamedKind.{NamedKind}
+use Rattle.ua_chain.specs.declared.least_chains.NamedKind.TheVariants.{Jonsson, HagemannMitschke, Day}
 use Rattle.ua_chain.specs.Answers.{TellsChain, IsSerialChain}
+use Rattle.ua_chain.specs.Names.{kind_named}
 use Rattle.ua_chain.specs.Permitted.{MayChain}
 use Rattle.ua_chain.specs.inner.Charts.{IsRowOf, IsChart}
 use Rattle.ua_chain.specs.inner.Closures.{IsClosureOf, AreStepsAt, AreMarkedNumbers, AreEvenNumbers, AreOddNumbers, generator_step}
@@ -398,21 +401,18 @@ made_told alloc a places ps own even odd by_parity b w alg table =
     let named : AreNamed ps own even odd = record { own_named = table.own_named; even_first = table.even_first; even_second = table.even_second; odd_first = table.odd_first; odd_second = table.odd_second } in
     chain_told alloc a places ps own even odd by_parity table.kind named alg b w
 
-pub jonsson_told : (alloc : Global) (a : FiniteAlgebra) (b w : ℕ) → IsAlgebra a → IsAnswerable (MayChain a jonsson b w) OutOfMemory
-jonsson_told alloc a b w alg =
+-- a chain of each kind that has a name can be told
+pub named_told : (alloc : Global) (a : FiniteAlgebra) (name : NamedKind) (b w : ℕ) → IsAlgebra a → IsAnswerable (MayChain a (kind_named name) b w) OutOfMemory
+named_told alloc a Jonsson b w alg =
     let even : PatternPair = record { first = 1; second = 1 } in
     let odd : PatternPair = record { first = 2; second = 2 } in
     let named : AreNamed (xyx ∷ xxy ∷ xyy ∷ []) (Some 0) even odd = record { own_named = omega arith; even_first = omega arith; even_second = omega arith; odd_first = omega arith; odd_second = omega arith } in
     chain_told alloc a 3 (xyx ∷ xxy ∷ xyy ∷ []) (Some 0) even odd true is_jonsson named alg b w
-
-pub hagemann_mitschke_told : (alloc : Global) (a : FiniteAlgebra) (b w : ℕ) → IsAlgebra a → IsAnswerable (MayChain a hagemann_mitschke b w) OutOfMemory
-hagemann_mitschke_told alloc a b w alg =
+named_told alloc a HagemannMitschke b w alg =
     let pair : PatternPair = record { first = 0; second = 1 } in
     let named : AreNamed (xxy ∷ xyy ∷ []) None pair pair = record { own_named = tt; even_first = omega arith; even_second = omega arith; odd_first = omega arith; odd_second = omega arith } in
     chain_told alloc a 3 (xxy ∷ xyy ∷ []) None pair pair false is_hagemann_mitschke named alg b w
-
-pub day_told : (alloc : Global) (a : FiniteAlgebra) (b w : ℕ) → IsAlgebra a → IsAnswerable (MayChain a day b w) OutOfMemory
-day_told alloc a b w alg =
+named_told alloc a Day b w alg =
     let even : PatternPair = record { first = 1; second = 1 } in
     let odd : PatternPair = record { first = 2; second = 2 } in
     let named : AreNamed (xyyx ∷ xxww ∷ xyyw ∷ []) (Some 0) even odd = record { own_named = omega arith; even_first = omega arith; even_second = omega arith; odd_first = omega arith; odd_second = omega arith } in

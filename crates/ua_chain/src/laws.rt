@@ -9,7 +9,9 @@ ghost use Rattle.ua_close.specs.Permitted.{IsAnswerable};
 ghost use Rattle.ua_identity.specs.Identities.{VariablePattern};
 ghost use Rattle.ua_identity.specs.KindTables.{kind_of, IsKindTable};
 ghost use Rattle.ua_identity.specs.declared.kinds.PatternPair.{PatternPair};
+ghost use Rattle.ua_chain.specs.Names.{kind_named};
 ghost use Rattle.ua_chain.specs.Permitted.{MayChain};
+ghost use Rattle.ua_chain.specs.declared.least_chains.NamedKind.{NamedKind};
 ghost use Rattle.ua_identity.specs.Kinds.{IsKind, jonsson, hagemann_mitschke, day};
 
 use std::alloc::Global;
@@ -23,11 +25,9 @@ pub fn chains()
     ensures length { (a : FiniteAlgebra) (kind : ChainKind) (terms : List Tree) → IsKind kind → IsLeastChain a kind terms → (chain_length terms ≡ 0) ↔ (a.size ≤ 1) }
 {}
 
-/// A least chain can be told, or that there is none, otherwise than by want of memory: for each of the three kinds, and for
-/// each that is made of the numbers of its patterns. The allocator serves to speak of an answer in memory.
+/// A least chain can be told, or that there is none, otherwise than by want of memory: for each kind that has a name, and
+/// for each that is made of the numbers of its patterns. The allocator serves to speak of an answer in memory.
 pub fn answers(_alloc: Global)
     ensures made { (a : FiniteAlgebra) (places : ℕ) (patterns : List VariablePattern) (own : Option ℕ) (even odd : PatternPair) (by_parity : Bool) (b w : ℕ) → IsAlgebra a → IsKindTable places patterns own even odd by_parity → IsAnswerable (MayChain a (kind_of places patterns own even odd by_parity) b w) CloseError.OutOfMemory }
-    ensures jonsson { (a : FiniteAlgebra) (b w : ℕ) → IsAlgebra a → IsAnswerable (MayChain a jonsson b w) CloseError.OutOfMemory }
-    ensures hagemann_mitschke { (a : FiniteAlgebra) (b w : ℕ) → IsAlgebra a → IsAnswerable (MayChain a hagemann_mitschke b w) CloseError.OutOfMemory }
-    ensures day { (a : FiniteAlgebra) (b w : ℕ) → IsAlgebra a → IsAnswerable (MayChain a day b w) CloseError.OutOfMemory }
+    ensures named { (a : FiniteAlgebra) (name : NamedKind) (b w : ℕ) → IsAlgebra a → IsAnswerable (MayChain a (kind_named name) b w) CloseError.OutOfMemory }
 {}

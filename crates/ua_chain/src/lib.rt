@@ -2,14 +2,14 @@
 //! vectors on patterns.
 #![tactic(auto)]
 
-mod calls;
 mod chains;
 mod classes;
 mod climbs;
 pub mod laws;
+mod least_chains;
 mod rows;
 mod vectors;
 
-pub use calls::{day, hagemann_mitschke, jonsson, least_chain};
 pub use chains::Chain;
+pub use least_chains::{NamedKind, day, hagemann_mitschke, jonsson, least_chain, named_chain};
 pub use ua_identity::Kind;

@@ -8,6 +8,5 @@ returns c = cert_replied record {
   condition = c.flawless.ensures.condition;
   chain = c.flawless.ensures.chain;
   can_decide = c.answers.ensures;
-  jonsson = c.answers-2.ensures.jonsson;
-  hm = c.answers-2.ensures.hagemann_mitschke;
+  can_chain = c.answers-2.ensures.named;
 }

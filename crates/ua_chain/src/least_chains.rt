@@ -1,6 +1,7 @@
 //! The calls that look for least chains.
 
 ghost use Rattle.ua_identity.specs.Kinds as kinds;
+ghost use Rattle.ua_chain.specs.Names.{kind_named};
 ghost use Rattle.ua_chain.specs.Permitted.{MayChain};
 
 use crate::chains::{Chain, chain_in};
@@ -10,6 +11,14 @@ use std::thread::Threads;
 use ua_close::{CloseError, Closure, Gate, Run, close_set};
 use ua_identity::Kind;
 use ua_table::Algebra;
+
+/// A kind of chain that has a name.
+#[derive(Clone, Copy, Debug, PartialEq, Eq)]
+pub enum NamedKind {
+    Jonsson,
+    HagemannMitschke,
+    Day,
+}
 
 /// A chain of least length of this kind, over all lists of terms. It closes the vectors of the terms on the
 /// patterns of the kind, within the budget of the run, and then goes level by level over their rows.
@@ -72,4 +81,21 @@ pub fn day<R: Threads + Sync, G: Gate>(
 {
     let kind = Kind::day(alloc)?;
     least_chain(rt, alloc, a, &kind, run)
+}
+
+/// A chain of least length of the kind of this name.
+pub fn named_chain<R: Threads + Sync, G: Gate>(
+    rt: &R,
+    alloc: Global,
+    a: &Algebra,
+    name: NamedKind,
+    run: &Run<G>,
+) -> Result<Chain, CloseError>
+    ensures permitted { MayChain a.now (kind_named name) run.now.budget run.now.workers result }
+{
+    match name {
+        NamedKind::Jonsson => jonsson(rt, alloc, a, run),
+        NamedKind::HagemannMitschke => hagemann_mitschke(rt, alloc, a, run),
+        NamedKind::Day => day(rt, alloc, a, run),
+    }
 }

@@ -2,7 +2,7 @@ use Rattle.std.proofs.Common.{subst, Ok}
 use Rattle.ua_close.specs.declared.close.Closure.{Closure}
 use Rattle.ua_close.specs.Permitted.{MayClose}
 use Rattle.ua_chain.proofs.CallLaws.{may_tell}
-use Rattle.ua_chain.proofs.calls.least_chain.Goals as goal
+use Rattle.ua_chain.proofs.least_chains.least_chain.Goals as goal
 
 pub returns-in-Closed : goal.returns-in-Closed
 returns-in-Closed g c =
