@@ -1,7 +1,7 @@
 //! The reply to a command: an arm for each form.
 
 ghost use Rattle.std.specs.Prelude.{IfOk};
-ghost use Rattle.ua_reply.specs.Sessions.{bounds_of};
+ghost use Rattle.ua_reply.specs.Sessions.{run_bounds};
 ghost use Rattle.ua_answer.specs.Replies.{IsPlainBuilt, IsBuilt, PlainReply, Reply};
 ghost use Rattle.ua_answer_algebras.specs.MakeCommand.{left_by, IsNamedRight};
 
@@ -27,7 +27,7 @@ pub fn answer_plain<R: Threads + Sync, G: Gate>(
     command: &Command,
 ) -> Result<Vec<u8>, AllocError>
     requires { IsPlainBuilt command.now }
-    ensures { IfOk result (λ v. PlainReply context.now.session.now (bounds_in context.now) command.now v.items) }
+    ensures { IfOk result (λ v. PlainReply context.now.session.now (run_bounds context.now) command.now v.items) }
 {
     match command {
         Command::Ask { what, mode, cert } => answer_asked(context, what, *mode, *cert),
@@ -88,7 +88,7 @@ pub fn answer<'a, R: Threads + Sync, G: Gate>(
     command: &'a Command,
 ) -> Result<Answered<'a>, AllocError>
     requires { IsBuilt command.now }
-    ensures reply { IfOk result (λ v. Reply context.now.session.now (bounds_in context.now) command.now v.reply.items (left_by context.now.session.now v.made)) }
+    ensures reply { IfOk result (λ v. Reply context.now.session.now (run_bounds context.now) command.now v.reply.items (left_by context.now.session.now v.made)) }
     ensures named { IfOk result (λ v. IsNamedRight v.made) }
 {
     match command {

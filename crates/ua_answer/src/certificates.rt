@@ -6,7 +6,7 @@ ghost use Rattle.ua_chain.specs.Permitted.{MayChain};
 ghost use Rattle.ua_cond.specs.Permitted.{MayDecide};
 ghost use Rattle.ua_check.specs.Chains.{kind_of};
 ghost use Rattle.ua_check.specs.Conditions.{condition_of, has_places};
-ghost use Rattle.ua_reply.specs.Sessions.{bounds_of};
+ghost use Rattle.ua_reply.specs.Sessions.{run_bounds};
 ghost use Rattle.ua_reply.specs.Checks.{Passes};
 ghost use Rattle.ua_reply.specs.Operands.{positive, vector_in, vectors_in};
 ghost use Rattle.ua_answer.specs.Certificates.{certificate_text, CertifiedClosure, CertifiedMembership, CertifiedCondition, CertifiedChain};
@@ -53,7 +53,7 @@ pub fn certified_closure<R: Threads + Sync, G: Gate>(
     requires width { Passes (positive width) }
     requires gens { Passes (vectors_in known.now width.value gens.now) }
     requires few { length gens.now ≤ SCRIPT }
-    ensures { IfOk result (λ v. CertifiedClosure known.now (bounds_in context.now) width gens.now v.items) }
+    ensures { IfOk result (λ v. CertifiedClosure known.now (run_bounds context.now) width gens.now v.items) }
 {
     let alloc = context.alloc;
     let budget = context.run.budget;
@@ -85,7 +85,7 @@ pub fn certified_membership<R: Threads + Sync, G: Gate>(
     requires gens { Passes (vectors_in known.now width.value gens.now) }
     requires target { Passes (vector_in known.now width.value target.now) }
     requires few { length gens.now ≤ SCRIPT }
-    ensures { IfOk result (λ v. CertifiedMembership known.now (bounds_in context.now) width gens.now target.now v.items) }
+    ensures { IfOk result (λ v. CertifiedMembership known.now (run_bounds context.now) width gens.now target.now v.items) }
 {
     let alloc = context.alloc;
     let budget = context.run.budget;
@@ -116,7 +116,7 @@ pub fn certified_condition<R: Threads + Sync, G: Gate>(
 ) -> Result<Vec<u8>, AllocError>
     requires places { has_places name places ≡ true }
     requires permitted { MayDecide known.now.algebra (condition_of name places) context.now.run.now.budget context.now.run.now.workers answer }
-    ensures { IfOk result (λ v. CertifiedCondition known.now (bounds_in context.now) name places v.items) }
+    ensures { IfOk result (λ v. CertifiedCondition known.now (run_bounds context.now) name places v.items) }
 {
     let alloc = context.alloc;
     let answer = match answer {
@@ -135,7 +135,7 @@ pub fn certified_chain<R: Threads + Sync, G: Gate>(
     answer: Result<Chain, CloseError>,
 ) -> Result<Vec<u8>, AllocError>
     requires { MayChain known.now.algebra (kind_of name) context.now.run.now.budget context.now.run.now.workers answer }
-    ensures { IfOk result (λ v. CertifiedChain known.now (bounds_in context.now) name v.items) }
+    ensures { IfOk result (λ v. CertifiedChain known.now (run_bounds context.now) name v.items) }
 {
     let alloc = context.alloc;
     let answer = match answer {

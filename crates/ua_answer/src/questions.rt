@@ -1,7 +1,7 @@
 //! Questions, the commands that `cert` may precede: what they are answered, with a certificate or by themselves.
 
 ghost use Rattle.std.specs.Prelude.{◌≡◌, IfOk};
-ghost use Rattle.ua_reply.specs.Sessions.{bounds_of};
+ghost use Rattle.ua_reply.specs.Sessions.{run_bounds};
 ghost use Rattle.ua_reply.specs.Checks.{AreFirst, Passes};
 ghost use Rattle.ua_cert.specs.declared.certs.CondName.{CondName};
 ghost use Rattle.ua_answer_conditions.specs.CondCommand.{nu_checks};
@@ -33,7 +33,7 @@ fn answer_question<R: Threads + Sync, G: Gate>(
     mode: Mode,
 ) -> Result<Vec<u8>, AllocError>
     requires { HasFewVectors what.now }
-    ensures { IfOk result (λ v. QuestionReply context.now.session.now (bounds_in context.now) what.now mode v.items) }
+    ensures { IfOk result (λ v. QuestionReply context.now.session.now (run_bounds context.now) what.now mode v.items) }
 {
     match what {
         Provable::Close {
@@ -95,7 +95,7 @@ fn certified_named<R: Threads + Sync, G: Gate>(
     known: &Known,
     name: CondWord,
 ) -> Result<Vec<u8>, AllocError>
-    ensures { IfOk result (λ v. CertifiedCondition known.now (bounds_in context.now) (name_of name) 3 v.items) }
+    ensures { IfOk result (λ v. CertifiedCondition known.now (run_bounds context.now) (name_of name) 3 v.items) }
 {
     let answer = decide_named(context, known, name);
     certified_condition(context, known, name_of(name), 3, answer)
@@ -108,7 +108,7 @@ fn certified_near_unanimity<R: Threads + Sync, G: Gate>(
     k: Number,
 ) -> Result<Vec<u8>, AllocError>
     requires { Passes (nu_checks k) }
-    ensures { IfOk result (λ v. CertifiedCondition known.now (bounds_in context.now) CondName.Nu k.value v.items) }
+    ensures { IfOk result (λ v. CertifiedCondition known.now (run_bounds context.now) CondName.Nu k.value v.items) }
 {
     let answer = near_unanimous(context, known, k);
     certified_condition(context, known, CondName::Nu, k.value, answer)
@@ -122,7 +122,7 @@ fn certified_known<R: Threads + Sync, G: Gate>(
 ) -> Result<Vec<u8>, AllocError>
     requires few { HasFewVectors what.now }
     requires passed { Passes (question_checks known.now what.now) }
-    ensures { IfOk result (λ v. Certified known.now (bounds_in context.now) what.now v.items) }
+    ensures { IfOk result (λ v. Certified known.now (run_bounds context.now) what.now v.items) }
 {
     match what {
         Provable::Close { width, gens, .. } => {
@@ -167,7 +167,7 @@ fn answer_cert<R: Threads + Sync, G: Gate>(
     what: &Provable,
 ) -> Result<Vec<u8>, AllocError>
     requires { HasFewVectors what.now }
-    ensures { IfOk result (λ v. CertReply context.now.session.now (bounds_in context.now) what.now v.items) }
+    ensures { IfOk result (λ v. CertReply context.now.session.now (run_bounds context.now) what.now v.items) }
 {
     let algebra = algebra_of(what);
     let Some(known) = context.session.find(algebra.name.text()) else {
@@ -187,7 +187,7 @@ pub fn answer_asked<R: Threads + Sync, G: Gate>(
     cert: bool,
 ) -> Result<Vec<u8>, AllocError>
     requires { HasFewVectors what.now }
-    ensures { IfOk result (λ v. AskedReply context.now.session.now (bounds_in context.now) what.now mode cert v.items) }
+    ensures { IfOk result (λ v. AskedReply context.now.session.now (run_bounds context.now) what.now mode cert v.items) }
 {
     if cert {
         answer_cert(context, what)

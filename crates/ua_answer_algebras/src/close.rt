@@ -2,7 +2,7 @@
 
 ghost use Rattle.std.specs.Prelude.{◌≤◌, length, IfOk};
 ghost use Rattle.ua_table.specs.declared.limits.TheConstants.{SCRIPT};
-ghost use Rattle.ua_reply.specs.Sessions.{bounds_of};
+ghost use Rattle.ua_reply.specs.Sessions.{run_bounds};
 ghost use Rattle.ua_reply.specs.Checks.{Passes};
 ghost use Rattle.ua_reply.specs.Operands.{vectors_of, power_of, positive, vectors_in};
 ghost use Rattle.ua_answer_algebras.specs.CloseCommand.{ClosureAnswer, CloseReply};
@@ -27,7 +27,7 @@ fn close_known<R: Threads + Sync, G: Gate>(
     requires width { Passes (positive width) }
     requires gens { Passes (vectors_in known.now width.value gens.now) }
     requires few { length gens.now ≤ SCRIPT }
-    ensures { IfOk result (λ v. ClosureAnswer known.now (bounds_in context.now) (power_of known.now width.value) (vectors_of known.now gens.now) mode v.items) }
+    ensures { IfOk result (λ v. ClosureAnswer known.now (run_bounds context.now) (power_of known.now width.value) (vectors_of known.now gens.now) mode v.items) }
 {
     let vectors = vectors(context.alloc, known, width.value, gens)?;
     match power(known, width, &vectors, context.run.budget) {
@@ -45,7 +45,7 @@ pub fn answer_close<R: Threads + Sync, G: Gate>(
     mode: Mode,
 ) -> Result<Vec<u8>, AllocError>
     requires { length gens.now ≤ SCRIPT }
-    ensures { IfOk result (λ v. CloseReply context.now.session.now (bounds_in context.now) algebra.now width gens.now mode v.items) }
+    ensures { IfOk result (λ v. CloseReply context.now.session.now (run_bounds context.now) algebra.now width gens.now mode v.items) }
 {
     let Some(known) = context.session.find(algebra.name.text()) else {
         return refusal_reply(context.alloc, Refusal::Unknown(algebra.place));

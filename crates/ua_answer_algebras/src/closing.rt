@@ -3,7 +3,7 @@
 ghost use Rattle.std.specs.Prelude.{IfOk};
 ghost use Rattle.std.specs.List.{AllByRecursion};
 ghost use Rattle.ua_table.specs.Algebras.{IsVector};
-ghost use Rattle.ua_reply.specs.Sessions.{bounds_of};
+ghost use Rattle.ua_reply.specs.Sessions.{run_bounds};
 ghost use Rattle.ua_answer_algebras.specs.CloseCommand.{MayCloseLeast, ClosureAnswer};
 
 use std::alloc::AllocError;
@@ -41,7 +41,7 @@ pub fn closing<R: Threads + Sync, G: Gate>(
     mode: Mode,
 ) -> Result<Vec<u8>, AllocError>
     requires { AllByRecursion (IsVector frame.now) gens.now.items }
-    ensures { IfOk result (λ v. ClosureAnswer known.now (bounds_in context.now) frame.now gens.now.items mode v.items) }
+    ensures { IfOk result (λ v. ClosureAnswer known.now (run_bounds context.now) frame.now gens.now.items mode v.items) }
 {
     let alloc = context.alloc;
     let budget = context.run.budget;

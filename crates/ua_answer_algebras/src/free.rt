@@ -2,7 +2,7 @@
 
 ghost use Rattle.std.specs.Prelude.{IfOk};
 ghost use Rattle.ua_term.specs.Assignments.{projections, power_of_assignments};
-ghost use Rattle.ua_reply.specs.Sessions.{bounds_of};
+ghost use Rattle.ua_reply.specs.Sessions.{run_bounds};
 ghost use Rattle.ua_reply.specs.Checks.{Passes};
 ghost use Rattle.ua_reply.specs.Operands.{variables_checks};
 ghost use Rattle.ua_answer_algebras.specs.CloseCommand.{ClosureAnswer};
@@ -24,7 +24,7 @@ fn free_known<R: Threads + Sync, G: Gate>(
     mode: Mode,
 ) -> Result<Vec<u8>, AllocError>
     requires { Passes (variables_checks count) }
-    ensures { let a = known.now.algebra in IfOk result (λ v. ClosureAnswer known.now (bounds_in context.now) (power_of_assignments a count.value) (projections a.size count.value) mode v.items) }
+    ensures { let a = known.now.algebra in IfOk result (λ v. ClosureAnswer known.now (run_bounds context.now) (power_of_assignments a count.value) (projections a.size count.value) mode v.items) }
 {
     let budget = context.run.budget;
     match generators(context.alloc, known.algebra(), count.value as u8, budget) {
@@ -40,7 +40,7 @@ pub fn answer_free<R: Threads + Sync, G: Gate>(
     count: Number,
     mode: Mode,
 ) -> Result<Vec<u8>, AllocError>
-    ensures { IfOk result (λ v. FreeReply context.now.session.now (bounds_in context.now) algebra.now count mode v.items) }
+    ensures { IfOk result (λ v. FreeReply context.now.session.now (run_bounds context.now) algebra.now count mode v.items) }
 {
     let Some(known) = context.session.find(algebra.name.text()) else {
         return refusal_reply(context.alloc, Refusal::Unknown(algebra.place));

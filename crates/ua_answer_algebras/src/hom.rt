@@ -3,7 +3,7 @@
 ghost use Rattle.std.specs.Prelude.{◌≡◌, ◌≤◌, ◌++◌, length, Some, IfOk, OnOk};
 ghost use Rattle.ua_table.specs.declared.limits.TheConstants.{SCRIPT};
 ghost use Rattle.ua_sub.specs.Permitted.{MayMap};
-ghost use Rattle.ua_reply.specs.Sessions.{bounds_of};
+ghost use Rattle.ua_reply.specs.Sessions.{run_bounds};
 ghost use Rattle.ua_reply.specs.Checks.{Passes, AreFirst};
 ghost use Rattle.ua_reply.specs.Operands.{values_of, elements_in};
 ghost use Rattle.ua_reply.specs.Texts.{lines};
@@ -148,7 +148,7 @@ pub fn answer_hom<R: Threads + Sync, G: Gate>(
     images: &Items,
 ) -> Result<Vec<u8>, AllocError>
     requires { length gens.now.values ≤ SCRIPT }
-    ensures { IfOk result (λ v. HomReply context.now.session.now (bounds_in context.now) first.now second.now gens.now images.now v.items) }
+    ensures { IfOk result (λ v. HomReply context.now.session.now (run_bounds context.now) first.now second.now gens.now images.now v.items) }
 {
     let alloc = context.alloc;
     let Some(source) = context.session.find(first.name.text()) else {

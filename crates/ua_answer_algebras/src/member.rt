@@ -3,7 +3,7 @@
 ghost use Rattle.std.specs.Prelude.{◌≤◌, length, IfOk};
 ghost use Rattle.ua_table.specs.declared.limits.TheConstants.{SCRIPT};
 ghost use Rattle.ua_close.specs.Permitted.{MayMember};
-ghost use Rattle.ua_reply.specs.Sessions.{bounds_of};
+ghost use Rattle.ua_reply.specs.Sessions.{run_bounds};
 ghost use Rattle.ua_reply.specs.Checks.{Passes};
 ghost use Rattle.ua_reply.specs.Operands.{values_of, vectors_of, power_of, positive, vector_in, vectors_in};
 ghost use Rattle.ua_answer_algebras.specs.MemberCommand.{MemberReply};
@@ -54,7 +54,7 @@ pub fn answer_member<R: Threads + Sync, G: Gate>(
     target: &Items,
 ) -> Result<Vec<u8>, AllocError>
     requires { length gens.now ≤ SCRIPT }
-    ensures { IfOk result (λ v. MemberReply context.now.session.now (bounds_in context.now) algebra.now width gens.now target.now v.items) }
+    ensures { IfOk result (λ v. MemberReply context.now.session.now (run_bounds context.now) algebra.now width gens.now target.now v.items) }
 {
     let Some(known) = context.session.find(algebra.name.text()) else {
         return refusal_reply(context.alloc, Refusal::Unknown(algebra.place));

@@ -15,7 +15,6 @@ use Rattle.ua_term.proofs.MeantTerms.{meant_term}
 use Rattle.ua_identity.specs.declared.limits.TheConstants.{PLACES, NEAR_UNANIMITY}
 use Rattle.ua_identity.specs.Conditions.{TermCondition, IsCondition, near_unanimity}
 use Rattle.ua_identity.proofs.NamedLaws.{maltsev_is, majority_is, minority_is, pixley_is, near_unanimity_is}
-use Rattle.ua_identity.specs.Chains.{ChainKind}
 use Rattle.ua_close.specs.declared.close.CloseError.TheVariants.{OutOfMemory}
 use Rattle.ua_close.specs.Permitted.{IsAnswerable}
 use Rattle.ua_cond.specs.Permitted.{MayDecide}

@@ -3,7 +3,7 @@
 ghost use Rattle.std.specs.Prelude.{◌≡◌, ◌++◌, Some, IfOk, OnOk};
 ghost use Rattle.ua_chain.specs.Names.{kind_named};
 ghost use Rattle.ua_chain.specs.Permitted.{MayChain};
-ghost use Rattle.ua_reply.specs.Sessions.{bounds_of};
+ghost use Rattle.ua_reply.specs.Sessions.{run_bounds};
 ghost use Rattle.ua_reply.specs.Closures.{told};
 ghost use Rattle.ua_reply.specs.Texts.{line, lines, counted, row_text};
 ghost use Rattle.ua_answer_conditions.specs.ChainCommand.{term_text, terms_text, reached_text, chain_text, ChainReply};
@@ -119,7 +119,7 @@ pub fn answer_chain<R: Threads + Sync, G: Gate>(
     algebra: &Word,
     asked: NamedKind,
 ) -> Result<Vec<u8>, AllocError>
-    ensures { IfOk result (λ v. ChainReply context.now.session.now (bounds_in context.now) algebra.now asked v.items) }
+    ensures { IfOk result (λ v. ChainReply context.now.session.now (run_bounds context.now) algebra.now asked v.items) }
 {
     let Some(known) = context.session.find(algebra.name.text()) else {
         return refusal_reply(context.alloc, Refusal::Unknown(algebra.place));

@@ -5,7 +5,7 @@ ghost use Rattle.ua_table.specs.declared.limits.TheConstants.{SCRIPT};
 ghost use Rattle.ua_operands.specs.declared.written.PointsText.TheVariants as PointsText;
 ghost use Rattle.ua_clone.specs.Points.{points_of, ArePoints};
 ghost use Rattle.ua_clone.specs.Permitted.{MayClone};
-ghost use Rattle.ua_reply.specs.Sessions.{bounds_of};
+ghost use Rattle.ua_reply.specs.Sessions.{run_bounds};
 ghost use Rattle.ua_reply.specs.Checks.{AreFirst, Passes};
 ghost use Rattle.ua_answer_conditions.specs.ArgumentSets.{HoldsThese};
 ghost use Rattle.ua_answer_conditions.specs.CloneCommand.{kind_of, total_in, arguments_of, point_in, points_in, written_points, IsShortTable, clone_checks, CloneReply};
@@ -191,7 +191,7 @@ pub fn answer_clone<R: Threads + Sync, G: Gate>(
     points: &PointsText,
 ) -> Result<Vec<u8>, AllocError>
     requires { IsShortTable points.now }
-    ensures { IfOk result (λ v. CloneReply context.now.session.now (bounds_in context.now) algebra.now k kind points.now v.items) }
+    ensures { IfOk result (λ v. CloneReply context.now.session.now (run_bounds context.now) algebra.now k kind points.now v.items) }
 {
     let Some(known) = context.session.find(algebra.name.text()) else {
         return refusal_reply(context.alloc, Refusal::Unknown(algebra.place));

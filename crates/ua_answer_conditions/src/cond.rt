@@ -2,7 +2,7 @@
 
 ghost use Rattle.std.specs.Prelude.{◌≡◌, IfOk};
 ghost use Rattle.ua_cond.specs.Permitted.{MayDecide};
-ghost use Rattle.ua_reply.specs.Sessions.{bounds_of};
+ghost use Rattle.ua_reply.specs.Sessions.{run_bounds};
 ghost use Rattle.ua_reply.specs.Checks.{AreFirst, Passes};
 ghost use Rattle.ua_identity.specs.Conditions.{near_unanimity};
 ghost use Rattle.ua_answer_conditions.specs.CondCommand.{condition_of, nu_checks, CondReply, NuReply};
@@ -53,7 +53,7 @@ pub fn answer_cond<R: Threads + Sync, G: Gate>(
     algebra: &Word,
     name: CondWord,
 ) -> Result<Vec<u8>, AllocError>
-    ensures { IfOk result (λ v. CondReply context.now.session.now (bounds_in context.now) algebra.now name v.items) }
+    ensures { IfOk result (λ v. CondReply context.now.session.now (run_bounds context.now) algebra.now name v.items) }
 {
     let Some(known) = context.session.find(algebra.name.text()) else {
         return refusal_reply(context.alloc, Refusal::Unknown(algebra.place));
@@ -98,7 +98,7 @@ pub fn answer_nu<R: Threads + Sync, G: Gate>(
     algebra: &Word,
     k: Number,
 ) -> Result<Vec<u8>, AllocError>
-    ensures { IfOk result (λ v. NuReply context.now.session.now (bounds_in context.now) algebra.now k v.items) }
+    ensures { IfOk result (λ v. NuReply context.now.session.now (run_bounds context.now) algebra.now k v.items) }
 {
     let Some(known) = context.session.find(algebra.name.text()) else {
         return refusal_reply(context.alloc, Refusal::Unknown(algebra.place));

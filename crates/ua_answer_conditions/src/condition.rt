@@ -3,7 +3,7 @@
 ghost use Rattle.std.specs.Prelude.{◌≡◌, ◌<◌, ◌≤◌, max, length, map, fold, IfOk};
 ghost use Rattle.std.specs.List.{AllByRecursion};
 ghost use Rattle.ua_cond.specs.Permitted.{MayDecide};
-ghost use Rattle.ua_reply.specs.Sessions.{bounds_of};
+ghost use Rattle.ua_reply.specs.Sessions.{run_bounds};
 ghost use Rattle.ua_reply.specs.Checks.{AreFirst, Passes, all_in};
 ghost use Rattle.ua_answer_conditions.specs.ConditionCommand.{number_of, numbers_in, variables_in, identity_of, condition_of, arity_in, identity_in, condition_checks, ConditionReply};
 
@@ -166,7 +166,7 @@ pub fn answer_condition<R: Threads + Sync, G: Gate>(
     identities: &[IdentityText],
 ) -> Result<Vec<u8>, AllocError>
     requires { 0 < length identities.now }
-    ensures { IfOk result (λ v. ConditionReply context.now.session.now (bounds_in context.now) algebra.now arity identities.now v.items) }
+    ensures { IfOk result (λ v. ConditionReply context.now.session.now (run_bounds context.now) algebra.now arity identities.now v.items) }
 {
     let Some(known) = context.session.find(algebra.name.text()) else {
         return refusal_reply(context.alloc, Refusal::Unknown(algebra.place));

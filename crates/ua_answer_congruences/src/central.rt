@@ -1,7 +1,7 @@
 //! The command `central`.
 
 ghost use Rattle.std.specs.Prelude.{◌≡◌, ◌++◌, Some, IfOk, codes};
-ghost use Rattle.ua_reply.specs.Sessions.{bounds_of};
+ghost use Rattle.ua_reply.specs.Sessions.{run_bounds};
 ghost use Rattle.ua_reply.specs.Checks.{Passes};
 ghost use Rattle.ua_reply.specs.Closures.{told};
 ghost use Rattle.ua_reply.specs.Parts.{part_in};
@@ -70,7 +70,7 @@ fn central_known<R: Threads + Sync, G: Gate>(
     requires alpha { Passes (part_in known.now alpha.now) }
     requires beta { Passes (part_in known.now beta.now) }
     requires delta { Passes (part_in known.now delta.now) }
-    ensures { IfOk result (λ v. CentralAnswer known.now (bounds_in context.now) alpha.now beta.now delta.now v.items) }
+    ensures { IfOk result (λ v. CentralAnswer known.now (run_bounds context.now) alpha.now beta.now delta.now v.items) }
 {
     let alloc = context.alloc;
     let first = match congruence(alloc, known, alpha)? {
@@ -107,7 +107,7 @@ pub fn answer_central<R: Threads + Sync, G: Gate>(
     beta: &PartText,
     delta: &PartText,
 ) -> Result<Vec<u8>, AllocError>
-    ensures { IfOk result (λ v. CentralReply context.now.session.now (bounds_in context.now) algebra.now alpha.now beta.now delta.now v.items) }
+    ensures { IfOk result (λ v. CentralReply context.now.session.now (run_bounds context.now) algebra.now alpha.now beta.now delta.now v.items) }
 {
     let alloc = context.alloc;
     let Some(known) = context.session.find(algebra.name.text()) else {

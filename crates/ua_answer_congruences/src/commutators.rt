@@ -1,7 +1,7 @@
 //! The command `comm`.
 
 ghost use Rattle.std.specs.Prelude.{◌≡◌, Some, IfOk};
-ghost use Rattle.ua_reply.specs.Sessions.{bounds_of};
+ghost use Rattle.ua_reply.specs.Sessions.{run_bounds};
 ghost use Rattle.ua_reply.specs.Checks.{Passes};
 ghost use Rattle.ua_reply.specs.Closures.{told};
 ghost use Rattle.ua_reply.specs.Parts.{part_in};
@@ -47,7 +47,7 @@ fn comm_known<R: Threads + Sync, G: Gate>(
 ) -> Result<Vec<u8>, AllocError>
     requires alpha { Passes (part_in known.now alpha.now) }
     requires beta { Passes (part_in known.now beta.now) }
-    ensures { IfOk result (λ v. CommAnswer known.now (bounds_in context.now) alpha.now beta.now v.items) }
+    ensures { IfOk result (λ v. CommAnswer known.now (run_bounds context.now) alpha.now beta.now v.items) }
 {
     let alloc = context.alloc;
     let first = match congruence(alloc, known, alpha)? {
@@ -76,7 +76,7 @@ pub fn answer_comm<R: Threads + Sync, G: Gate>(
     alpha: &PartText,
     beta: &PartText,
 ) -> Result<Vec<u8>, AllocError>
-    ensures { IfOk result (λ v. CommReply context.now.session.now (bounds_in context.now) algebra.now alpha.now beta.now v.items) }
+    ensures { IfOk result (λ v. CommReply context.now.session.now (run_bounds context.now) algebra.now alpha.now beta.now v.items) }
 {
     let alloc = context.alloc;
     let Some(known) = context.session.find(algebra.name.text()) else {

@@ -2,7 +2,7 @@
 
 ghost use Rattle.std.specs.Prelude.{◌≡◌, ◌++◌, IfOk, OnOk};
 ghost use Rattle.ua_part.specs.Blocks.{partition_text};
-ghost use Rattle.ua_reply.specs.Sessions.{bounds_of};
+ghost use Rattle.ua_reply.specs.Sessions.{run_bounds};
 ghost use Rattle.ua_reply.specs.Texts.{lines, numbered, pair_text};
 ghost use Rattle.ua_answer_congruences.specs.ConCommand.{lattice_text, ConReply};
 
@@ -69,7 +69,7 @@ pub fn answer_con<R: Threads + Sync, G: Gate>(
     context: &Context<R, G>,
     algebra: &Word,
 ) -> Result<Vec<u8>, AllocError>
-    ensures { IfOk result (λ v. ConReply context.now.session.now (bounds_in context.now) algebra.now v.items) }
+    ensures { IfOk result (λ v. ConReply context.now.session.now (run_bounds context.now) algebra.now v.items) }
 {
     let Some(known) = context.session.find(algebra.name.text()) else {
         return refusal_reply(context.alloc, Refusal::Unknown(algebra.place));

@@ -1,7 +1,7 @@
 //! The command `types`.
 
 ghost use Rattle.std.specs.Prelude.{◌≡◌, ◌++◌, Some, IfOk, OnOk};
-ghost use Rattle.ua_reply.specs.Sessions.{bounds_of};
+ghost use Rattle.ua_reply.specs.Sessions.{run_bounds};
 ghost use Rattle.ua_reply.specs.Closures.{told};
 ghost use Rattle.ua_reply.specs.Texts.{lines};
 ghost use Rattle.ua_type.specs.Permitted.{MayTypes};
@@ -80,7 +80,7 @@ pub fn answer_types<R: Threads + Sync, G: Gate>(
     context: &Context<R, G>,
     algebra: &Word,
 ) -> Result<Vec<u8>, AllocError>
-    ensures { IfOk result (λ v. TypesReply context.now.session.now (bounds_in context.now) algebra.now v.items) }
+    ensures { IfOk result (λ v. TypesReply context.now.session.now (run_bounds context.now) algebra.now v.items) }
 {
     let alloc = context.alloc;
     let Some(known) = context.session.find(algebra.name.text()) else {

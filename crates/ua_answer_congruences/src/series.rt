@@ -2,7 +2,7 @@
 
 ghost use Rattle.std.specs.Prelude.{◌≡◌, Some, IfOk};
 ghost use Rattle.ua_comm.specs.Permitted.{MayDescend};
-ghost use Rattle.ua_reply.specs.Sessions.{bounds_of};
+ghost use Rattle.ua_reply.specs.Sessions.{run_bounds};
 ghost use Rattle.ua_reply.specs.Closures.{told};
 ghost use Rattle.ua_answer_congruences.specs.SeriesCommand.{kind_of, series_text, SeriesReply};
 
@@ -59,7 +59,7 @@ pub fn answer_series<R: Threads + Sync, G: Gate>(
     algebra: &Word,
     kind: SeriesWord,
 ) -> Result<Vec<u8>, AllocError>
-    ensures { IfOk result (λ v. SeriesReply context.now.session.now (bounds_in context.now) algebra.now kind v.items) }
+    ensures { IfOk result (λ v. SeriesReply context.now.session.now (run_bounds context.now) algebra.now kind v.items) }
 {
     let Some(known) = context.session.find(algebra.name.text()) else {
         return refusal_reply(context.alloc, Refusal::Unknown(algebra.place));

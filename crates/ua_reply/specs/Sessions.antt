@@ -6,6 +6,7 @@ use Rattle.ua_table.specs.Tables.{IsAlgebraTable}
 use Rattle.ua_table.specs.declared.limits.TheConstants.{BUDGET}
 use Rattle.ua_table.specs.declared.runs.Run.{Run}
 use Rattle.ua_text.specs.declared.named.Block.{Block}
+use Rattle.ua_reply.specs.declared.context.Context.{Context}
 use Rattle.ua_reply.specs.declared.known.Holder.{Holder}
 use Rattle.ua_reply.specs.declared.known.Holder.TheVariants.{Written, Made}
 
@@ -37,6 +38,10 @@ pub record Bounds : Type 0 where
 
 abbrev pub bounds_of : {G : Type 0} → Run G → Bounds
 bounds_of run = record { budget = run.budget; workers = run.workers }
+
+-- the bounds of the run that a command is answered in
+abbrev pub run_bounds : {R G : Type 0} → Context R G → Bounds
+run_bounds context = bounds_of context.run.now
 
 -- a budget that a run may have
 pub record AreBounds (b : Bounds) : Type 0 where
