@@ -1,5 +1,5 @@
 -- The certificates of answers have no flaw.
-use Rattle.std.proofs.Common.{◌≡◌, ℕ, ◌-◌, ◌*◌, ◌<◌, ◌≤◌, ◌&&◌, true, false, Some, None, Ok, Vec, List, [], ◌∷◌, map, length, replicate, inr, ⊎_elim, refl, sym, ap, ◌∙◌, subst, arith}
+use Rattle.std.proofs.Common.{◌≡◌, ℕ, ◌-◌, ◌*◌, ◌<◌, ◌≤◌, ◌&&◌, true, Some, None, Ok, Vec, List, [], ◌∷◌, map, length, replicate, inr, ⊎_elim, refl, sym, ap, ◌∙◌, subst, arith}
 use Rattle.std.specs.Prelude.{Contains, slice_get, nat_le}
 use Rattle.std.specs.declared.alloc.Global.{Global}
 use Rattle.std.specs.List.{AllByRecursion}
@@ -11,7 +11,7 @@ use Rattle.std.proofs.lemmas.List.FromFn.{length-map-range_with_len}
 use Rattle.std.proofs.lemmas.Option.{get_or_from_slice_get}
 use Rattle.ua_table.specs.declared.limits.TheConstants.{WIDTH, CELLS}
 use Rattle.ua_table.specs.declared.origins.Origin.{Origin}
-use Rattle.ua_table.specs.Algebras.{Vector, FiniteAlgebra, IsAlgebra, Product, IsProduct, IsVector, IsIncreasing, arities_of, power}
+use Rattle.ua_table.specs.Algebras.{Vector, FiniteAlgebra, IsAlgebra, Product, IsProduct, IsVector, AreVectorsOf, IsIncreasing, arities_of, power}
 use Rattle.ua_table.specs.Tables.{IsAlgebraTable}
 use Rattle.ua_table.specs.Frames.{IsWidth}
 use Rattle.ua_table.specs.Terms.{Tree}
@@ -20,12 +20,12 @@ use Rattle.ua_table.specs.Listings.{Row, vectors_of, IsClosedListing}
 use Rattle.ua_table.proofs.Lists.{all_from_contains}
 use Rattle.ua_table.proofs.FrameLaws.{arities_of_power}
 use Rattle.ua_table.proofs.AlgebraLaws.{power_product}
-use Rattle.ua_term.specs.Steps.{StepList, AreSteps, step_values, unfolded, written_term}
+use Rattle.ua_term.specs.Steps.{StepList, AreSteps, unfolded, written_term}
 use Rattle.ua_identity.specs.declared.limits.TheConstants.{PLACES}
 use Rattle.ua_identity.specs.Identities.{VariablePattern, TermIdentity, over_two}
 use Rattle.ua_identity.specs.Conditions.{TermCondition, IsPattern, IsCondition, Meets, maltsev, majority, minority, pixley, near_unanimity}
-use Rattle.ua_identity.specs.Chains.{ChainKind, IsChain, power_of, generators_of, AreReached}
-use Rattle.ua_identity.specs.Patterns.{all_fillings, place_vector, generators, patterns_of, condition_power, argument_vectors, value_vector}
+use Rattle.ua_identity.specs.Chains.{ChainKind, IsChain, power_of, generators_of}
+use Rattle.ua_identity.specs.Patterns.{all_fillings, place_vector, generators, patterns_of, condition_power, argument_vectors}
 use Rattle.ua_identity.specs.Patterns as patterns
 use Rattle.ua_close.specs.declared.memberships.Answer.TheVariants as answers
 use Rattle.ua_close.specs.Answers.{IsWide}
@@ -38,11 +38,13 @@ use Rattle.ua_cert.specs.declared.certs.CondName.{CondName}
 use Rattle.ua_cert.specs.declared.certs.CondName.TheVariants.{Maltsev, Majority, Minority, Pixley, Nu}
 use Rattle.ua_cert.specs.declared.certs.ChainName.{ChainName}
 use Rattle.ua_cert.specs.declared.certs.ChainName.TheVariants.{Jonsson, Hm}
+use Rattle.ua_flaws.specs.Laws.{MemberIsFlawless, NotMemberIsFlawless}
 use Rattle.ua_flaws.specs.Answers.{AreExact, IsPowerListing}
 use Rattle.ua_flaws.specs.Steps.{written_steps}
 use Rattle.ua_flaws.specs.Flaws.{member_flaw, not_member_flaw}
-use Rattle.ua_check.specs.Conditions.{condition_of, has_places, width_of, condition_flaw, no_condition_flaw}
-use Rattle.ua_check.specs.Chains.{kind_of, chain_width, chain_flaw, HasNoChain}
+use Rattle.ua_check.specs.Laws.{TermIsFlawless, NoTermIsFlawless, ChainTermsAreFlawless, NoChainIsFlawless}
+use Rattle.ua_check.specs.Conditions.{condition_of, has_places, condition_flaw, no_condition_flaw}
+use Rattle.ua_check.specs.Chains.{kind_of, chain_flaw}
 use Rattle.ua_check.specs.Reached.{no_chain_flaw}
 use Rattle.ua_check.proofs.ConditionLaws.{arity_is}
 
@@ -51,17 +53,6 @@ use Rattle.ua_check.proofs.ConditionLaws.{arity_is}
 -- the members of a subuniverse are vectors of the product
 abbrev pub MemberLaw : Type 0
 MemberLaw = (p : Product) (gens : List Vector) (v : Vector) → IsProduct p → AllByRecursion (IsVector p) gens → Sg p gens v → IsVector p v
-
-abbrev pub StepsLaw : Type 0
-StepsLaw =
-    (a : FiniteAlgebra) (gens : List Vector) (steps : List Origin) (target : Vector) (width : ℕ) → IsAlgebraTable a → IsWidth width
-    → AllByRecursion (IsVector (power a width)) gens → IsVector (power a width) target → AreSteps (arities_of a) (length gens) steps
-    → slice_get (step_values (power a width) gens steps) (length steps - 1) ≡ Some target → member_flaw a gens (written_steps a steps) target width ≡ None
-
-abbrev pub AbsentLaw : Type 0
-AbsentLaw =
-    (a : FiniteAlgebra) (gens : List Vector) (rows : List Row) (target : Vector) (width : ℕ) → IsPowerListing a width gens rows
-    → IsVector (power a width) target → ¬ Contains (vectors_of rows) target → not_member_flaw a gens (vectors_of rows) target width ≡ None
 
 -- ---- powers
 
@@ -77,7 +68,7 @@ closed_power a width b gens rows law table wide admitted closed = record {
 
 -- ---- closures and members
 
-pub steps_flawless : (a : FiniteAlgebra) (width : ℕ) (gens : List Vector) (target : Vector) (steps : StepList) → StepsLaw → IsAlgebraTable a
+pub steps_flawless : (a : FiniteAlgebra) (width : ℕ) (gens : List Vector) (target : Vector) (steps : StepList) → MemberIsFlawless → IsAlgebraTable a
     → IsWidth width → AllByRecursion (IsVector (power a width)) gens → IsVector (power a width) target → AreStepsTo (power a width) gens target steps
     → member_flaw a gens (written_steps a steps.items) target width ≡ None
 steps_flawless a width gens target steps law table wide admitted one h =
@@ -85,7 +76,7 @@ steps_flawless a width gens target steps law table wide admitted one h =
     let given : AreSteps (arities_of a) (length gens) steps.items = subst (λ n. AreSteps (arities_of a) n steps.items) h.generators (subst (λ zs. AreSteps zs steps.gens steps.items) ks h.steps) in
     law a gens steps.items target width table wide admitted one given h.value
 
-pub absent_flawless : (a : FiniteAlgebra) (width b : ℕ) (gens : List Vector) (target : Vector) (rows : List Row) → MemberLaw → AbsentLaw
+pub absent_flawless : (a : FiniteAlgebra) (width b : ℕ) (gens : List Vector) (target : Vector) (rows : List Row) → MemberLaw → NotMemberIsFlawless
     → IsAlgebraTable a → IsWidth width → AllByRecursion (IsVector (power a width)) gens → IsVector (power a width) target
     → IsClosedListing (power a width) gens b rows → ¬ Contains (vectors_of rows) target
     → not_member_flaw a gens (vectors_of rows) target width ≡ None
@@ -121,21 +112,8 @@ condition_is n Nu k h = n.near_unanimity_is k (low k h) (high k h)
 abbrev pub WideLaw : Type 0
 WideLaw = (a : FiniteAlgebra) (ps : List VariablePattern) → 0 < a.size → 0 < length ps → 0 < length (patterns.pattern_power a ps)
 
-abbrev pub TermLaw : Type 0
-TermLaw =
-    (a : FiniteAlgebra) (name : CondName) (k : ℕ) (steps : List Origin) → IsAlgebraTable a → has_places name k ≡ true
-    → length (condition_power a (condition_of name k)) ≤ WIDTH → 0 < length steps → AreSteps (arities_of a) k steps
-    → Meets a (written_term (arities_of a) steps) (condition_of name k)
-    → condition_flaw a name k (written_steps a steps) ≡ None
-
-abbrev pub NoTermLaw : Type 0
-NoTermLaw =
-    (a : FiniteAlgebra) (name : CondName) (k : ℕ) (rows : List Vector) → has_places name k ≡ true
-    → length (condition_power a (condition_of name k)) ≤ WIDTH → IsIncreasing rows → AllByRecursion (IsVector (power a (width_of a name k))) rows
-    → AreExact a (width_of a name k) (argument_vectors a (condition_of name k)) rows → ¬ Contains rows (value_vector a (condition_of name k)) → no_condition_flaw a name k rows ≡ None
-
 abbrev pub ArgumentLaw : Type 0
-ArgumentLaw = (a : FiniteAlgebra) (c : TermCondition) → IsCondition c → AllByRecursion (IsVector (condition_power a c)) (argument_vectors a c)
+ArgumentLaw = (a : FiniteAlgebra) (c : TermCondition) → IsCondition c → AreVectorsOf (condition_power a c) (argument_vectors a c)
 
 -- a power of so many coordinates as a power has is that power
 again : (a : FiniteAlgebra) (n : ℕ) → power a (length (replicate n a)) ≡ replicate n a
@@ -170,7 +148,7 @@ module _ (a : FiniteAlgebra) (name : CondName) (k b w : ℕ) (table : IsAlgebraT
       let count = length-replicate (length (all_fillings a.size (patterns_of (condition_of name k)))) a in
       omega (arith, low, count)
 
-  pub term_flawless : (steps : StepList) → TermLaw → MayDecide a (condition_of name k) b w (Ok (answers.Yes steps)) → condition_flaw a name k (written_steps a steps.items) ≡ None
+  pub term_flawless : (steps : StepList) → TermIsFlawless → MayDecide a (condition_of name k) b w (Ok (answers.Yes steps)) → condition_flaw a name k (written_steps a steps.items) ≡ None
   term_flawless steps law may =
       let not_wide = may.0.0 in
       let tells = may.0.1 in
@@ -187,7 +165,7 @@ module _ (a : FiniteAlgebra) (name : CondName) (k b w : ℕ) (table : IsAlgebraT
       nonempty zs [] t e = cc
       nonempty zs (o ∷ os) t e = omega arith
 
-  pub no_term_flawless : (rows : List Row) → NoTermLaw → MemberLaw → ArgumentLaw → MayDecide a (condition_of name k) b w (Ok (answers.No rows)) → no_condition_flaw a name k (vectors_of rows) ≡ None
+  pub no_term_flawless : (rows : List Row) → NoTermIsFlawless → MemberLaw → ArgumentLaw → MayDecide a (condition_of name k) b w (Ok (answers.No rows)) → no_condition_flaw a name k (vectors_of rows) ≡ None
   no_term_flawless rows law members arguments may =
       let r =
       rows_of a (length (all_fillings a.size (patterns_of (condition_of name k)))) b (argument_vectors a (condition_of name k)) rows members
@@ -196,26 +174,11 @@ module _ (a : FiniteAlgebra) (name : CondName) (k b w : ℕ) (table : IsAlgebraT
 
 -- ---- chains
 
-abbrev pub ChainLaw : Type 0
-ChainLaw =
-    (a : FiniteAlgebra) (name : ChainName) (terms : List (List Origin)) → IsAlgebraTable a → chain_width a (kind_of name) ≤ WIDTH
-    → AllByRecursion (λ (steps : List Origin). 0 < length steps) terms → AllByRecursion (AreSteps (arities_of a) (kind_of name).places) terms
-    → IsChain a (kind_of name) (map (written_term (arities_of a)) terms)
-    → chain_flaw a name (map (written_steps a) terms) ≡ None
-
-abbrev pub NoChainLaw : Type 0
-NoChainLaw =
-    (a : FiniteAlgebra) (name : ChainName) (rows : List Vector) (even odd : List ℕ) → 0 < a.size → chain_width a (kind_of name) ≤ WIDTH
-    → IsIncreasing rows → AllByRecursion (IsVector (power a (chain_width a (kind_of name)))) rows
-    → AreExact a (chain_width a (kind_of name)) (generators_of a (kind_of name)) rows → AreReached a (kind_of name) true rows even
-    → AreReached a (kind_of name) false rows odd → HasNoChain a name
-    → no_chain_flaw a name rows even odd ≡ None
-
 abbrev pub PlaceLaw : Type 0
 PlaceLaw =
     (a : FiniteAlgebra) (ps : List VariablePattern) (places : ℕ) → AllByRecursion IsPattern ps
-    → AllByRecursion (λ (p : VariablePattern). length p.places ≡ places) ps
-    → AllByRecursion (IsVector (patterns.pattern_power a ps)) (generators a ps places)
+    → patterns.FillPlaces places ps
+    → AreVectorsOf (patterns.pattern_power a ps) (generators a ps places)
 
 -- the steps of each term
 abbrev pub items_of : List StepList → List (List Origin)
@@ -248,7 +211,7 @@ patterns_fit : (name : ChainName) → AllByRecursion IsPattern (kind_of name).pa
 patterns_fit Jonsson = (pattern_fits 0 1 0 (omega arith) (omega arith) (omega arith), (pattern_fits 0 0 1 (omega arith) (omega arith) (omega arith), (pattern_fits 0 1 1 (omega arith) (omega arith) (omega arith), tt)))
 patterns_fit Hm = (pattern_fits 0 0 1 (omega arith) (omega arith) (omega arith), (pattern_fits 0 1 1 (omega arith) (omega arith) (omega arith), tt))
 
-patterns_long : (name : ChainName) → AllByRecursion (λ (p : VariablePattern). length p.places ≡ (kind_of name).places) (kind_of name).patterns
+patterns_long : (name : ChainName) → patterns.FillPlaces (kind_of name).places (kind_of name).patterns
 patterns_long Jonsson = (refl, (refl, (refl, tt)))
 patterns_long Hm = (refl, (refl, tt))
 
@@ -257,14 +220,14 @@ some_patterns Jonsson = omega arith
 some_patterns Hm = omega arith
 
 module _ (a : FiniteAlgebra) (name : ChainName) (b w : ℕ) (table : IsAlgebraTable a) (some : 1 ≤ b) where
-  pub chain_flawless : (terms : Vec StepList Global) → ChainLaw → MayChain a (kind_of name) b w (Ok (chains.Yes terms)) → chain_flaw a name (map (λ (s : StepList). written_steps a s.items) terms.items) ≡ None
+  pub chain_flawless : (terms : Vec StepList Global) → ChainTermsAreFlawless → MayChain a (kind_of name) b w (Ok (chains.Yes terms)) → chain_flaw a name (map (λ (s : StepList). written_steps a s.items) terms.items) ≡ None
   chain_flawless terms law may =
       let h = may.1.0 in
       subst (λ ts. chain_flaw a name ts ≡ None) (sym (written_twice a terms.items))
       (law a name (items_of terms.items) table (narrow (power_of a (kind_of name)) (generators_of a (kind_of name)) b some may.0) (some_items a (kind_of name) terms.items h.each) (steps_given a (kind_of name) terms.items h.each)
       (subst (IsChain a (kind_of name)) (sym (terms_are a (kind_of name) terms.items h.each)) h.least.chain))
 
-  pub no_chain_flawless : (rows : List Row) (even odd : Vec ℕ Global) → NoChainLaw → MemberLaw → WideLaw → PlaceLaw
+  pub no_chain_flawless : (rows : List Row) (even odd : Vec ℕ Global) → NoChainIsFlawless → MemberLaw → WideLaw → PlaceLaw
       → MayChain a (kind_of name) b w (Ok (chains.No rows even odd)) → no_chain_flaw a name (vectors_of rows) even.items odd.items ≡ None
   no_chain_flawless rows even odd law members wide places may =
       let h = may.1 in

@@ -1,6 +1,6 @@
 -- The certificates of answers: of the kind that fits each answer, with what was asked and what was answered in it.
 use Rattle.std.specs.Prelude.{◌≡◌, ℕ, List, map, Option, Some, None, IfSome}
-use Rattle.ua_table.specs.Algebras.{Vector, FiniteAlgebra}
+use Rattle.ua_table.specs.Algebras.{Vector, FiniteAlgebra, IsVector, power}
 use Rattle.ua_table.specs.Listings.{Row, vectors_of, ranks_of}
 use Rattle.ua_term.specs.Steps.{StepList}
 use Rattle.ua_cert.specs.declared.certs.CondName.{CondName}
@@ -13,6 +13,7 @@ use Rattle.ua_close.specs.declared.close.Closure.{Closure}
 use Rattle.ua_close.specs.declared.close.Closure.TheVariants as closures
 use Rattle.ua_close.specs.declared.memberships.Answer.{Answer}
 use Rattle.ua_close.specs.declared.memberships.Answer.TheVariants as answers
+use Rattle.ua_close.specs.Memberships.{Tells}
 use Rattle.ua_chain.specs.declared.chains.Chain.{Chain}
 use Rattle.ua_chain.specs.declared.chains.Chain.TheVariants as chains
 
@@ -46,3 +47,7 @@ chain_certificate a name (chains.Exceeds rows) = None
 -- the certificate, where there is one, has no flaw
 abbrev pub HasNoFlaw : FiniteAlgebra → Option Cert → Type 0
 HasNoFlaw a certificate = IfSome certificate (λ c. flaw_of a c ≡ None)
+
+-- it has none where the answer on a vector of the power is right
+abbrev pub HasNoFlawIfTold : FiniteAlgebra → ℕ → List Vector → Vector → ℕ → Answer → Option Cert → Type 0
+HasNoFlawIfTold a width gens target b answer certificate = IsVector (power a width) target → Tells (power a width) gens target b answer → HasNoFlaw a certificate

@@ -1,7 +1,6 @@
 -- Laws of certificates: that of what a call may answer has no flaw, where the budget is at least one member.
 use Rattle.std.specs.Prelude.{◌≡◌, ◌<◌, ◌≤◌, ℕ, true, List, Ok}
-use Rattle.std.specs.List.{AllByRecursion}
-use Rattle.ua_table.specs.Algebras.{FiniteAlgebra, Vector, IsVector, power}
+use Rattle.ua_table.specs.Algebras.{FiniteAlgebra, Vector, IsVector, AreVectorsOf, power}
 use Rattle.ua_table.specs.Tables.{IsAlgebraTable}
 use Rattle.ua_close.specs.declared.close.Closure.{Closure}
 use Rattle.ua_close.specs.declared.memberships.Answer.{Answer}
@@ -17,13 +16,13 @@ use Rattle.ua_certify.specs.Certified.{closure_certificate, member_certificate, 
 
 -- that of a closure
 abbrev pub ClosureIsFlawless : Type 0
-ClosureIsFlawless = (a : FiniteAlgebra) (width b w : ℕ) (gens : List Vector) (closure : Closure) → IsAlgebraTable a → 0 < width → 1 ≤ b → AllByRecursion (IsVector (power a width)) gens
+ClosureIsFlawless = (a : FiniteAlgebra) (width b w : ℕ) (gens : List Vector) (closure : Closure) → IsAlgebraTable a → 0 < width → 1 ≤ b → AreVectorsOf (power a width) gens
     → MayClose (power a width) gens b w (Ok closure) → HasNoFlaw a (closure_certificate a width gens closure)
 
 -- that of a membership
 abbrev pub MembershipIsFlawless : Type 0
 MembershipIsFlawless = (a : FiniteAlgebra) (width b w : ℕ) (gens : List Vector) (target : Vector) (answer : Answer) → IsAlgebraTable a → 0 < width → 1 ≤ b
-    → AllByRecursion (IsVector (power a width)) gens → IsVector (power a width) target → MayMember (power a width) gens target b w (Ok answer) → HasNoFlaw a (member_certificate a width gens target answer)
+    → AreVectorsOf (power a width) gens → IsVector (power a width) target → MayMember (power a width) gens target b w (Ok answer) → HasNoFlaw a (member_certificate a width gens target answer)
 
 -- that of a condition
 abbrev pub ConditionIsFlawless : Type 0

@@ -2,11 +2,9 @@
 //! nothing is searched for and nothing is checked again. An answer beyond the budget has none.
 
 ghost use Rattle.std.specs.Prelude.{◌≡◌, ◌≤◌, ℕ, true, Ok, IfOk};
-ghost use Rattle.std.specs.List.{AllByRecursion};
-ghost use Rattle.ua_table.specs.Algebras.{IsVector, power};
+ghost use Rattle.ua_table.specs.Algebras.{AreVectorsOf, power};
 ghost use Rattle.ua_table.specs.Frames.{IsWidth};
 ghost use Rattle.ua_close.specs.Answers.{Answers};
-ghost use Rattle.ua_close.specs.Memberships.{Tells};
 ghost use Rattle.ua_cond.specs.Permitted.{MayDecide};
 ghost use Rattle.ua_chain.specs.Permitted.{MayChain};
 ghost use Rattle.ua_check.specs.Conditions.{condition_of, has_places};
@@ -52,7 +50,7 @@ pub fn certify_closure(
     closure: &Closure,
 ) -> Result<Option<Cert>, AllocError>
     ensures certificate { IfOk result (λ cert. cert ≡ certified.closure_certificate a.now width gens.now.items closure.now) }
-    ensures flawless { (b : ℕ) → IsWidth width → AllByRecursion (IsVector (power a.now width)) gens.now.items → Answers (power a.now width) gens.now.items b closure.now → IfOk result (certified.HasNoFlaw a.now) }
+    ensures flawless { (b : ℕ) → IsWidth width → AreVectorsOf (power a.now width) gens.now.items → Answers (power a.now width) gens.now.items b closure.now → IfOk result (certified.HasNoFlaw a.now) }
 {
     vector_laws::flawless();
     kinds();
@@ -74,7 +72,7 @@ pub fn certify_membership(
     answer: &Answer,
 ) -> Result<Option<Cert>, AllocError>
     ensures certificate { IfOk result (λ cert. cert ≡ certified.member_certificate a.now width gens.now.items target.now answer.now) }
-    ensures flawless { (b : ℕ) → IsWidth width → AllByRecursion (IsVector (power a.now width)) gens.now.items → IsVector (power a.now width) target.now → Tells (power a.now width) gens.now.items target.now b answer.now → IfOk result (certified.HasNoFlaw a.now) }
+    ensures flawless { (b : ℕ) → IsWidth width → AreVectorsOf (power a.now width) gens.now.items → IfOk result (certified.HasNoFlawIfTold a.now width gens.now.items target.now b answer.now) }
 {
     vector_laws::flawless();
     kinds();

@@ -8,5 +8,7 @@ pub mod Chains
 pub mod Reached
 -- What a certificate of any kind says, and its first flaw.
 pub mod Checking
+-- Certificates of terms and of chains that have no flaw, since they are made of right answers.
+pub mod Laws
 -- What private functions say.
 pub mod inner

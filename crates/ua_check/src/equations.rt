@@ -8,7 +8,7 @@ ghost use Rattle.ua_term.specs.Steps.{AreSteps, written_term};
 ghost use Rattle.ua_flaws.specs.inner.Firsts.{first_behind};
 ghost use Rattle.ua_check.specs.Conditions.{identity_failure};
 ghost use Rattle.ua_check.specs.Equations.{differ};
-ghost use Rattle.ua_check.specs.inner.Equations.{IsSide};
+ghost use Rattle.ua_check.specs.inner.Equations.{variable_identity, IsSide};
 
 use crate::values::value_of;
 use ua_table::{Algebra, Elem, Origin};
@@ -84,7 +84,7 @@ pub(crate) fn identity_failure(
     requires places { AllByRecursion (λ v. v < variables) places.now }
     requires value { value < variables }
     requires room { length steps.now ≤ length values.old }
-    ensures { option_map (λ (xs : List ℕ). take variables xs) result ≡ identity_failure a.now (written_term (arities_of a.now) steps.now) (record { pattern = record { variables = variables; places = places.now }; value = value }) }
+    ensures { option_map (λ (xs : List ℕ). take variables xs) result ≡ identity_failure a.now (written_term (arities_of a.now) steps.now) (variable_identity variables places.now value) }
 {
     let left = Side { steps, places };
     let right = Side {

@@ -1,6 +1,6 @@
 //! Certificates that there is no chain.
 
-ghost use Rattle.std.specs.Prelude.{◌≡◌, ◌<◌, ◌≤◌, ◌^◌, [], ◌∷◌, length, IsOk, IfOk};
+ghost use Rattle.std.specs.Prelude.{◌≡◌, ◌<◌, ◌≤◌, ◌^◌, length, IsOk, IfOk};
 ghost use Rattle.std.specs.List.{AllByRecursion};
 ghost use Rattle.ua_table.specs.declared.limits.TheConstants.{WIDTH};
 ghost use Rattle.ua_table.specs.Refusals.{first_refusal};
@@ -9,6 +9,7 @@ ghost use Rattle.ua_identity.specs.Chains.{generators_of};
 ghost use Rattle.ua_flaws.specs.Flaws.{Tells};
 ghost use Rattle.ua_check.specs.Chains.{HasNoChain};
 ghost use Rattle.ua_check.specs.Reached as reached;
+ghost use Rattle.ua_check.specs.inner.Chains.{both_positions_flaw};
 ghost use Rattle.ua_check.specs.inner.ChartsOf.{IsChartOf};
 
 use crate::chains::named;
@@ -119,7 +120,7 @@ fn positions_flaws(
     requires width { rows.now.width ≡ length (all_fillings a.now.size kind.now.patterns) }
     requires narrow { rows.now.width ≤ WIDTH }
     requires places { places.now.items ≡ generators_of a.now kind.now }
-    ensures { Tells (first_refusal (reached.sides_flaw kind.now (length rows.now.items) even.now odd.now ∷ reached.reached_flaw a.now kind.now rows.now.items even.now (reached.odd_positions kind.now even.now odd.now) ∷ [])) result }
+    ensures { Tells (both_positions_flaw a.now kind.now rows.now.items even.now odd.now) result }
 {
     sides(kind, rows, even, odd)?;
     let size = a.size();

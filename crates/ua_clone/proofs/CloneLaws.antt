@@ -1,8 +1,7 @@
 -- What an answer says of polynomials.
-use Rattle.std.proofs.Common.{◌≡◌, ℕ, ◌+◌, ◌-◌, ◌<◌, ◌≤◌, Bool, true, false, List, length, sym, ap, ◌∙◌, subst, arith, Some, None, Result, Ok, Err}
+use Rattle.std.proofs.Common.{◌≡◌, ℕ, ◌+◌, ◌-◌, ◌<◌, Bool, true, false, List, length, sym, ap, ◌∙◌, subst, arith, Some, None, Result, Ok, Err}
 use Rattle.std.specs.Prelude.{nat_le, slice_get, if◌then◌else◌}
 use Rattle.std.proofs.lemmas.Option.{slice_get_within, get_or_from_slice_get}
-use Rattle.std.specs.List.{AllByRecursion}
 use Rattle.ua_table.specs.Algebras.{Vector, FiniteAlgebra, Product, arities_of, arities}
 use Rattle.ua_table.specs.Terms.{Tree, Generator, IsTerm, term_value}
 use Rattle.ua_table.specs.Listings.{Row}
@@ -17,10 +16,10 @@ use Rattle.ua_close.specs.Memberships.{AreStepsTo}
 use Rattle.ua_close.specs.Permitted.{MayMember}
 use Rattle.ua_clone.specs.declared.kinds.CloneKind.{CloneKind}
 use Rattle.ua_clone.specs.declared.polynomials.Poly.{Poly}
-use Rattle.ua_clone.specs.Points.{Point, IsPoint}
-use Rattle.ua_clone.specs.Polynomials.{named_elements, IsPolynomial, AgreesWith, HasPolynomial, polynomial_of, variables_of, IsPoly}
+use Rattle.ua_clone.specs.Points.{Point, AreAllPoints}
+use Rattle.ua_clone.specs.Polynomials.{named_elements, IsPolynomial, AgreesWith, HasPolynomial, polynomial_of}
 use Rattle.ua_clone.specs.Frames.{point_power, point_generators, wanted_values}
-use Rattle.ua_clone.specs.Permitted.{WriteAgreeing, TellsPolynomial}
+use Rattle.ua_clone.specs.Permitted.{WriteAgreeing, AgreesIfWritten, TellsPolynomial}
 use Rattle.ua_clone.proofs.PolynomialLaws.{term_wider, few_elements, generator_count, same_arities, written_from, member_from_polynomial}
 
 -- what a tree with few nodes is cut to is the tree
@@ -42,7 +41,7 @@ module _ (a : FiniteAlgebra) (k : ℕ) (kind : CloneKind) (ps : List Point) wher
   wanted = wanted_values ps
 
   -- steps to the vector of the values write a polynomial that agrees
-  pub steps_write : (s : StepList) → 0 < length ps → AllByRecursion (IsPoint a.size k) ps → AreStepsTo power gens wanted s → WriteAgreeing a k kind ps s
+  pub steps_write : (s : StepList) → 0 < length ps → AreAllPoints a.size k ps → AreStepsTo power gens wanted s → WriteAgreeing a k kind ps s
   steps_write s some points h =
       let i = length s.items - 1 in
       let m = mapped_from (term_value power gens) (unfolded (arities power) s.items) i wanted h.value in
@@ -61,20 +60,18 @@ module _ (a : FiniteAlgebra) (k : ℕ) (kind : CloneKind) (ps : List Point) wher
       }
 
   -- a closed listing without it says that no polynomial does
-  pub none_agrees : (b w : ℕ) (rows : List Row) → 0 < length ps → AllByRecursion (IsPoint a.size k) ps → MayMember power gens wanted b w (Ok (No rows)) → ¬ HasPolynomial a k kind ps
+  pub none_agrees : (b w : ℕ) (rows : List Row) → 0 < length ps → AreAllPoints a.size k ps → MayMember power gens wanted b w (Ok (No rows)) → ¬ HasPolynomial a k kind ps
   none_agrees b w rows some points may has = may.1.1 ((may.1.0.exact wanted).1 (member_from_polynomial a k kind ps some points has))
 
   -- so an answer about the vector says the same of polynomials
-  pub tells : 0 < length ps → AllByRecursion (IsPoint a.size k) ps → (b w : ℕ) (answer : Result Answer CloseError) → MayMember power gens wanted b w answer → TellsPolynomial a k kind ps answer
+  pub tells : 0 < length ps → AreAllPoints a.size k ps → (b w : ℕ) (answer : Result Answer CloseError) → MayMember power gens wanted b w answer → TellsPolynomial a k kind ps answer
   tells some points b w (Ok (Yes steps)) may = steps_write steps some points may.1
   tells some points b w (Ok (No rows)) may = none_agrees b w rows some points may
   tells some points b w (Ok (Exceeds rows)) may = tt
   tells some points b w (Err error) may = tt
 
   -- what is made of the last step is what the steps write
-  pub made_agrees : (s : StepList) (limit : ℕ) (p : Poly) → WriteAgreeing a k kind ps s
-      → Some (polynomial_of k p) ≡ within limit (step_term s.arities s.items (length s.items - 1)) → variables_of p ≤ k
-      → IsPoly a k p × IsPolynomial a k kind (polynomial_of k p) × AgreesWith a ps (polynomial_of k p)
+  pub made_agrees : (s : StepList) (limit : ℕ) (p : Poly) → WriteAgreeing a k kind ps s → AgreesIfWritten a k kind ps s limit p
   made_agrees s limit p h e low =
       let same : polynomial_of k p ≡ h.polynomial =
       within_is limit (step_term s.arities s.items (length s.items - 1)) (polynomial_of k p) e

@@ -13,7 +13,7 @@ use Rattle.ua_term.specs.Assignments.{IsAssignment, assignments, projection}
 use Rattle.ua_term.proofs.AssignmentLaws.{length_assignments, assignment_from}
 use Rattle.ua_clone.specs.declared.points.Points.{Points}
 use Rattle.ua_clone.specs.declared.points.Points.TheVariants.{Total, Partial}
-use Rattle.ua_clone.specs.Points.{Point, total_points, partial_points, points_of, IsPoint, ArePoints}
+use Rattle.ua_clone.specs.Points.{Point, total_points, partial_points, points_of, IsPoint, AreAllPoints, ArePoints}
 use Rattle.ua_clone.specs.Frames.{variable_vector, wanted_values}
 
 -- ---- total tables
@@ -46,7 +46,7 @@ module _ (n k : ℕ) (values : List ℕ) (long : length values ≡ n ^ k) where
   pub wanted_total : wanted_values (total_points n k values) ≡ values
   wanted_total = map-map (λ (p : Point). p.value) pair_point (zip (assignments n k) values) ∙ seconds-zip (assignments n k) values same_length
 
-  points_total : AllByRecursion (λ x. x < n) values → AllByRecursion (IsPoint n k) (total_points n k values)
+  points_total : AllByRecursion (λ x. x < n) values → AreAllPoints n k (total_points n k values)
   points_total h =
       all_map (IsPoint n k) pair_point (zip (assignments n k) values)
       (weaker (zip (assignments n k) values) (all_zip (IsAssignment n k) (λ x. x < n) (assignments n k) values (all_from_contains (IsAssignment n k) (assignments n k) (assignment_from n k)) h))
@@ -69,7 +69,7 @@ pub wanted_partial : (k : ℕ) (vs : List Vector) → wanted_values (partial_poi
 wanted_partial k [] = refl
 wanted_partial k (v ∷ vs) = ap (λ rest. slice_index v k ∷ rest) (wanted_partial k vs)
 
-points_partial : (n k : ℕ) (vs : List Vector) → AreEntries n k vs → AllByRecursion (IsPoint n k) (partial_points k vs)
+points_partial : (n k : ℕ) (vs : List Vector) → AreEntries n k vs → AreAllPoints n k (partial_points k vs)
 points_partial n k [] h = tt
 points_partial n k (v ∷ vs) h =
     let long = h.0.0 in (
@@ -87,7 +87,7 @@ entries_there n k i (v ∷ vs) l h = (let long = h.0.0 in omega (arith, long, l)
 
 -- ---- tables
 
-pub are_points : (n k : ℕ) (points : Points) → ArePoints n k points → AllByRecursion (IsPoint n k) (points_of n k points)
+pub are_points : (n k : ℕ) (points : Points) → ArePoints n k points → AreAllPoints n k (points_of n k points)
 are_points n k (Total values) h = points_total n k values.items h.0 h.1
 are_points n k (Partial vectors) h = points_partial n k vectors.items h.1
 

@@ -7,8 +7,7 @@ use Rattle.std.proofs.lemmas.List.{ext_get_or, get_or-map, get_or_append_left, g
 use Rattle.std.proofs.lemmas.List.Elements.{All-from_recursion}
 use Rattle.std.proofs.lemmas.List.FromFn.{get_or-map-range_with_len, get_or-range_with_len, length-map-range_with_len}
 use Rattle.ua_term.proofs.AssignmentLaws.{maps_agree}
-use Rattle.ua_table.specs.Algebras.{Vector, FiniteAlgebra, IsVector, arities_of, arities, column, value_at}
-use Rattle.ua_table.specs.Generated.{Sg}
+use Rattle.ua_table.specs.Algebras.{Vector, FiniteAlgebra, IsVector, AreVectorsOf, arities_of, arities, column, value_at}
 use Rattle.ua_table.specs.Terms.{Tree, Generator, Application, Trees, none, more, IsTerm, AreTerms, term_value, term_values, eval, eval_all}
 use Rattle.ua_table.proofs.ApplyLaws.{length-apply}
 use Rattle.ua_table.proofs.Choices.{range_low}
@@ -18,9 +17,9 @@ use Rattle.ua_table.proofs.TermLaws.{value_is_eval}
 use Rattle.ua_identity.proofs.PatternLaws.{agree_maps}
 use Rattle.ua_clone.specs.declared.kinds.CloneKind.{CloneKind}
 use Rattle.ua_clone.specs.declared.kinds.CloneKind.TheVariants.{TermOps, Polynomials}
-use Rattle.ua_clone.specs.Points.{Point, IsPoint}
-use Rattle.ua_clone.specs.Polynomials.{named_elements, IsPolynomial, polynomial_value, AgreesWith, HasPolynomial}
-use Rattle.ua_clone.specs.Frames.{point_power, variable_vector, element_vector, point_generators, wanted_values}
+use Rattle.ua_clone.specs.Points.{Point, IsPoint, AreAllPoints}
+use Rattle.ua_clone.specs.Polynomials.{named_elements, IsPolynomial, polynomial_value, AgreesWith, IsAgreeing, HasPolynomial}
+use Rattle.ua_clone.specs.Frames.{point_power, variable_vector, element_vector, point_generators, wanted_values, HasValuesAt, GivesWanted, GenerateWanted}
 
 -- ---- the value of a term depends on its generators alone
 
@@ -118,7 +117,7 @@ module _ (a : FiniteAlgebra) (k : ℕ) (kind : CloneKind) (ps : List Point) wher
   value_long (Generator j) h = generator_long ps k elements j h
   value_long (Application f ts) h = length-apply (point_power a ps) f (term_values (point_power a ps) gens ts) ∙ length-replicate (length ps) a
 
-  pub values_at_points : (t : Tree) → AllByRecursion (IsPoint a.size k) ps → IsPolynomial a k kind t → term_value (point_power a ps) gens t ≡ map (λ (p : Point). polynomial_value a p.arguments t) ps
+  pub values_at_points : (t : Tree) → AreAllPoints a.size k ps → IsPolynomial a k kind t → HasValuesAt a k kind ps t
   values_at_points t points h =
       let long = value_long t h in
       let none : Point = record { arguments = []; value = 0 } in
@@ -139,7 +138,7 @@ module _ (a : FiniteAlgebra) (k : ℕ) (kind : CloneKind) (ps : List Point) wher
 
   -- ---- the generators and the values are vectors of the power
 
-  variable_admitted : (i : ℕ) → i < k → AllByRecursion (IsPoint a.size k) ps → IsVector (point_power a ps) (variable_vector ps i)
+  variable_admitted : (i : ℕ) → i < k → AreAllPoints a.size k ps → IsVector (point_power a ps) (variable_vector ps i)
   variable_admitted i low points =
       in_power a (length ps) (variable_vector ps i) (length-map ps (λ (p : Point). slice_index p.arguments i))
       (all_map (λ x. x < a.size) (λ (p : Point). slice_index p.arguments i) ps
@@ -155,7 +154,7 @@ module _ (a : FiniteAlgebra) (k : ℕ) (kind : CloneKind) (ps : List Point) wher
       same zero = tt
       same (suc m) = (low, same m)
 
-  pub generators_admitted : AllByRecursion (IsPoint a.size k) ps → AllByRecursion (IsVector (point_power a ps)) gens
+  pub generators_admitted : AreAllPoints a.size k ps → AreVectorsOf (point_power a ps) gens
   generators_admitted points =
       all_append (IsVector (point_power a ps)) (map (variable_vector ps) (range_with_len 0 k)) (map (element_vector ps) (range_with_len 0 elements))
       (all_map (IsVector (point_power a ps)) (variable_vector ps) (range_with_len 0 k) (all_from_contains (λ i. IsVector (point_power a ps) (variable_vector ps i)) (range_with_len 0 k) (λ i c.
@@ -163,30 +162,30 @@ module _ (a : FiniteAlgebra) (k : ℕ) (kind : CloneKind) (ps : List Point) wher
       (all_map (IsVector (point_power a ps)) (element_vector ps) (range_with_len 0 elements) (all_from_contains (λ e. IsVector (point_power a ps) (element_vector ps e)) (range_with_len 0 elements) (λ e c.
       let low = (range_low 0 elements e c).1 in let few = few_elements kind a.size in element_admitted e (omega (arith, low, few)))))
 
-  pub wanted_admitted : AllByRecursion (IsPoint a.size k) ps → IsVector (point_power a ps) (wanted_values ps)
+  pub wanted_admitted : AreAllPoints a.size k ps → IsVector (point_power a ps) (wanted_values ps)
   wanted_admitted points =
       in_power a (length ps) (wanted_values ps) (length-map ps (λ (p : Point). p.value))
       (all_map (λ x. x < a.size) (λ (p : Point). p.value) ps (all_weaker (IsPoint a.size k) (λ (p : Point). p.value < a.size) (λ p h. h.element) ps points))
 
   -- ---- the values are generated exactly where some polynomial agrees
 
-  module _ (some : 0 < length ps) (points : AllByRecursion (IsPoint a.size k) ps) where
+  module _ (some : 0 < length ps) (points : AreAllPoints a.size k ps) where
     pub same_arities : arities (point_power a ps) ≡ arities_of a
     same_arities = arities_of_power a (length ps) some
 
     same_terms : (t : Tree) → IsTerm (arities (point_power a ps)) (length gens) t ≡ IsPolynomial a k kind t
     same_terms t = (λ i. IsTerm (same_arities i) (generator_count i) t)
 
-    pub written_from : (t : Tree) → IsTerm (arities (point_power a ps)) (length gens) t × (term_value (point_power a ps) gens t ≡ wanted_values ps) → IsPolynomial a k kind t × AgreesWith a ps t
+    pub written_from : (t : Tree) → GivesWanted a k kind ps t → IsAgreeing a k kind ps t
     written_from t h =
         let is : IsPolynomial a k kind t = subst (λ (X : Type 0). X) (same_terms t) h.0 in
         (is, agrees_from t (sym (values_at_points t points is) ∙ h.1))
 
-    pub written_as : (t : Tree) → IsPolynomial a k kind t × AgreesWith a ps t → IsTerm (arities (point_power a ps)) (length gens) t × (term_value (point_power a ps) gens t ≡ wanted_values ps)
+    pub written_as : (t : Tree) → IsAgreeing a k kind ps t → GivesWanted a k kind ps t
     written_as t h = (subst (λ (X : Type 0). X) (sym (same_terms t)) h.0, values_at_points t points h.0 ∙ agrees_as t h.1)
 
-    pub polynomial_from_member : Sg (point_power a ps) gens (wanted_values ps) → HasPolynomial a k kind ps
+    pub polynomial_from_member : GenerateWanted a k kind ps → HasPolynomial a k kind ps
     polynomial_from_member s = let w = written_from s.term (s.is_term, s.value) in record { polynomial = s.term; is_polynomial = w.0; agrees = w.1 }
 
-    pub member_from_polynomial : HasPolynomial a k kind ps → Sg (point_power a ps) gens (wanted_values ps)
+    pub member_from_polynomial : HasPolynomial a k kind ps → GenerateWanted a k kind ps
     member_from_polynomial h = let w = written_as h.polynomial (h.is_polynomial, h.agrees) in record { term = h.polynomial; is_term = w.0; value = w.1 }

@@ -29,6 +29,10 @@ pub record IsPoint (n k : ℕ) (p : Point) : Type 0 where
   pub assignment : IsAssignment n k p.arguments
   pub element : p.value < n
 
+-- so are these
+abbrev pub AreAllPoints : ℕ → ℕ → List Point → Type 0
+AreAllPoints n k ps = AllByRecursion (IsPoint n k) ps
+
 -- a total table has a value for each assignment; a partial one has a point, and so many entries in each; all are below n
 abbrev pub ArePoints : ℕ → ℕ → Points → Type 0
 ArePoints n k (Total values) = (length values.items ≡ n ^ k) × AllByRecursion (λ x. x < n) values.items

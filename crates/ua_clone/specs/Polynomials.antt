@@ -29,6 +29,10 @@ polynomial_value a xs t = eval a (xs ++ range_with_len 0 a.size) t
 abbrev pub AgreesWith : FiniteAlgebra → List Point → Tree → Type 0
 AgreesWith a ps t = AllByRecursion (λ (p : Point). polynomial_value a p.arguments t ≡ p.value) ps
 
+-- a polynomial of the kind that agrees with the points
+abbrev pub IsAgreeing : FiniteAlgebra → ℕ → CloneKind → List Point → Tree → Type 0
+IsAgreeing a k kind ps t = IsPolynomial a k kind t × AgreesWith a ps t
+
 -- some polynomial of the kind agrees with the points
 pub record HasPolynomial (a : FiniteAlgebra) (k : ℕ) (kind : CloneKind) (ps : List Point) : Type 0 where
   pub polynomial : Tree

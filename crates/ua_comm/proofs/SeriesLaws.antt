@@ -12,7 +12,7 @@ use Rattle.ua_prod.proofs.CongruenceLaws.{full-IsCongruence}
 use Rattle.ua_cong.proofs.ClosingLaws.{entries_low, total_low, above_total}
 use Rattle.ua_comm.specs.declared.members.Kind.{Kind}
 use Rattle.ua_comm.specs.declared.members.Kind.TheVariants.{Derived, Lower}
-use Rattle.ua_comm.specs.Series.{partner, IsSuccessor, IsSuccessorWithin, IsDescent, last_from, last_member, IsBeginning}
+use Rattle.ua_comm.specs.Series.{partner, IsSuccessor, IsSuccessorWithin, IsDescent, last_from, last_member, IsBeginning, IsBeginningWithin}
 use Rattle.ua_comm.proofs.CommutatorLaws.{commutator_below_second}
 
 -- ---- lists of numbers
@@ -54,7 +54,7 @@ module _ (a : FiniteAlgebra) (kind : Kind) (budget : ℕ) where
   descent_congruence d [] c h = c
   descent_congruence d (e ∷ rest) c h = descent_congruence e rest h.0.0.congruence h.2
 
-  pub last_congruence : (members : List Partition) → IsBeginning a (IsSuccessorWithin a kind budget) members → IsAlgebra a → IsCongruence a (last_member members)
+  pub last_congruence : (members : List Partition) → IsBeginningWithin a kind budget members → IsAlgebra a → IsCongruence a (last_member members)
   last_congruence [] h alg = absurd h
   last_congruence (d ∷ rest) h alg = descent_congruence d rest (subst (IsCongruence a) (sym h.0) (full-IsCongruence a alg)) h.1
 

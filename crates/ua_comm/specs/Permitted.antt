@@ -4,6 +4,7 @@ use Rattle.ua_table.specs.Algebras.{FiniteAlgebra}
 use Rattle.ua_close.specs.declared.close.CloseError.{CloseError}
 use Rattle.ua_close.specs.declared.close.CloseError.TheVariants.{Wide, OutOfMemory}
 use Rattle.ua_close.specs.Answers.{IsWide, IsCause}
+use Rattle.ua_close.specs.Permitted.{IsAnswerable}
 use Rattle.ua_part.specs.Partitions.{Partition}
 use Rattle.ua_matrix.specs.Matrices.{matrix_generators}
 use Rattle.ua_comm.specs.declared.commutators.Comm.{Comm}
@@ -24,3 +25,13 @@ MayDescend a kind b (Ok (Whole members)) = IsSeries a (IsSuccessorWithin a kind 
 MayDescend a kind b (Ok (Exceeds members)) = IsCutSeries a kind b members.items
 MayDescend a kind b (Err (Wide records cells)) = IsWideSeries a kind b records cells
 MayDescend a kind b (Err OutOfMemory) = Unit {0}
+
+-- ---- they can be told otherwise than by want of memory
+
+-- the commutator, with its refusals
+abbrev pub CanTellCommutator : FiniteAlgebra → Partition → Partition → ℕ → Type 0
+CanTellCommutator a alpha beta b = IsAnswerable (MayCommute a alpha beta b) OutOfMemory
+
+-- the series, with its refusals
+abbrev pub CanTellSeries : FiniteAlgebra → Kind → ℕ → Type 0
+CanTellSeries a kind b = IsAnswerable (MayDescend a kind b) OutOfMemory

@@ -51,6 +51,10 @@ abbrev pub IsBeginning : FiniteAlgebra → (Partition → Partition → Type 0) 
 IsBeginning a Next [] = ⊥
 IsBeginning a Next (d ∷ rest) = (d ≡ full_on a.size) × IsDescent Next d rest
 
+-- so they do in the series of the algebra, each within the budget
+abbrev pub IsBeginningWithin : FiniteAlgebra → Kind → ℕ → List Partition → Type 0
+IsBeginningWithin a kind b members = IsBeginning a (IsSuccessorWithin a kind b) members
+
 -- the whole series: it ends at the first member that is its own next
 pub record IsSeries (a : FiniteAlgebra) (Next : Partition → Partition → Type 0) (members : List Partition) : Type 0 where
   pub beginning : IsBeginning a Next members
@@ -58,12 +62,12 @@ pub record IsSeries (a : FiniteAlgebra) (Next : Partition → Partition → Type
 
 -- the members before a successor that has more matrices than the budget
 pub record IsCutSeries (a : FiniteAlgebra) (kind : Kind) (b : ℕ) (members : List Partition) : Type 0 where
-  pub beginning : IsBeginning a (IsSuccessorWithin a kind b) members
+  pub beginning : IsBeginningWithin a kind b members
   pub beyond : IsBeyond a kind b (last_member members)
   pub narrow : ¬ AreTooWide a kind b (last_member members)
 
 -- the series comes to a successor whose matrices are too wide, of so many records and cells
 pub record IsWideSeries (a : FiniteAlgebra) (kind : Kind) (b records cells : ℕ) : Type 0 where
   pub members : List Partition
-  pub beginning : IsBeginning a (IsSuccessorWithin a kind b) members
+  pub beginning : IsBeginningWithin a kind b members
   pub cause : IsCause (replicate 4 a) (matrix_generators (partner a kind (last_member members)) (last_member members)) b (causes.Wide records cells)

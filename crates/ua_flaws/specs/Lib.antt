@@ -12,7 +12,7 @@ pub mod Flaws
 pub mod Properties
 -- Answers that are right, of which certificates are made: listings of powers.
 pub mod Answers
--- What holds of steps and of rows without a flaw, and which of them have none.
+-- What holds of steps and of rows without a flaw, and which of them, and which certificates, have none.
 pub mod Laws
 -- What private functions say.
 pub mod inner

@@ -9,9 +9,8 @@ ghost use Rattle.ua_table.specs.Algebras.{IsVector, arities};
 ghost use Rattle.ua_term.specs.Printing.{name_at};
 ghost use Rattle.ua_flaws.specs.declared.flaws.Flaw.TheVariants as flaws;
 ghost use Rattle.ua_flaws.specs.Firsts.{is_among};
-ghost use Rattle.ua_flaws.specs.inner.Firsts.{first_behind};
 ghost use Rattle.ua_flaws.specs.Closing.{is_missing, missing_of};
-ghost use Rattle.ua_flaws.specs.inner.Closing.{IsTableOver};
+ghost use Rattle.ua_flaws.specs.inner.Closing.{IsTableOver, missing_behind};
 ghost use Rattle.ua_flaws.specs.Flaws.{generators_flaw, results_flaw, Tells};
 
 use crate::flaws::{CheckError, Flaw};
@@ -93,7 +92,7 @@ fn first_missing(
     requires rows { AllByRecursion (IsVector table.now.operations) table.now.rows.now.items }
     requires width { length scratch.old ≡ length table.now.operations }
     requires same { table.now.rows.now.width ≡ length table.now.operations }
-    ensures first { option_map (λ (places : List ℕ). take arity places) result ≡ first_behind (is_missing table.now.operations table.now.rows.now.items op) (length table.now.rows.now.items) (take filled args) (arity - filled) }
+    ensures first { option_map (λ (places : List ℕ). take arity places) result ≡ missing_behind table.now.operations table.now.rows.now.items op (take filled args) (arity - filled) }
     ensures width { length scratch.new ≡ length table.now.operations }
 {
     if filled == arity {

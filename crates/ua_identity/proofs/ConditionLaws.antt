@@ -6,25 +6,21 @@ use Rattle.std.proofs.lemmas.List.{length-map, length-append, map-append, take_a
 use Rattle.std.proofs.lemmas.List.Elements.{All-from_recursion}
 use Rattle.std.proofs.lemmas.List.FromFn.{length-map-range_with_len}
 use Rattle.std.proofs.Math.Nat.{one-le-pow}
-use Rattle.ua_table.specs.Algebras.{Vector, FiniteAlgebra, IsVector, arities_of, arities}
+use Rattle.ua_table.specs.Algebras.{Vector, FiniteAlgebra, IsVector, AreVectorsOf, arities_of, arities}
 use Rattle.ua_table.specs.Terms.{Tree, IsTerm, eval, term_value}
-use Rattle.ua_table.specs.Generated.{Sg}
+use Rattle.ua_table.specs.Generated.{Sg, IsTermFor}
 use Rattle.ua_table.proofs.Choices.{range_low}
 use Rattle.ua_table.proofs.FrameLaws.{arities_of_power, in_power}
 use Rattle.ua_table.proofs.Lists.{all_map, all_append, all_from_contains, all_weaker}
 use Rattle.ua_term.specs.Assignments.{assignments, projection}
 use Rattle.ua_term.proofs.AssignmentLaws.{length_assignments, assignment_from}
 use Rattle.ua_identity.specs.Identities.{VariablePattern, TermIdentity, filled, Satisfies}
-use Rattle.ua_identity.specs.Conditions.{TermCondition, IsPattern, IsIdentity, IsCondition, Meets, IsMet}
-use Rattle.ua_identity.specs.Patterns.{fillings, all_fillings, vector_of, place_vector, pattern_power, generators, patterns_of, condition_power, argument_vectors, value_vector}
+use Rattle.ua_identity.specs.Conditions.{TermCondition, IsPattern, IsIdentity, IsCondition, Meets, IsMet, IsMetBy}
+use Rattle.ua_identity.specs.Patterns.{FillPlaces, HasValuesOn, fillings, all_fillings, vector_of, place_vector, pattern_power, generators, patterns_of, condition_power, argument_vectors, value_vector}
 use Rattle.ua_identity.proofs.PatternLaws.{AreFilled, value_is_vector, satisfied_from_part, part_from_satisfied}
 use Rattle.ua_identity.proofs.FillingLaws.{length_fillings}
 
 -- ---- the fillings of patterns
-
--- each pattern fills so many places
-abbrev pub FillPlaces : ℕ → List VariablePattern → Type 0
-FillPlaces places ps = AllByRecursion (λ (p : VariablePattern). length p.places ≡ places) ps
 
 filled_one : (places n : ℕ) (p : VariablePattern) → length p.places ≡ places → AreFilled places (fillings n p)
 filled_one places n p e =
@@ -37,7 +33,7 @@ filled_all places n [] h = tt
 filled_all places n (p ∷ ps) h = all_append (λ (xs : List ℕ). length xs ≡ places) (fillings n p) (all_fillings n ps) (filled_one places n p h.0) (filled_all places n ps h.1)
 
 -- a term's value in the power is its vector
-pub value_on_patterns : (a : FiniteAlgebra) (ps : List VariablePattern) (places : ℕ) (t : Tree) → FillPlaces places ps → IsTerm (arities_of a) places t → term_value (pattern_power a ps) (generators a ps places) t ≡ vector_of a ps t
+pub value_on_patterns : (a : FiniteAlgebra) (ps : List VariablePattern) (places : ℕ) (t : Tree) → FillPlaces places ps → IsTerm (arities_of a) places t → HasValuesOn a ps places t
 value_on_patterns a ps places t fill h = value_is_vector a (all_fillings a.size ps) places t (filled_all places a.size ps fill) h
 
 -- ---- the vectors are vectors of the power
@@ -67,7 +63,7 @@ place_below n j (p ∷ ps) h low =
     (all_append (λ x. x < n) (place_vector (fillings n p) j) (place_vector (all_fillings n ps) j) (place_one n j p h.0 low.0) (place_below n j ps h.1 low.1))
 
 -- the vectors of the places
-pub generators_admitted : (a : FiniteAlgebra) (ps : List VariablePattern) (places : ℕ) → AllByRecursion IsPattern ps → FillPlaces places ps → AllByRecursion (IsVector (pattern_power a ps)) (generators a ps places)
+pub generators_admitted : (a : FiniteAlgebra) (ps : List VariablePattern) (places : ℕ) → AllByRecursion IsPattern ps → FillPlaces places ps → AreVectorsOf (pattern_power a ps) (generators a ps places)
 generators_admitted a ps places h fill =
     all_map (IsVector (pattern_power a ps)) (place_vector (all_fillings a.size ps)) (range_with_len 0 places)
     (all_from_contains (λ j. IsVector (pattern_power a ps) (place_vector (all_fillings a.size ps) j)) (range_with_len 0 places) (λ j c.
@@ -108,7 +104,7 @@ are_patterns c h = all_map IsPattern (λ (i : TermIdentity). i.pattern) c.identi
 pub fill_places : (c : TermCondition) → IsCondition c → FillPlaces c.arity (patterns_of c)
 fill_places c h = all_map (λ (p : VariablePattern). length p.places ≡ c.arity) (λ (i : TermIdentity). i.pattern) c.identities h.filled
 
-pub arguments_admitted : (a : FiniteAlgebra) (c : TermCondition) → IsCondition c → AllByRecursion (IsVector (condition_power a c)) (argument_vectors a c)
+pub arguments_admitted : (a : FiniteAlgebra) (c : TermCondition) → IsCondition c → AreVectorsOf (condition_power a c) (argument_vectors a c)
 arguments_admitted a c h = generators_admitted a (patterns_of c) c.arity (are_patterns c h) (fill_places c h)
 
 -- ---- a term meets a condition where its vector is what the identities say
@@ -169,12 +165,12 @@ module _ (a : FiniteAlgebra) (c : TermCondition) (some : 0 < a.size) (is : IsCon
   pub term_at : (t : Tree) → IsTerm (arities_of a) c.arity t → term_value (condition_power a c) (argument_vectors a c) t ≡ vector_of a (patterns_of c) t
   term_at t h = value_on_patterns a (patterns_of c) c.arity t (fill_places c is) h
 
-  pub written_from : (t : Tree) → IsTerm (arities (condition_power a c)) (length (argument_vectors a c)) t × (term_value (condition_power a c) (argument_vectors a c) t ≡ value_vector a c) → IsTerm (arities_of a) c.arity t × Meets a t c
+  pub written_from : (t : Tree) → IsTermFor (condition_power a c) (argument_vectors a c) (value_vector a c) t → IsMetBy a c t
   written_from t h =
       let is_term : IsTerm (arities_of a) c.arity t = subst (λ (X : Type 0). X) (same_terms t) h.0 in
       (is_term, (meets_vector a c t).1 (sym (term_at t is_term) ∙ h.1))
 
-  pub written_as : (t : Tree) → IsTerm (arities_of a) c.arity t × Meets a t c → IsTerm (arities (condition_power a c)) (length (argument_vectors a c)) t × (term_value (condition_power a c) (argument_vectors a c) t ≡ value_vector a c)
+  pub written_as : (t : Tree) → IsMetBy a c t → IsTermFor (condition_power a c) (argument_vectors a c) (value_vector a c) t
   written_as t h = (subst (λ (X : Type 0). X) (sym (same_terms t)) h.0, term_at t h.0 ∙ (meets_vector a c t).0 h.1)
 
   pub met_from_member : Sg (condition_power a c) (argument_vectors a c) (value_vector a c) → IsMet a c

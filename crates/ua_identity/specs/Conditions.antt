@@ -15,6 +15,10 @@ pub record TermCondition : Type 0 where
 abbrev pub Meets : FiniteAlgebra → Tree → TermCondition → Type 0
 Meets a t c = SatisfiesAll a t c.identities
 
+-- a term of as many places as the condition has, which meets it
+abbrev pub IsMetBy : FiniteAlgebra → TermCondition → Tree → Type 0
+IsMetBy a c t = IsTerm (arities_of a) c.arity t × Meets a t c
+
 -- some term meets the condition
 pub record IsMet (a : FiniteAlgebra) (c : TermCondition) : Type 0 where
   pub term : Tree

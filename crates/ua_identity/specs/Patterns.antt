@@ -1,8 +1,8 @@
 -- The vectors of terms on patterns, and of the variables of identities.
-use Rattle.std.specs.Prelude.{ℕ, List, length, map, take, drop, slice_index}
-use Rattle.std.specs.List.{flat_map, range_with_len}
+use Rattle.std.specs.Prelude.{◌≡◌, ℕ, List, length, map, take, drop, slice_index}
+use Rattle.std.specs.List.{AllByRecursion, flat_map, range_with_len}
 use Rattle.ua_table.specs.Algebras.{Vector, FiniteAlgebra, Product, power}
-use Rattle.ua_table.specs.Terms.{Tree, eval}
+use Rattle.ua_table.specs.Terms.{Tree, term_value, eval}
 use Rattle.ua_term.specs.Assignments.{assignments, projection}
 use Rattle.ua_identity.specs.Identities.{VariablePattern, TermIdentity, filled}
 use Rattle.ua_identity.specs.Conditions.{TermCondition}
@@ -30,6 +30,14 @@ pattern_power a ps = power a (length (all_fillings a.size ps))
 -- and the places as its generators
 abbrev pub generators : FiniteAlgebra → List VariablePattern → ℕ → List Vector
 generators a ps places = map (place_vector (all_fillings a.size ps)) (range_with_len 0 places)
+
+-- each pattern fills so many places
+abbrev pub FillPlaces : ℕ → List VariablePattern → Type 0
+FillPlaces places ps = AllByRecursion (λ (p : VariablePattern). length p.places ≡ places) ps
+
+-- the value of the term in the power is the vector of its values on the patterns
+abbrev pub HasValuesOn : FiniteAlgebra → List VariablePattern → ℕ → Tree → Type 0
+HasValuesOn a ps places t = term_value (pattern_power a ps) (generators a ps places) t ≡ vector_of a ps t
 
 -- the coordinates of pattern m begin behind those of the patterns before it
 abbrev pub start_of : ℕ → List VariablePattern → ℕ → ℕ

@@ -2,20 +2,20 @@
 
 ghost use Rattle.std.specs.Prelude.{◌≡◌, ◌↔◌, ℕ, ◌<◌, ◌≤◌, List, length};
 ghost use Rattle.std.specs.List.{AllByRecursion};
-ghost use Rattle.ua_table.specs.Algebras.{FiniteAlgebra, IsVector, arities_of, arities};
-ghost use Rattle.ua_table.specs.Terms.{Tree, IsTerm, term_value};
-ghost use Rattle.ua_table.specs.Generated.{Sg};
+ghost use Rattle.ua_table.specs.Algebras.{FiniteAlgebra, IsVector, AreVectorsOf, arities_of};
+ghost use Rattle.ua_table.specs.Terms.{Tree, IsTerm};
+ghost use Rattle.ua_table.specs.Generated.{Sg, IsTermFor};
 ghost use Rattle.ua_identity.specs.Identities.{VariablePattern};
 ghost use Rattle.ua_identity.specs.declared.limits.TheConstants.{PLACES};
-ghost use Rattle.ua_identity.specs.Conditions.{TermCondition, IsPattern, IsCondition, Meets, IsMet, maltsev, majority, minority, pixley, near_unanimity};
-ghost use Rattle.ua_identity.specs.Patterns.{vector_of, pattern_power, generators, condition_power, argument_vectors, value_vector, patterns_of};
+ghost use Rattle.ua_identity.specs.Conditions.{TermCondition, IsPattern, IsCondition, Meets, IsMet, IsMetBy, maltsev, majority, minority, pixley, near_unanimity};
+ghost use Rattle.ua_identity.specs.Patterns.{vector_of, pattern_power, generators, FillPlaces, HasValuesOn, condition_power, argument_vectors, value_vector, patterns_of};
 
 /// In the power with a coordinate for each pattern and each assignment, a term at the vectors of the places
 /// has as its value the term's values on the patterns.
 pub fn patterns()
-    ensures values { (a : FiniteAlgebra) (ps : List VariablePattern) (places : ℕ) (t : Tree) → AllByRecursion (λ (p : VariablePattern). length p.places ≡ places) ps → IsTerm (arities_of a) places t → term_value (pattern_power a ps) (generators a ps places) t ≡ vector_of a ps t }
+    ensures values { (a : FiniteAlgebra) (ps : List VariablePattern) (places : ℕ) (t : Tree) → FillPlaces places ps → IsTerm (arities_of a) places t → HasValuesOn a ps places t }
     ensures wide { (a : FiniteAlgebra) (ps : List VariablePattern) → 0 < a.size → 0 < length ps → 0 < length (pattern_power a ps) }
-    ensures places { (a : FiniteAlgebra) (ps : List VariablePattern) (places : ℕ) → AllByRecursion IsPattern ps → AllByRecursion (λ (p : VariablePattern). length p.places ≡ places) ps → AllByRecursion (IsVector (pattern_power a ps)) (generators a ps places) }
+    ensures places { (a : FiniteAlgebra) (ps : List VariablePattern) (places : ℕ) → AllByRecursion IsPattern ps → FillPlaces places ps → AreVectorsOf (pattern_power a ps) (generators a ps places) }
 {}
 
 /// A term meets a condition exactly where its values on the patterns are what the identities say, which is
@@ -24,9 +24,9 @@ pub fn patterns()
 /// Universal Algebra, chapter II, on Maltsev conditions).
 pub fn conditions()
     ensures terms { (a : FiniteAlgebra) (c : TermCondition) (t : Tree) → Meets a t c ↔ (vector_of a (patterns_of c) t ≡ value_vector a c) }
-    ensures written { (a : FiniteAlgebra) (c : TermCondition) (t : Tree) → 0 < a.size → IsCondition c → (IsTerm (arities (condition_power a c)) (length (argument_vectors a c)) t × (term_value (condition_power a c) (argument_vectors a c) t ≡ value_vector a c)) ↔ (IsTerm (arities_of a) c.arity t × Meets a t c) }
+    ensures written { (a : FiniteAlgebra) (c : TermCondition) (t : Tree) → 0 < a.size → IsCondition c → IsTermFor (condition_power a c) (argument_vectors a c) (value_vector a c) t ↔ IsMetBy a c t }
     ensures member { (a : FiniteAlgebra) (c : TermCondition) → 0 < a.size → IsCondition c → Sg (condition_power a c) (argument_vectors a c) (value_vector a c) ↔ IsMet a c }
-    ensures arguments { (a : FiniteAlgebra) (c : TermCondition) → IsCondition c → AllByRecursion (IsVector (condition_power a c)) (argument_vectors a c) }
+    ensures arguments { (a : FiniteAlgebra) (c : TermCondition) → IsCondition c → AreVectorsOf (condition_power a c) (argument_vectors a c) }
     ensures value { (a : FiniteAlgebra) (c : TermCondition) → IsCondition c → IsVector (condition_power a c) (value_vector a c) }
 {}
 

@@ -1,6 +1,6 @@
 //! A batch of jobs, answered by a pool of workers.
 
-ghost use Rattle.std.specs.Prelude.{◌≡◌, ◌<◌, ◌≤◌, ◌++◌, ℕ, [], length, suc, vec_len, slice_index_or, IfOk, OnOk};
+ghost use Rattle.std.specs.Prelude.{◌≡◌, ◌<◌, ◌≤◌, ◌++◌, ℕ, [], length, suc, vec_len, IfOk, OnOk};
 ghost use Rattle.std.specs.List.{AllByRecursion};
 ghost use Rattle.std.specs.Thread.{IsSync};
 ghost use Rattle.ua_table.specs.declared.limits.TheConstants.{WORKERS};
@@ -9,7 +9,7 @@ ghost use Rattle.ua_jobs.specs.declared.batches.TheConstants.{JOBS};
 ghost use Rattle.ua_jobs.specs.declared.batches.Turn.{Turn};
 ghost use Rattle.ua_jobs.specs.declared.serving.Served.{Served};
 ghost use Rattle.ua_jobs.specs.Seats.{first_pass, with_view};
-ghost use Rattle.ua_jobs.specs.Harvests.{AnswerEach, AreAnswers, IsAnswer, IsHarvest, MayGive, numbered};
+ghost use Rattle.ua_jobs.specs.Harvests.{AnswerEach, AreAnswers, IsAnswer, MayGive, numbered};
 ghost use Rattle.ua_jobs.specs.inner.Batches.{IsUnused};
 
 use crate::gathering::{gather, in_order};
@@ -92,14 +92,14 @@ fn run_turns<
     requires turns { AllByRecursion (λ (t : Turn). IsUnused queue.now jobs t.pass) turns.items }
     requires callable { (number : ℕ) → number < jobs → F.pre work.now number }
     ensures count { IfOk result (λ harvests. vec_len harvests ≡ vec_len turns) }
-    ensures each { IfOk result (λ harvests. (i : ℕ) (t : Turn) (d : Served O) → i < length turns.items → IsHarvest (slice_index_or turns.items i t).pass (slice_index_or harvests.items i d) × AreAnswers (MayGive F.post work.now) (slice_index_or harvests.items i d).answers.items) }
+    ensures each { IfOk result (λ harvests. ArePermittedHarvests (MayGive F.post work.now) turns.items harvests.items) }
 {
     thread::map_vec(
         rt,
         turns,
         &|turn: Turn|
             requires { (turn.pass.queue ≡ queue.now) × (turn.pass.own.taken ≡ []) × ((number : ℕ) → number < turn.pass.own.jobs → F.pre work.now number) }
-            ensures { IsHarvest turn.pass result × AreAnswers (MayGive F.post work.entry.now) result.answers.items }
+            ensures { IsPermittedHarvest (MayGive F.post work.entry.now) turn.pass result }
         { serve_with(rt, alloc, queue, turn.pass, turn.worker, gate, work) },
     )
 }

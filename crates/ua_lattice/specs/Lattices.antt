@@ -19,6 +19,10 @@ pub record AreCongruences (a : FiniteAlgebra) (list : List Partition) : Type 0 w
   pub in_order : IsStrictlySortedBy by_blocks list
   pub congruences : AllByRecursion (IsCongruence a) list
 
+-- each congruence is in the list
+abbrev pub HasCongruences : FiniteAlgebra → List Partition → Type 0
+HasCongruences a list = (p : Partition) → IsCongruence a p → Contains list p
+
 -- all congruences, each once, in order
 pub record IsCongruenceList (a : FiniteAlgebra) (list : List Partition) : Type 0 where
   pub in_order : IsStrictlySortedBy by_blocks list

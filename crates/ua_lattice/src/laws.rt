@@ -6,7 +6,7 @@ ghost use Rattle.ua_part.specs.Partitions.{Partition, IsPartition, IsJoin, ident
 ghost use Rattle.ua_prod.specs.Congruences.{IsCongruence};
 ghost use Rattle.ua_cong.specs.Principals.{HasPrincipals};
 ghost use Rattle.ua_lattice.specs.Answers.{HasLattice};
-ghost use Rattle.ua_lattice.specs.Lattices.{IsJoinClosed, IsJoinedWith, IsCongruenceList, IsExceedingList};
+ghost use Rattle.ua_lattice.specs.Lattices.{HasCongruences, IsJoinClosed, IsJoinedWith, IsCongruenceList, IsExceedingList};
 ghost use Rattle.ua_table.specs.declared.limits.TheConstants.{BUDGET};
 
 use std::alloc::Global;
@@ -16,7 +16,7 @@ use std::alloc::Global;
 /// and H. P. Sankappanavar, A Course in Universal Algebra, chapter II, on congruences).
 pub fn joins()
     ensures congruence { (a : FiniteAlgebra) (p q r : Partition) → IsAlgebra a → IsCongruence a p → IsCongruence a q → IsJoin p q r → IsCongruence a r }
-    ensures complete { (a : FiniteAlgebra) (list : List Partition) → Contains list (identity_on a.size) → HasPrincipals a list → IsJoinClosed list → (q : Partition) → IsCongruence a q → Contains list q }
+    ensures complete { (a : FiniteAlgebra) (list : List Partition) → Contains list (identity_on a.size) → HasPrincipals a list → IsJoinClosed list → HasCongruences a list }
 {}
 
 /// A list that is closed under joins stays so when it goes on with the joins of its members with one

@@ -1,6 +1,5 @@
 -- All matrices of two congruences, and matrices that decide centrality.
 use Rattle.std.proofs.Common.{◌≡◌, ℕ, ◌≤◌, List, length, replicate, sym, subst, arith}
-use Rattle.std.specs.Prelude.{Contains, ◌↔◌}
 use Rattle.std.specs.List.{AllByRecursion}
 use Rattle.ua_table.specs.Algebras.{Vector, FiniteAlgebra, IsAlgebra}
 use Rattle.ua_table.specs.Listings.{vectors_of}
@@ -11,7 +10,7 @@ use Rattle.ua_part.specs.Partitions.{Partition}
 use Rattle.ua_part.specs.Pairs.{related_pairs}
 use Rattle.ua_prod.specs.Congruences.{IsCongruence}
 use Rattle.ua_matrix.specs.declared.deltas.Delta.{Delta}
-use Rattle.ua_matrix.specs.Matrices.{matrix_generators, IsMatrix, Goes, AreFour}
+use Rattle.ua_matrix.specs.Matrices.{matrix_generators, AreMatrices, Goes, AreFour}
 use Rattle.ua_matrix.specs.inner.Deltas.{leading_matrices}
 use Rattle.ua_matrix.specs.Squares.{number_of, AreDeciding}
 use Rattle.ua_matrix.specs.inner.Squares.{left_of, right_of, IsDeltaOf}
@@ -19,7 +18,7 @@ use Rattle.ua_matrix.proofs.MatrixLaws.{fourth_product, generators_vectors}
 use Rattle.ua_matrix.proofs.DeltaDecides.{condition_from_blocks, blocks_from_condition, leading_from_blocks, blocks_from_leading, leading_four, few_matrices}
 
 module _ (a : FiniteAlgebra) (alpha beta : Partition) (alg : IsAlgebra a) (ca : IsCongruence a alpha) (cb : IsCongruence a beta) where
-  pub all_matrices : (matrices : List Vector) × ((m : Vector) → Contains matrices m ↔ IsMatrix a alpha beta m)
+  pub all_matrices : (matrices : List Vector) × AreMatrices a alpha beta matrices
   all_matrices =
       let p = replicate 4 a in
       let listed = closed_exists p (matrix_generators alpha beta) (fourth_product a alg) (generators_vectors a alpha beta ca cb) (cardinality p) (omega arith) in

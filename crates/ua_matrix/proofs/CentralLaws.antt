@@ -1,6 +1,6 @@
 -- What holds of centrality in general: alpha centralizes beta modulo each of the two.
 use Rattle.std.proofs.Common.{ℕ, ◌<◌, Bool, true, false, cond, List, [], ◌∷◌, length, sym, subst, arith}
-use Rattle.std.specs.Prelude.{Contains, ◌↔◌, MatchBool}
+use Rattle.std.specs.Prelude.{MatchBool}
 use Rattle.std.specs.List.{AllByRecursion, AllZip}
 use Rattle.std.proofs.lemmas.List.{length-map}
 use Rattle.ua_table.specs.Algebras.{Vector, FiniteAlgebra, arities_of}
@@ -11,7 +11,7 @@ use Rattle.ua_part.proofs.PartitionLaws.{same_itself, same_back, same_through}
 use Rattle.ua_prod.specs.Congruences.{IsCongruence}
 use Rattle.ua_prod.proofs.CongruenceLaws.{eval_related}
 use Rattle.ua_matrix.specs.Centrality.{Variable, IsRelated, elements, Centralizes}
-use Rattle.ua_matrix.specs.Matrices.{IsMatrix, Goes, Fails}
+use Rattle.ua_matrix.specs.Matrices.{IsMatrix, AreMatrices, Goes, AllGo, Fails}
 use Rattle.ua_matrix.proofs.Deciding.{matrices_from_condition, condition_from_matrices}
 
 -- ---- centrality modulo either of the two
@@ -92,11 +92,11 @@ module _ (a : FiniteAlgebra) (alpha beta : Partition) (ca : IsCongruence a alpha
 
 -- ---- centrality, read off a list of the matrices
 
-module _ (a : FiniteAlgebra) (alpha beta delta : Partition) (matrices : List Vector) (exact : (m : Vector) → Contains matrices m ↔ IsMatrix a alpha beta m) where
-  pub centralizes_from_list : AllByRecursion (Goes delta) matrices → Centralizes a alpha beta delta
+module _ (a : FiniteAlgebra) (alpha beta delta : Partition) (matrices : List Vector) (exact : AreMatrices a alpha beta matrices) where
+  pub centralizes_from_list : AllGo delta matrices → Centralizes a alpha beta delta
   centralizes_from_list h = condition_from_matrices a alpha beta delta (λ m is. all_at (Goes delta) matrices m h ((exact m).1 is))
 
-  pub list_from_centralizes : Centralizes a alpha beta delta → AllByRecursion (Goes delta) matrices
+  pub list_from_centralizes : Centralizes a alpha beta delta → AllGo delta matrices
   list_from_centralizes h = all_from_contains (Goes delta) matrices (λ m c. matrices_from_condition a alpha beta delta h m ((exact m).0 c))
 
 -- a matrix that fails refutes it

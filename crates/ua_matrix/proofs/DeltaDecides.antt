@@ -1,6 +1,6 @@
 -- The term condition, read off the blocks of Delta, and how many matrices there are at most.
 use Rattle.std.proofs.Common.{◌≡◌, ℕ, ◌<◌, Bool, true, false, cond, List, [], ◌∷◌, length, map, replicate, refl, sym, ap, ◌∙◌, subst, arith, ⊎_elim}
-use Rattle.std.specs.Prelude.{Contains, MatchBool, ◌↔◌, ◌==◌, slice_index, slice_get, Some}
+use Rattle.std.specs.Prelude.{Contains, MatchBool, ◌==◌, slice_index, slice_get, Some}
 use Rattle.std.specs.List.{AllByRecursion, range_with_len}
 use Rattle.std.proofs.lemmas.Bool.{cases_eq, eq-eqb, ne_eqb}
 use Rattle.std.proofs.lemmas.List.{length-map}
@@ -19,7 +19,7 @@ use Rattle.ua_part.proofs.PartitionLaws.{leader_same, same_back}
 use Rattle.ua_part.proofs.RelatedLaws.{related_in}
 use Rattle.ua_prod.specs.Congruences.{IsCongruence}
 use Rattle.ua_matrix.specs.Centrality.{Variable, IsRelated, elements, Centralizes}
-use Rattle.ua_matrix.specs.Matrices.{variables_of, matrix_of, matrix_generators, IsMatrix, Goes, AreFour}
+use Rattle.ua_matrix.specs.Matrices.{variables_of, matrix_of, matrix_generators, IsMatrix, AreMatrices, Goes, AllGo, AreFour}
 use Rattle.ua_matrix.specs.Deltas.{IsDelta, matrix_of_rows, HasRelatedRows, AreUniform}
 use Rattle.ua_matrix.specs.inner.Deltas.{leading_matrices}
 use Rattle.ua_matrix.proofs.Deciding.{variables_related, at_0, at_1, at_2, at_3, matrices_from_condition, condition_from_matrices}
@@ -96,7 +96,7 @@ module _ (a : FiniteAlgebra) (alpha beta : Partition) (left right : ℕ → ℕ)
       let r = delta_related m is in
       subst (Goes theta) (sym r.rows) (uniform r.upper r.lower r.related))
 
-  module _ (matrices : List Vector) (exact : (m : Vector) → Contains matrices m ↔ IsMatrix a alpha beta m) where
+  module _ (matrices : List Vector) (exact : AreMatrices a alpha beta matrices) where
     rows_alike : (theta : Partition) → IsCongruence a theta → Centralizes a alpha beta theta → (d e : ℕ) → AreRows a alpha beta left right number b is_delta.pairs d e → is_in theta d ≡ is_in theta e
     rows_alike theta ct central d e r =
         ⊎_elim
@@ -138,7 +138,7 @@ module _ (a : FiniteAlgebra) (alpha beta : Partition) (left right : ℕ → ℕ)
   leader_of : (e : ℕ) → e < length delta → SameBlock delta e (slice_index delta e)
   leader_of e w = leader_same delta is_delta.generated.congruence.partition e w
 
-  pub leading_from_blocks : (theta : Partition) → AreUniform left right delta theta → AllByRecursion (Goes theta) (leading_matrices left right delta)
+  pub leading_from_blocks : (theta : Partition) → AreUniform left right delta theta → AllGo theta (leading_matrices left right delta)
   leading_from_blocks theta uniform = all_from_contains (Goes theta) (leading_matrices left right delta) (λ m c.
       let at = Contains-flat_map_from leading m (range_with_len 0 (length delta)) c in
       let low = range_low 0 (length delta) at.0 at.1 in
@@ -148,7 +148,7 @@ module _ (a : FiniteAlgebra) (alpha beta : Partition) (left right : ℕ → ℕ)
       (λ other. ⊎_elim (λ is. subst (Goes theta) is (uniform at.0 (slice_index delta at.0) s)) (λ none. absurd (Contains-none m none)) (Contains-cases (matrix_of_rows left right at.0 (slice_index delta at.0)) m [] other))
       (Contains-cases (matrix_of_rows left right (slice_index delta at.0) at.0) m (matrix_of_rows left right at.0 (slice_index delta at.0) ∷ []) at.2))
 
-  pub blocks_from_leading : (theta : Partition) → AllByRecursion (Goes theta) (leading_matrices left right delta) → AreUniform left right delta theta
+  pub blocks_from_leading : (theta : Partition) → AllGo theta (leading_matrices left right delta) → AreUniform left right delta theta
   blocks_from_leading theta all d e s first =
       let down =
       at d s.left (matrix_of_rows left right d (slice_index delta d))

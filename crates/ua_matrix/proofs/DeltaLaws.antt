@@ -1,6 +1,6 @@
 -- The congruence Delta is the least partition that relates the two rows of each matrix.
 use Rattle.std.proofs.Common.{◌≡◌, ℕ, suc, ◌<◌, Bool, true, false, List, [], ◌∷◌, ◌++◌, length, map, replicate, refl, sym, ap, ◌∙◌, subst, arith, length-append}
-use Rattle.std.specs.Prelude.{Contains, MatchBool, ◌↔◌, slice_index}
+use Rattle.std.specs.Prelude.{Contains, MatchBool, slice_index}
 use Rattle.std.specs.List.{AllByRecursion, AllZip}
 use Rattle.std.proofs.lemmas.List.{get_or_default}
 use Rattle.std.proofs.lemmas.List.FromFn.{length-range_with_len}
@@ -19,7 +19,7 @@ use Rattle.ua_prod.proofs.CongruenceLaws.{zip_left, zip_right}
 use Rattle.ua_cong.specs.inner.Closings.{IsOne}
 use Rattle.ua_cong.proofs.ClosingLaws.{at_range, all_of_range, related_more}
 use Rattle.ua_matrix.specs.Centrality.{Variable, IsRelated}
-use Rattle.ua_matrix.specs.Matrices.{marked, variables_of, matrix_of, matrix_generators, IsMatrix}
+use Rattle.ua_matrix.specs.Matrices.{marked, variables_of, matrix_of, matrix_generators, IsMatrix, AreMatrices}
 use Rattle.ua_matrix.specs.Deltas.{IsAlgebraOfPairs, diagonal_pairs, matrix_of_rows, HasRelatedRows}
 use Rattle.ua_matrix.proofs.Deciding.{variables_related, variable_in}
 
@@ -248,7 +248,7 @@ module _ (a : FiniteAlgebra) (alpha beta : Partition) (left right : ℕ → ℕ)
 
     -- ---- and Delta in their transitive closure
 
-    module _ (matrices : List Vector) (exact : (m : Vector) → Contains matrices m ↔ IsMatrix a alpha beta m) where
+    module _ (matrices : List Vector) (exact : AreMatrices a alpha beta matrices) where
       -- the two rows of a matrix, by their numbers
       abbrev row_numbers : Vector → ℕ × ℕ
       row_numbers m = (number (slice_index m 0) (slice_index m 1), number (slice_index m 2) (slice_index m 3))

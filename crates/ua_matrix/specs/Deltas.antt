@@ -1,9 +1,12 @@
 -- The algebra of the pairs that a congruence relates, and the congruence Delta on it.
-use Rattle.std.specs.Prelude.{◌≡◌, ℕ, ◌<◌, List, [], ◌∷◌, length, map, slice_index}
+use Rattle.std.specs.Prelude.{◌≡◌, ◌↔◌, ℕ, ◌<◌, List, [], ◌∷◌, length, map, slice_index}
 use Rattle.std.specs.List.{AllByRecursion, range_with_len}
 use Rattle.ua_table.specs.Algebras.{Vector, FiniteAlgebra, IsAlgebra, arities_of, value_at}
-use Rattle.ua_part.specs.Partitions.{Partition, SameBlock}
+use Rattle.ua_part.specs.Partitions.{Partition, SameBlock, LiesBelow}
+use Rattle.ua_part.specs.Pairs.{related_pairs}
+use Rattle.ua_matrix.specs.Centrality.{Centralizes}
 use Rattle.ua_matrix.specs.Matrices.{IsMatrix}
+use Rattle.ua_matrix.specs.Answers.{HasMoreMatrices}
 use Rattle.ua_prod.specs.Congruences.{IsCongruence, IsCg}
 
 -- the elements of b stand for the pairs that beta relates, and its operations are those of a at both places
@@ -51,3 +54,25 @@ pub record RelatesRows (a : FiniteAlgebra) (alpha beta : Partition) (left right 
 -- no block of Delta has a pair that theta relates and one that it does not
 abbrev pub AreUniform : (ℕ → ℕ) → (ℕ → ℕ) → Partition → Partition → Type 0
 AreUniform left right delta theta = (d e : ℕ) → SameBlock delta d e → SameBlock theta (left d) (right d) → SameBlock theta (left e) (right e)
+
+-- ---- what each Delta of two congruences does
+
+-- the two rows of each matrix stand in one block of it
+abbrev pub DeltasHoldMatrices : FiniteAlgebra → Partition → Partition → Type 0
+DeltasHoldMatrices a alpha beta = (left right : ℕ → ℕ) (number : ℕ → ℕ → ℕ) (b : FiniteAlgebra) (delta : Partition) → IsDeltaIn a alpha beta left right number b delta
+    → (m : Vector) → IsMatrix a alpha beta m → HasRelatedRows left right delta m
+
+-- it lies below each partition of the pairs that relates the two rows of each matrix
+abbrev pub DeltasAreLeast : FiniteAlgebra → Partition → Partition → Type 0
+DeltasAreLeast a alpha beta = (left right : ℕ → ℕ) (number : ℕ → ℕ → ℕ) (b : FiniteAlgebra) (delta q : Partition) → IsDeltaIn a alpha beta left right number b delta
+    → RelatesRows a alpha beta left right b q → LiesBelow delta q
+
+-- alpha centralizes beta modulo a congruence exactly where no block of it has a pair of that and one outside
+abbrev pub DeltasDecide : FiniteAlgebra → Partition → Partition → Type 0
+DeltasDecide a alpha beta = (left right : ℕ → ℕ) (number : ℕ → ℕ → ℕ) (b : FiniteAlgebra) (delta theta : Partition) → IsDeltaIn a alpha beta left right number b delta
+    → IsCongruence a theta → Centralizes a alpha beta theta ↔ AreUniform left right delta theta
+
+-- there are no more matrices than pairs that it relates
+abbrev pub DeltasBoundMatrices : FiniteAlgebra → Partition → Partition → Type 0
+DeltasBoundMatrices a alpha beta = (left right : ℕ → ℕ) (number : ℕ → ℕ → ℕ) (b : FiniteAlgebra) (delta : Partition) (n : ℕ) → IsDeltaIn a alpha beta left right number b delta
+    → HasMoreMatrices a alpha beta n → n < length (related_pairs delta)

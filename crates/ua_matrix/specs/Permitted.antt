@@ -3,6 +3,8 @@ use Rattle.std.specs.Prelude.{◌≡◌, ℕ, replicate, Result, Ok, Err}
 use Rattle.ua_table.specs.Algebras.{FiniteAlgebra}
 use Rattle.ua_close.specs.Answers.{IsWide, IsCause}
 use Rattle.ua_close.specs.declared.close.CloseError.{CloseError}
+use Rattle.ua_close.specs.declared.close.CloseError.TheVariants.{OutOfMemory}
+use Rattle.ua_close.specs.Permitted.{IsAnswerable}
 use Rattle.ua_part.specs.Partitions.{Partition}
 use Rattle.ua_matrix.specs.declared.centrality.Central.{Central}
 use Rattle.ua_matrix.specs.Matrices.{matrix_generators}
@@ -12,3 +14,7 @@ use Rattle.ua_matrix.specs.Answers.{TellsCentral, IsSerialCentral}
 abbrev pub MayBeCentral : FiniteAlgebra → Partition → Partition → Partition → ℕ → ℕ → Result Central CloseError → Type 0
 MayBeCentral a alpha beta delta b w (Ok central) = (¬ IsWide (replicate 4 a) (matrix_generators alpha beta) b) × TellsCentral a alpha beta delta b central × (w ≡ 1 → IsSerialCentral a alpha beta delta b central)
 MayBeCentral a alpha beta delta b w (Err error) = IsCause (replicate 4 a) (matrix_generators alpha beta) b error
+
+-- it can be told otherwise than by want of memory
+abbrev pub CanTellCentral : FiniteAlgebra → Partition → Partition → Partition → ℕ → ℕ → Type 0
+CanTellCentral a alpha beta delta b w = IsAnswerable (MayBeCentral a alpha beta delta b w) OutOfMemory

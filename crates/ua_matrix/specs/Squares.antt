@@ -7,7 +7,7 @@ use Rattle.ua_prod.specs.Constructions.{pair_number, place_among}
 use Rattle.ua_prod.specs.Congruences.{IsCongruence}
 use Rattle.ua_close.specs.Answers.{IsWide}
 use Rattle.ua_matrix.specs.Centrality.{Centralizes}
-use Rattle.ua_matrix.specs.Matrices.{matrix_generators, Goes, AreFour}
+use Rattle.ua_matrix.specs.Matrices.{matrix_generators, AllGo, AreFour}
 use Rattle.ua_matrix.specs.Answers.{HasMoreMatrices}
 
 -- the place of the pair of x and y
@@ -19,4 +19,4 @@ pub record AreDeciding (a : FiniteAlgebra) (alpha beta : Partition) (b : ℕ) (m
   pub narrow : ¬ IsWide (replicate 4 a) (matrix_generators alpha beta) b
   pub few : ¬ HasMoreMatrices a alpha beta b
   pub four : AllByRecursion (AreFour a.size) matrices
-  pub decides : (theta : Partition) → IsCongruence a theta → Centralizes a alpha beta theta ↔ AllByRecursion (Goes theta) matrices
+  pub decides : (theta : Partition) → IsCongruence a theta → Centralizes a alpha beta theta ↔ AllGo theta matrices

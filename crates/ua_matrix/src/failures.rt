@@ -3,7 +3,7 @@
 ghost use Rattle.std.specs.Prelude.{◌+◌, ◌<◌, ◌↔◌, [], length, slice_index_or, IsTrue, IfSome, IfNone};
 ghost use Rattle.std.specs.List.{AllByRecursion};
 ghost use Rattle.ua_table.specs.Listings.{vectors_of, ranks_of};
-ghost use Rattle.ua_matrix.specs.Matrices.{AreFour, Goes, Fails, IsFirstFailure};
+ghost use Rattle.ua_matrix.specs.Matrices.{AreFour, AllGo, Fails, IsFirstFailure};
 ghost use Rattle.ua_matrix.specs.inner.Matrices.{IsFirstOfFront};
 
 use ua_close::Listing;
@@ -25,7 +25,7 @@ pub fn failing(matrices: &Vectors, delta: &Part) -> Option<u32>
     requires { AllByRecursion (AreFour (length delta.now)) matrices.now.items }
     ensures within { IfSome result (λ i. i < length matrices.now.items) }
     ensures some { IfSome result (λ i. Fails delta.now (slice_index_or matrices.now.items i [])) }
-    ensures none { IfNone result (AllByRecursion (Goes delta.now) matrices.now.items) }
+    ensures none { IfNone result (AllGo delta.now matrices.now.items) }
 {
     for i in 0..matrices.len() {
         if fails(matrices.get(i), delta) {
@@ -58,7 +58,7 @@ fn first_so_far(list: &Listing, delta: &Part, first: Option<u32>, i: u32) -> Opt
 pub(crate) fn first_failure(list: &Listing, delta: &Part) -> Option<u32>
     requires matrices { AllByRecursion (AreFour (length delta.now)) (vectors_of list.now) }
     ensures some { IfSome result (IsFirstFailure delta.now (vectors_of list.now) (ranks_of list.now)) }
-    ensures none { IfNone result (AllByRecursion (Goes delta.now) (vectors_of list.now)) }
+    ensures none { IfNone result (AllGo delta.now (vectors_of list.now)) }
 {
     let mut first = None;
     for i in 0..list.len() {

@@ -34,6 +34,10 @@ pub record IsMap (p : Product) (gens : List Vector) (b : ℕ) (pairs : List (ℕ
   pub within : length pairs ≤ b
   pub graph : IsGraph p gens
 
+-- so are these of the generators, each with its image
+abbrev pub IsMapOf : FiniteAlgebra → FiniteAlgebra → List ℕ → List ℕ → ℕ → List (ℕ × ℕ) → Type 0
+IsMapOf a b gens images n pairs = IsMap (both a b) (with_images gens images) n pairs
+
 -- steps to two pairs that give x the images y and z, which differ
 pub record IsPairClash (p : Product) (gens : List Vector) (x y z : ℕ) (first second : StepList) : Type 0 where
   pub apart : y ≢ z

@@ -1,9 +1,9 @@
 -- The elements that elements of an algebra generate.
-use Rattle.std.specs.Prelude.{ℕ, List, [], ◌∷◌, map, Contains, ◌↔◌, Vec}
+use Rattle.std.specs.Prelude.{◌≡◌, ℕ, ◌<◌, List, [], ◌∷◌, length, map, slice_index, Contains, ◌↔◌, Vec}
 use Rattle.std.specs.declared.alloc.Global.{Global}
-use Rattle.std.specs.List.{AllZip}
+use Rattle.std.specs.List.{AllByRecursion, AllZip}
 use Rattle.std.specs.List.Sorted.{IsStrictlyIncreasing}
-use Rattle.ua_table.specs.Algebras.{FiniteAlgebra, Vector}
+use Rattle.ua_table.specs.Algebras.{FiniteAlgebra, Vector, arities_of, value_at}
 use Rattle.ua_table.specs.Counting.{numbers_below}
 use Rattle.ua_table.specs.Generated.{Sg}
 
@@ -15,6 +15,10 @@ singles xs = map (λ x. x ∷ []) xs
 pub record AreMembers (a : FiniteAlgebra) (gens members : List ℕ) : Type 0 where
   pub ascending : IsStrictlyIncreasing members
   pub exact : (x : ℕ) → Contains members x ↔ Sg (a ∷ []) (singles gens) (x ∷ [])
+
+-- where these are as many of the members as operation f takes, its value at them is a member
+abbrev pub HoldsValueAt : FiniteAlgebra → List ℕ → ℕ → List ℕ → Type 0
+HoldsValueAt a members f args = f < length (arities_of a) → length args ≡ slice_index (arities_of a) f → AllByRecursion (Contains members) args → Contains members (value_at a f args)
 
 -- what the lists hold
 abbrev pub contents : List (Vec ℕ Global) → List (List ℕ)

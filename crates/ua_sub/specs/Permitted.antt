@@ -3,6 +3,7 @@ use Rattle.std.specs.Prelude.{◌≡◌, ◌≢◌, ℕ, ◌<◌, List, Result, 
 use Rattle.std.specs.List.{AllByRecursion}
 use Rattle.ua_table.specs.Algebras.{FiniteAlgebra, Product, Vector, signature}
 use Rattle.ua_close.specs.Answers.{IsWide, IsCause}
+use Rattle.ua_close.specs.Permitted.{IsAnswerable}
 use Rattle.ua_close.specs.declared.close.CloseError.TheVariants as causes
 use Rattle.ua_sub.specs.declared.homs.Hom.{Hom}
 use Rattle.ua_sub.specs.declared.homs.HomError.{HomError}
@@ -21,6 +22,10 @@ abbrev pub MayMap : FiniteAlgebra → FiniteAlgebra → List ℕ → List ℕ �
 MayMap a b gens images budget workers (Err Signature) = signature b ≢ signature a
 MayMap a b gens images budget workers (Err OutOfMemory) = Unit {0}
 MayMap a b gens images budget workers result = (signature b ≡ signature a) × MayMapPairs (both a b) (with_images gens images) budget workers result
+
+-- it can be told otherwise than by want of memory
+abbrev pub CanTellMap : FiniteAlgebra → FiniteAlgebra → List ℕ → List ℕ → ℕ → ℕ → Type 0
+CanTellMap a b gens images budget workers = IsAnswerable (MayMap a b gens images budget workers) OutOfMemory
 
 -- these are elements of the algebra
 abbrev pub AreElements : FiniteAlgebra → List ℕ → Type 0

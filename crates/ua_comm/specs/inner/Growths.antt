@@ -1,16 +1,15 @@
 -- Congruences that grow until each matrix of a list goes with them: what private functions say.
 use Rattle.std.specs.Prelude.{◌<◌, List}
-use Rattle.std.specs.List.{AllByRecursion}
 use Rattle.ua_table.specs.Counting.{total}
 use Rattle.ua_table.specs.Algebras.{FiniteAlgebra, Vector}
 use Rattle.ua_part.specs.Partitions.{Partition, LiesBelow}
 use Rattle.ua_prod.specs.Congruences.{IsCongruence}
-use Rattle.ua_matrix.specs.Matrices.{Goes, Fails}
+use Rattle.ua_matrix.specs.Matrices.{Goes, AllGo, Fails}
 
 -- a congruence that lies below every congruence with which each matrix goes
 pub record IsGrowing (a : FiniteAlgebra) (matrices : List Vector) (delta : Partition) : Type 0 where
   pub congruence : IsCongruence a delta
-  pub within : (other : Partition) → IsCongruence a other → AllByRecursion (Goes other) matrices → LiesBelow delta other
+  pub within : (other : Partition) → IsCongruence a other → AllGo other matrices → LiesBelow delta other
 
 -- the entries of q have a lesser total than those of p
 abbrev pub IsLower : Partition → Partition → Type 0
