@@ -1,4 +1,4 @@
-use Rattle.std.proofs.Common.{◌≤◌, length, arith}
+use Rattle.std.proofs.Common.{arith}
 use Rattle.ua_rows.proofs.RowLaws.{length-rows_at}
 use Rattle.ua_bases.specs.Bases.{row_at}
 use Rattle.ua_work.specs.inner.Replicas.{values_in}
