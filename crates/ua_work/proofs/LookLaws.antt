@@ -8,15 +8,16 @@ use Rattle.ua_log.specs.Rule.{MayStand}
 use Rattle.ua_log.specs.Moves.{sees, missed, IsAlone}
 use Rattle.ua_log.specs.Seats.{SeatView, IsOwn, with_worker}
 use Rattle.ua_log.proofs.Words.{prefix_self}
-use Rattle.ua_work.specs.declared.goals.Goal.{Goal}
+use Rattle.ua_work.specs.declared.puts.Job.{Job}
 use Rattle.ua_work.specs.declared.replicas.Replica.{Replica}
 use Rattle.ua_work.specs.inner.Looks.{HasMissed}
+use Rattle.ua_work.specs.Goals.{Meets}
 use Rattle.ua_work.specs.Harvests.{HasLeft}
 use Rattle.ua_work.specs.Serials.{HasCome}
-use Rattle.ua_work.specs.inner.Replicas.{values_in, value_in, IsReplica, SameClosure}
+use Rattle.ua_work.specs.inner.Replicas.{values_in, value_in, IsReplica, SameClosure, SameRecords}
 use Rattle.ua_work.specs.Beginnings.{IsFurther}
-use Rattle.ua_work.specs.inner.Workings.{IsWorking, GoesOn, AreDone, Comes}
-use Rattle.ua_work.proofs.WorkLaws.{for_same, further_trans, further_sees, working_sees}
+use Rattle.ua_work.specs.inner.Workings.{IsWorking, IsAtWork, HasWorked, AreDone, Comes}
+use Rattle.ua_work.proofs.WorkLaws.{for_same, same_trans, further_trans, further_sees, working_sees, still_at_work}
 
 pub missed_self : (s : SeatView) → HasMissed s s
 missed_self s = record { misses = s.own.misses; same = refl }
@@ -41,13 +42,14 @@ pub missed_working : (r : Replica) (s t : SeatView) → HasMissed s t → IsWork
 missed_working r s t h k = subst (λ (x : SeatView). IsWorking r x.own) (sym h.same) record { replica = k.replica; values_are = k.values_are; puts = k.puts; note = k.note }
 
 -- the worker has entered the record that was found
-module _ (r new : Replica) (s t : SeatView) (x : Origin) (k : IsWorking r s.own) (same : SameClosure r new) (replica : IsReplica new) (own : IsOwn s.made s.kept s.own)
-    (more : values_in new ≡ values_in r ++ value_in r x ∷ []) where
-  pub found_working : HasMissed (with_worker s (sees s.own x)) t → IsWorking new t.own
-  found_working h = let seen : SeatView = with_worker s (sees s.own x) in missed_working new seen t h (working_sees r new s seen x k same replica own more refl)
+pub found_working : {r new : Replica} {s t : SeatView} → IsWorking r s.own → SameClosure r new → IsReplica new → IsOwn s.made s.kept s.own → (x : Origin)
+    → values_in new ≡ values_in r ++ value_in r x ∷ [] → HasMissed (with_worker s (sees s.own x)) t → IsWorking new t.own
+found_working {r} {new} {s} {t} k same replica own x more h =
+    let seen : SeatView = with_worker s (sees s.own x) in
+    missed_working new seen t h (working_sees r new s seen x k same replica own more refl)
 
-pub missed_goes : (goal : Goal) (r : Replica) (s t : SeatView) → HasMissed s t → GoesOn goal r s.own → GoesOn goal r t.own
-missed_goes goal r s t h k = record { working = missed_working r s t h k.working; unmet = k.unmet }
+pub missed_work : {j : Job} {r : Replica} {s t : SeatView} → HasMissed s t → IsAtWork j r s → IsAtWork j r t
+missed_work {j} {r} {s} {t} h k = record { home = ap (λ (x : SeatView). x.home) h.same ∙ k.home; job = k.job; goes = record { working = missed_working r s t h k.goes.working; unmet = k.goes.unmet } }
 
 pub missed_come : (r two : Replica) (s t : SeatView) (x : List ℕ) → HasMissed s t → SameClosure r two → Comes r s.own x → Comes two t.own x
 missed_come r two s t x h same come = subst (λ (y : SeatView). Comes two y.own x) (sym h.same) (for_same (λ p gens. HasCome p gens s.own.seen x) r two same come)
@@ -75,3 +77,17 @@ pub found_further : (s t : SeatView) (o : Origin) → HasMissed (with_worker s (
 found_further s t o h =
     let seen : SeatView = with_worker s (sees s.own o) in
     further_trans s seen t (further_sees s seen o refl) (missed_further seen t h)
+
+-- so the worker has worked, where its replica is of the same records, or has that one more
+pub missed_worked : {r new : Replica} {s t : SeatView} → SameRecords r new → HasMissed s t → HasWorked s r t new
+missed_worked {r} {new} {s} {t} same h = record { closure = same.closure; seat = missed_further s t h }
+
+pub found_worked : {r two new : Replica} {s t : SeatView} → SameRecords r two → SameClosure two new → (o : Origin) → HasMissed (with_worker s (sees s.own o)) t → HasWorked s r t new
+found_worked {r} {two} {new} {s} {t} same closure o h = record { closure = same_trans r two new same.closure closure; seat = found_further s t o h }
+
+-- and is at work, where its rows do not meet the goal
+pub found_work : {j : Job} {r new : Replica} {s t : SeatView} → IsAtWork j r s → SameClosure r new → IsReplica new → IsOwn s.made s.kept s.own → (x : Origin)
+    → values_in new ≡ values_in r ++ value_in r x ∷ [] → ¬ Meets j.goal.now new.rows.items → HasMissed (with_worker s (sees s.own x)) t → IsAtWork j new t
+found_work {j} {r} {new} {s} {t} work closure replica own x more unmet h =
+    let worked : HasWorked s r t new = record { closure = closure; seat = found_further s t x h } in
+    still_at_work work worked record { working = found_working work.goes.working closure replica own x more h; unmet = unmet }

@@ -3,9 +3,7 @@
 ghost use Rattle.std.specs.Prelude.{◌≡◌, ◌<◌, length, None, MatchOption, MatchResult};
 ghost use Rattle.ua_log.specs.Moves.{IsAlone};
 ghost use Rattle.ua_work.specs.inner.Looks.{LooksTell};
-ghost use Rattle.ua_work.specs.inner.Replicas.{SameClosure};
-ghost use Rattle.ua_work.specs.Beginnings.{IsFurther};
-ghost use Rattle.ua_work.specs.inner.Workings.{GoesOn, Stops, IsJobOf};
+ghost use Rattle.ua_work.specs.inner.Workings.{IsAtWork, HasWorked, Stops};
 
 use crate::harvests::End;
 use crate::puts::{Job, take_in};
@@ -33,12 +31,9 @@ pub(crate) fn look_often(board: &Board, seat: &mut Seat, looks: u32) -> Option<O
 
 /// Looks for the next record, so often at most, and enters it. Answers whether there was one.
 fn see_next(job: &Job, seat: &mut Seat, replica: &mut Replica, looks: u32) -> Result<bool, End>
-    requires home { seat.old.home ≡ job.now.board.now }
-    requires job { IsJobOf replica.old job.now }
-    requires working { GoesOn job.now.goal.now replica.old seat.old.own }
-    ensures closure { SameClosure replica.old replica.new }
-    ensures seat { IsFurther seat.old seat.new }
-    ensures done { MatchResult result (λ found. GoesOn job.now.goal.now replica.new seat.new.own) (Stops job.now.goal.now job.now.board.now.plan replica.new seat.new.own) }
+    requires work { IsAtWork job.now replica.old seat.old }
+    ensures worked { HasWorked seat.old replica.old seat.new replica.new }
+    ensures done { MatchResult result (λ found. IsAtWork job.now replica.new seat.new) (Stops job.now.goal.now replica.new seat.new) }
 {
     if Board::seen(seat) >= job.budget {
         return Ok(false);
@@ -57,12 +52,9 @@ fn see_next(job: &Job, seat: &mut Seat, replica: &mut Replica, looks: u32) -> Re
 
 /// Enters the records that come, until so many looks find none. A lone worker, for which none come, does not look.
 pub(crate) fn catch_up(job: &Job, seat: &mut Seat, replica: &mut Replica, looks: u32) -> Option<End>
-    requires home { seat.old.home ≡ job.now.board.now }
-    requires job { IsJobOf replica.old job.now }
-    requires working { GoesOn job.now.goal.now replica.old seat.old.own }
-    ensures closure { SameClosure replica.old replica.new }
-    ensures seat { IsFurther seat.old seat.new }
-    ensures done { MatchOption result (GoesOn job.now.goal.now replica.new seat.new.own) (Stops job.now.goal.now job.now.board.now.plan replica.new seat.new.own) }
+    requires work { IsAtWork job.now replica.old seat.old }
+    ensures worked { HasWorked seat.old replica.old seat.new replica.new }
+    ensures done { MatchOption result (IsAtWork job.now replica.new seat.new) (Stops job.now.goal.now replica.new seat.new) }
     ensures lone { IsAlone seat.old.made seat.old.own → MatchOption result (seat.new ≡ seat.old) (λ end. ⊥) }
 {
     if !Board::is_shared(seat) {
