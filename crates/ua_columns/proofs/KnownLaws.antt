@@ -9,21 +9,13 @@ use Rattle.std.proofs.lemmas.List.FromFn.{length-map-range_with_len, get_or-map-
 use Rattle.std.proofs.lemmas.List.{get_or-map}
 use Rattle.ua_table.specs.Algebras.{Vector}
 use Rattle.ua_table.proofs.Lists.{all_take}
-use Rattle.ua_columns.specs.inner.Tiles.{looked_at, looked_across, word_at, byte_word_at, IsKeyAt}
+use Rattle.ua_columns.specs.inner.Tiles.{looked_at, looked_across, word_at, byte_word_at, AreWords, AreByteWords, IsKeyAt}
 use Rattle.ua_columns.specs.Columns.{limit, digits, base, AreBelow, entry_of, word_of, key_of, tiles_for, words_for, block_of, vector_in, vectors_in, AreColumns, AreLines, AreByteLines, AreLinesOf, values_at}
 use Rattle.ua_columns.specs.inner.Columns.{AreDigits}
 use Rattle.ua_columns.proofs.TileLaws.{digits_of_word, same_digits}
 use Rattle.ua_columns.proofs.ListLaws.{all_drop, all_map_range, map_range_same, length_range, range_index}
 use Rattle.ua_columns.proofs.ColumnLaws.{entry_low, some_limit, limit_base}
 use Rattle.ua_columns.proofs.PushLaws.{block_whole}
-
--- what the words of a block's values are: in each place one for each lane
-abbrev pub AreWords : List (List (List ℕ)) → List (List (List ℕ)) → List (List ℕ) → Type 0
-AreWords lines block values = (j : ℕ) → j < length values → slice_index_or values j [] ≡ map (word_at (slice_index_or lines j []) (slice_index_or block j [])) (range_with_len 0 16)
-
--- the same where a word has a byte for each of eight coordinates
-abbrev pub AreByteWords : List (List (List ℕ)) → List (List (List ℕ)) → List (List ℕ) → Type 0
-AreByteWords lines block values = (j : ℕ) → j < length values → slice_index_or values j [] ≡ map (byte_word_at (slice_range lines (4 * (j / 2)) (4 * (j / 2) + 4)) (slice_index_or block (j / 2) []) (8 * (j % 2))) (range_with_len 0 16)
 
 pub half_digits : (f : ℕ → ℕ → ℕ) (lines block : List (List (List ℕ))) (values : List (List ℕ)) → AreLines f lines → length lines ≡ length values → AreBelow 16 block → AreWords lines block values → AreDigits false f block values
 half_digits f lines block values are long small are_words j r below low =

@@ -1,5 +1,5 @@
 -- Vectors with entries below sixteen or sixty-four, sixteen side by side: a tile has sixteen of their coordinates, each a column, and a block as many tiles as their width needs. An entry takes half a byte of a word, or a byte.
-use Rattle.std.specs.Prelude.{◌≡◌, ℕ, ◌+◌, ◌-◌, ◌*◌, ◌/◌, ◌%◌, ◌^◌, ◌<◌, ◌≤◌, Bool, true, false, if◌then◌else◌, IsTrue, List, [], length, map, slice_index, slice_index_or, slice_range, Vec, vec_len, vec_capacity}
+use Rattle.std.specs.Prelude.{◌≡◌, ℕ, ◌+◌, ◌-◌, ◌*◌, ◌/◌, ◌%◌, ◌^◌, ◌<◌, ◌≤◌, Bool, true, false, if◌then◌else◌, IsTrue, List, [], length, map, slice_index, slice_index_or, slice_range, Contains, Vec, vec_len, vec_capacity}
 use Rattle.std.specs.List.{AllByRecursion, range_with_len}
 use Rattle.std.specs.Int.{div_ceil}
 use Rattle.std.specs.Simd.Lanes.{number_l}
@@ -107,3 +107,8 @@ AreLinesOf false f lines = AreLines f lines
 -- the values at the entries of a vector
 abbrev pub values_at : (ℕ → ℕ → ℕ) → Vector → Vector
 values_at f v = map (λ x. f x (slice_index v x)) (range_with_len 0 (length v))
+
+-- each bit that is set is that of a vector of a block of sixteen, at which the values are a vector that is there
+abbrev pub AreKnown : List Vector → (ℕ → ℕ → ℕ) → ℕ → ℕ → Type 0
+AreKnown items f block bits =
+    (r : ℕ) → r < 16 → bits / 2 ^ r % 2 ≡ 1 → (16 * block + r < length items) × Contains items (values_at f (slice_index_or items (16 * block + r) []))

@@ -1,8 +1,8 @@
 //! The values of lines at a block of sixteen vectors, and whether they are the vectors of some keys.
 
-ghost use Rattle.std.specs.Prelude.{◌≡◌, ℕ, ◌+◌, ◌<◌, ◌≤◌, ◌-◌, [], length, map, slice_index, slice_index_or, slice_range, IsTrue, true, false, ◌*◌, ◌/◌, ◌%◌, ◌^◌};
-ghost use Rattle.std.specs.List.{AllByRecursion, range_with_len};
-ghost use Rattle.ua_columns.specs.inner.Tiles.{word_at, byte_word_at, IsSomeKeyAt};
+ghost use Rattle.std.specs.Prelude.{◌≡◌, ℕ, ◌+◌, ◌<◌, ◌≤◌, ◌-◌, [], length, slice_index, slice_index_or, IsTrue, true, false, ◌*◌, ◌/◌, ◌%◌, ◌^◌};
+ghost use Rattle.std.specs.List.{AllByRecursion};
+ghost use Rattle.ua_columns.specs.inner.Tiles.{AreWords, AreByteWords, IsSomeKeyAt};
 ghost use Rattle.ua_columns.specs.Columns.{limit, tables, AreBelow, AreLinesOf};
 ghost use Rattle.ua_columns.specs.inner.Columns.{AreDigits};
 
@@ -21,7 +21,7 @@ fn write_words(lines: &[Tile], tiles: &[Tile], out: &mut [[u64; 16]]) -> [u64; 1
     requires tiles { AllByRecursion (AllByRecursion (AllByRecursion (λ x. x < 16))) tiles.now }
     requires as_many_lines { length lines.now ≡ length out.old }
     requires as_many_tiles { length tiles.now ≡ length out.old }
-    ensures { (j : ℕ) → j < length out.new → slice_index_or out.new j [] ≡ map (word_at (slice_index_or lines.now j []) (slice_index_or tiles.now j [])) (range_with_len 0 16) }
+    ensures { AreWords lines.now tiles.now out.new }
 {
     let mut hashes = [SEED; 16];
     for j in 0..out.len() {
@@ -39,7 +39,7 @@ fn write_byte_words(lines: &[Tile], tiles: &[Tile], out: &mut [[u64; 16]]) -> [u
     requires tiles { AllByRecursion (AllByRecursion (AllByRecursion (λ x. x < 64))) tiles.now }
     requires four_lines { length lines.now ≡ 4 * length tiles.now }
     requires within { length out.old ≤ 2 * length tiles.now }
-    ensures { (j : ℕ) → j < length out.new → slice_index_or out.new j [] ≡ map (byte_word_at (slice_range lines.now (4 * (j / 2)) (4 * (j / 2) + 4)) (slice_index_or tiles.now (j / 2) []) (8 * (j % 2))) (range_with_len 0 16) }
+    ensures { AreByteWords lines.now tiles.now out.new }
 {
     let mut hashes = [SEED; 16];
     for j in 0..out.len() {

@@ -1,9 +1,9 @@
 //! Vectors with entries below sixteen or sixty-four: by columns in blocks of sixteen vectors, by packed words, and with
 //! a front that guesses a vector by its hash.
 
-ghost use Rattle.std.specs.Prelude.{◌≡◌, ◌≢◌, ℕ, ◌+◌, ◌-◌, ◌*◌, ◌/◌, ◌%◌, ◌^◌, ◌<◌, ◌≤◌, ◌++◌, [], ◌∷◌, length, slice_index, slice_index_or, take, Contains, OnOk, IfOk};
+ghost use Rattle.std.specs.Prelude.{◌≡◌, ◌≢◌, ℕ, ◌+◌, ◌-◌, ◌*◌, ◌/◌, ◌%◌, ◌^◌, ◌<◌, ◌≤◌, ◌++◌, [], ◌∷◌, length, slice_index, slice_index_or, take, OnOk, IfOk};
 ghost use Rattle.std.specs.List.{AllByRecursion};
-ghost use Rattle.ua_columns.specs.Columns.{limit, digits, base, tables, AreBelow, entry_of, word_of, key_of, block_of, tiles_for, words_for, AreLinesOf, values_at};
+ghost use Rattle.ua_columns.specs.Columns.{limit, digits, base, tables, AreBelow, entry_of, word_of, key_of, block_of, tiles_for, words_for, AreLinesOf, AreKnown};
 
 use crate::blocks::{known_lanes, write_digits};
 use crate::fronts::{FRONT, enter, first_bits, hash_of, reserve_slots};
@@ -296,7 +296,7 @@ impl Columns {
         requires bytes { AreBelow 256 lines.now }
         requires values { length values.old ≡ words_for self.now.in_bytes self.now.width }
         ensures values { length values.new ≡ length values.old }
-        ensures known { (f : ℕ → ℕ → ℕ) → AreLinesOf self.now.in_bytes f lines.now → (r : ℕ) → r < 16 → result / 2 ^ r % 2 ≡ 1 → (16 * block + r < length self.now.items) × Contains self.now.items (values_at f (slice_index_or self.now.items (16 * block + r) [])) }
+        ensures known { (f : ℕ → ℕ → ℕ) → AreLinesOf self.now.in_bytes f lines.now → AreKnown self.now.items f block result }
     {
         let tiles = block_in(self.tiles.as_slice(), self.parts, block);
         let hashes = write_digits(lines, tiles, self.in_bytes, values);

@@ -1,11 +1,11 @@
 //! Vectors with entries below a size, by words of four entries each, with a front that guesses a vector by its hash.
 
-ghost use Rattle.std.specs.Prelude.{◌≡◌, ℕ, ◌+◌, ◌*◌, ◌/◌, ◌%◌, ◌^◌, ◌<◌, ◌≤◌, ◌++◌, [], ◌∷◌, length, take, slice_index, slice_index_or, slice_range, Contains, OnOk, IfOk};
+ghost use Rattle.std.specs.Prelude.{◌≡◌, ℕ, ◌+◌, ◌*◌, ◌/◌, ◌%◌, ◌^◌, ◌<◌, ◌≤◌, ◌++◌, [], ◌∷◌, length, take, slice_index, slice_index_or, slice_range, OnOk, IfOk};
 ghost use Rattle.std.specs.List.{AllByRecursion};
 ghost use Rattle.ua_table.specs.Algebras.{column};
 ghost use Rattle.ua_rows.specs.RowLists.{rows_at};
 ghost use Rattle.ua_rows.specs.Words.{lanes_of, words_for};
-ghost use Rattle.ua_columns.specs.Columns.{values_at};
+ghost use Rattle.ua_columns.specs.Columns.{AreKnown};
 ghost use Rattle.ua_columns.specs.Quads.{AreLongLines};
 
 use crate::fronts::{FRONT, enter, first_bits, hash_of, reserve_slots};
@@ -211,7 +211,7 @@ impl Quads {
         requires lines { 4 * self.now.size * words_for self.now.width ≤ length lines.now }
         requires values { length values.old ≡ LANES * words_for self.now.width }
         ensures values { length values.new ≡ length values.old }
-        ensures known { (f : ℕ → ℕ → ℕ) → AreLongLines self.now.size self.now.width f lines.now → (r : ℕ) → r < 16 → result / 2 ^ r % 2 ≡ 1 → (16 * block + r < length self.now.items) × Contains self.now.items (values_at f (slice_index_or self.now.items (16 * block + r) [])) }
+        ensures known { (f : ℕ → ℕ → ℕ) → AreLongLines self.now.size self.now.width f lines.now → AreKnown self.now.items f block result }
     {
         let count = (self.count - LANES * block).min(LANES);
         let keys = block_keys(self.keys.as_slice(), self.words, block, count);

@@ -17,7 +17,7 @@ use Rattle.ua_rows.proofs.ApplyForms.{size_is}
 use Rattle.ua_columns.specs.inner.Tiles.{value_across}
 use Rattle.ua_columns.specs.Columns.{limit, entry_of, values_at}
 use Rattle.ua_lanes.specs.Lines.{AreSizesAtMost, size_at, algebra_at, line_value}
-use Rattle.ua_lanes.specs.inner.Lines.{scale_at}
+use Rattle.ua_lanes.specs.inner.Lines.{table_value, scale_at}
 use Rattle.ua_rows.proofs.LineLaws.{all_or}
 
 -- ---- the algebra of a coordinate
@@ -139,7 +139,7 @@ line_past p f vs free x y past = ap (λ (b : Bool). if b then value_at (algebra_
 -- ---- the value of a table is that of the line
 
 pub line_is : (p : Product) (f x : ℕ) (a : FiniteAlgebra) (o : Operation) → IsProduct p → slice_get p x ≡ Some a → slice_get a.operations f ≡ Some o → (vs : List Vector) (free y : ℕ) (xs : List ℕ) → xs ≡ column vs x
-    → (if nat_lt y o.size then slice_index o.values (numeral o.size (slice_set xs free y)) else 0) ≡ line_value p f vs free x y
+    → table_value o xs free y ≡ line_value p f vs free x y
 line_is p f x a o h at e vs free y xs is =
     let size : o.size ≡ a.size = size_is p f x a h at o e in
     let there : size_at p x ≡ o.size = size_there p x a at ∙ sym size in

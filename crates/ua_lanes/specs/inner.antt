@@ -1,6 +1,6 @@
 -- The lines of one operation over an algebra of any size.
 pub mod LargeLanes
--- How the values in lines are scaled.
+-- The values of a table in a line, and how they are scaled.
 pub mod Lines
 -- The lines of one operation.
 pub mod Windows

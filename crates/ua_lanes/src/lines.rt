@@ -1,13 +1,13 @@
 //! The lines of an operation: its values at one coordinate, where one argument is free.
 
-ghost use Rattle.std.specs.Prelude.{◌≡◌, ◌≢◌, ℕ, ◌+◌, ◌*◌, ◌/◌, ◌%◌, ◌<◌, ◌≤◌, nat_lt, if◌then◌else◌, IsTrue, false, [], length, take, slice_index, slice_index_or, slice_set};
+ghost use Rattle.std.specs.Prelude.{◌≡◌, ◌≢◌, ℕ, ◌+◌, ◌*◌, ◌/◌, ◌%◌, ◌<◌, ◌≤◌, IsTrue, false, [], length, take, slice_index, slice_index_or, slice_set};
 ghost use Rattle.std.specs.List.{AllByRecursion};
 ghost use Rattle.ua_table.specs.Algebras.{arities, column, numeral};
 ghost use Rattle.ua_rows.specs.RowLists.{rows_at};
 ghost use Rattle.ua_columns.specs.Columns.{limit, AreBelow, AreLines, AreByteLines, AreLinesOf};
 ghost use Rattle.ua_columns.specs.inner.Tiles.{value_across};
 ghost use Rattle.ua_lanes.specs.Lines.{line_value};
-ghost use Rattle.ua_lanes.specs.inner.Lines.{scale_at};
+ghost use Rattle.ua_lanes.specs.inner.Lines.{table_value, scale_at};
 ghost use Rattle.ua_lanes.specs.Windows.{AreVectors};
 
 use ua_columns::{Columns, LANES, Tile, set_entry};
@@ -91,7 +91,7 @@ fn line_at<const PARTS: usize>(
     requires some { 0 < scale }
     requires scale { table.now.size * scale ≤ 256 }
     ensures bytes { AllByRecursion (AllByRecursion (λ x. x < 256)) result }
-    ensures values { (y : ℕ) → y < 16 * PARTS → value_across result y ≡ scale * (if nat_lt y table.now.size then slice_index table.now.values (numeral table.now.size (slice_set (take arity args) free y)) else 0) }
+    ensures values { (y : ℕ) → y < 16 * PARTS → value_across result y ≡ scale * table_value table.now (take arity args) free y }
 {
     let (start, step) = line_in(table, args, arity, free);
     let mut line = [[0; 16]; PARTS];

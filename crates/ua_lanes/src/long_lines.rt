@@ -1,10 +1,11 @@
 //! The lines of an operation on algebras of any size: its values at each coordinate, where one argument is free.
 
-ghost use Rattle.std.specs.Prelude.{◌≡◌, ℕ, ◌+◌, ◌*◌, ◌^◌, ◌<◌, ◌≤◌, nat_lt, if◌then◌else◌, length, take, slice_index, slice_set};
+ghost use Rattle.std.specs.Prelude.{◌≡◌, ℕ, ◌+◌, ◌*◌, ◌^◌, ◌<◌, ◌≤◌, length, take, slice_index};
 ghost use Rattle.std.specs.List.{AllByRecursion};
-ghost use Rattle.ua_table.specs.Algebras.{arities, numeral};
+ghost use Rattle.ua_table.specs.Algebras.{arities};
 ghost use Rattle.ua_rows.specs.RowLists.{rows_at};
 ghost use Rattle.ua_lanes.specs.Lines.{line_value};
+ghost use Rattle.ua_lanes.specs.inner.Lines.{table_value};
 ghost use Rattle.ua_columns.specs.Quads.{AreLongLines};
 ghost use Rattle.ua_lanes.specs.LargeLanes.{AreQuadVectors};
 
@@ -21,7 +22,7 @@ fn fill_line(table: &OpTable, args: [Elem; 4], arity: usize, free: usize, line: 
     requires below { AllByRecursion (λ x. x < table.now.size) (take arity args) }
     requires short { length line.old < 2 ^ 16 }
     ensures length { length line.new ≡ length line.old }
-    ensures values { (y : ℕ) → y < length line.new → slice_index line.new y ≡ (if nat_lt y table.now.size then slice_index table.now.values (numeral table.now.size (slice_set (take arity args) free y)) else 0) }
+    ensures values { (y : ℕ) → y < length line.new → slice_index line.new y ≡ table_value table.now (take arity args) free y }
 {
     let size = table.size() as usize;
     let (start, step) = line_in(table, args, arity, free);

@@ -1,5 +1,5 @@
 -- The bytes and words of tiles, and the values looked up in them.
-use Rattle.std.specs.Prelude.{◌≡◌, ℕ, ◌+◌, ◌/◌, ◌%◌, ◌<◌, List, [], ◌∷◌, ◌++◌, length, map, slice_index, slice_index_or}
+use Rattle.std.specs.Prelude.{◌≡◌, ℕ, ◌+◌, ◌*◌, ◌/◌, ◌%◌, ◌<◌, List, [], ◌∷◌, ◌++◌, length, map, slice_index, slice_index_or, slice_range}
 use Rattle.std.specs.List.{AllByRecursion, range_with_len}
 use Rattle.std.specs.Simd.Lanes.{number_l, pick_l}
 use Rattle.ua_columns.specs.Tiles.{key_at}
@@ -42,6 +42,14 @@ looked_across lines columns r c = value_across (map (λ (tile : List (List ℕ))
 -- the word of lane r: a byte for each of eight coordinates, from this one on
 abbrev pub byte_word_at : List (List (List ℕ)) → List (List ℕ) → ℕ → ℕ → ℕ
 byte_word_at lines columns first r = number_l 256 (map (λ c. looked_across lines columns r (first + c)) (range_with_len 0 8))
+
+-- what the words of a block's values are: in each place one for each lane
+abbrev pub AreWords : List (List (List ℕ)) → List (List (List ℕ)) → List (List ℕ) → Type 0
+AreWords lines block values = (j : ℕ) → j < length values → slice_index_or values j [] ≡ map (word_at (slice_index_or lines j []) (slice_index_or block j [])) (range_with_len 0 16)
+
+-- the same where a word has a byte for each of eight coordinates
+abbrev pub AreByteWords : List (List (List ℕ)) → List (List (List ℕ)) → List (List ℕ) → Type 0
+AreByteWords lines block values = (j : ℕ) → j < length values → slice_index_or values j [] ≡ map (byte_word_at (slice_range lines (4 * (j / 2)) (4 * (j / 2) + 4)) (slice_index_or block (j / 2) []) (8 * (j % 2))) (range_with_len 0 16)
 
 -- key i has the words of a lane
 abbrev pub IsKeyAt : List ℕ → ℕ → ℕ → List (List ℕ) → ℕ → Type 0
