@@ -25,7 +25,7 @@ use Rattle.ua_reply.specs.Sessions.{Bounds, AreAlgebras}
 use Rattle.ua_reply.specs.Checks.{Passes, passed}
 use Rattle.ua_reply.specs.Replies.{HasBytes, AnsweredOn}
 use Rattle.ua_reply.proofs.CheckLaws.{known_step}
-use Rattle.ua_reply.proofs.ReplyExistence.{known_table, answered_on}
+use Rattle.ua_reply.proofs.RepliesExist.{known_table, answered_on}
 use Rattle.ua_answer_conditions.specs.CondCommand as words
 use Rattle.ua_answer_conditions.specs.CondCommand.{nu_checks}
 use Rattle.ua_chain.specs.declared.least_chains.NamedKind.TheVariants as asked

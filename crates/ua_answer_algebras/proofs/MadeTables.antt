@@ -33,7 +33,7 @@ use Rattle.ua_reply.specs.Parts.{part_in}
 use Rattle.ua_reply.specs.Refusals.{refusal_text}
 use Rattle.ua_reply.proofs.CheckLaws.{parts_pass, each_passes}
 use Rattle.ua_reply.proofs.OperandLaws.{values_below}
-use Rattle.ua_reply.proofs.ReplyExistence.{passes_from, known_table, known_passes}
+use Rattle.ua_reply.proofs.RepliesExist.{passes_from, known_table, known_passes}
 use Rattle.ua_answer_algebras.specs.MakeCommand.{Of, MayMake, make_checks, operation_in, operations_in, repeated, numbers_of, with_made, Makes, MakeReply}
 use Rattle.ua_answer_algebras.proofs.Reducts.{numbers_below, different}
 

@@ -34,7 +34,7 @@ use Rattle.ua_reply.specs.Checks.{Passes, passed, checks_in, first_error}
 use Rattle.ua_reply.specs.Operands.{values_of, elements_in}
 use Rattle.ua_reply.specs.Refusals.{refusal_text, congruence_text}
 use Rattle.ua_reply.proofs.OperandLaws.{values_below}
-use Rattle.ua_reply.proofs.ReplyExistence.{passes_from, known_passes, known_algebra}
+use Rattle.ua_reply.proofs.RepliesExist.{passes_from, known_passes, known_algebra}
 use Rattle.ua_reply.specs.Parts.{blocks_of, part_in}
 use Rattle.ua_reply.proofs.PartLaws.{blocks_true, part_blocks}
 use Rattle.ua_answer_algebras.specs.MakeCommand.{Of, MayGenerate, MayMake, make_checks, make_text, with_made, numbers_of, operations_in, Makes, MakeReply, HasReply, MayQuotientBy}

@@ -43,7 +43,7 @@ use Rattle.ua_reply.specs.Replies.{HasBytes}
 use Rattle.ua_reply.specs.Texts.{line, element_text, set_text}
 use Rattle.ua_reply.proofs.CheckLaws.{parts_pass}
 use Rattle.ua_reply.proofs.OperandLaws.{values_below, vectors_admitted, width_positive}
-use Rattle.ua_reply.proofs.ReplyExistence.{some_said, says_exists, known_algebra, answered_on, answered_on_both}
+use Rattle.ua_reply.proofs.RepliesExist.{some_said, says_exists, known_algebra, answered_on, answered_on_both}
 use Rattle.ua_answer_algebras.specs.CloseCommand.{close_checks, MayCloseLeast, ClosureAnswer, CloseReply}
 use Rattle.ua_answer_algebras.specs.MemberCommand.{member_checks, MemberAnswer, MemberReply}
 use Rattle.ua_answer_algebras.specs.FreeCommand.{FreeReply}

@@ -16,7 +16,7 @@ use ua_reply::{
     push_counted_steps, push_element, refusal_reply,
 };
 use ua_script::{Items, Word};
-use ua_sub::calls::hom;
+use ua_sub::extending::hom;
 use ua_sub::{Hom, HomError};
 use ua_table::{Elem, Gate};
 use ua_text::Place;

@@ -43,7 +43,7 @@ use Rattle.ua_reply.specs.Refusals.{refusal_text}
 use Rattle.ua_reply.specs.Replies.{HasBytes, AnsweredOn}
 use Rattle.ua_reply.specs.Texts.{line, vector_text}
 use Rattle.ua_reply.proofs.CheckLaws.{parts_pass, known_step}
-use Rattle.ua_reply.proofs.ReplyExistence.{some_said, says_exists, known_algebra, answered_on}
+use Rattle.ua_reply.proofs.RepliesExist.{some_said, says_exists, known_algebra, answered_on}
 use Rattle.ua_answer_conditions.specs.CondCommand.{condition_of, nu_checks, ConditionAnswer, CondReply, NuReply}
 use Rattle.ua_answer_conditions.specs.ConditionCommand as written
 use Rattle.ua_answer_conditions.specs.ConditionCommand.{condition_checks, ConditionReply}

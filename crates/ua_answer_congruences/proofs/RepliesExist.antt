@@ -33,7 +33,7 @@ use Rattle.ua_reply.specs.Texts.{line}
 use Rattle.ua_reply.proofs.CheckLaws.{parts_pass}
 use Rattle.ua_reply.proofs.OperandLaws.{pairs_below}
 use Rattle.ua_reply.proofs.PartLaws.{blocks_true, part_blocks}
-use Rattle.ua_reply.proofs.ReplyExistence.{says_exists, known_table, answered_on}
+use Rattle.ua_reply.proofs.RepliesExist.{says_exists, known_table, answered_on}
 use Rattle.ua_answer_congruences.specs.Congruences.{OfCongruence}
 use Rattle.ua_answer_congruences.specs.CgCommand.{CgAnswer, CgReply}
 use Rattle.ua_answer_congruences.specs.ConCommand.{lattice_text, ConAnswer, ConReply}

@@ -13,7 +13,7 @@ use std::alloc::{AllocError, Global};
 use std::thread::Threads;
 use ua_close::CloseError;
 use ua_matrix::Central;
-use ua_matrix::calls::central;
+use ua_matrix::centralizing::central;
 use ua_reply::{
     Context, Known, Refusal, cause_reply, part_in, push_counted, push_counted_steps, push_vector,
     refusal_reply,

@@ -14,7 +14,7 @@ use ua_part::push_number;
 use ua_reply::{Context, Known, Refusal, cause_reply, push_counted, push_pair, refusal_reply};
 use ua_script::Word;
 use ua_table::Gate;
-use ua_type::calls::types;
+use ua_type::labelling::types;
 use ua_type::{Typed, Types};
 
 /// Appends a type, and the pair at which it is read.

@@ -36,9 +36,9 @@ use Rattle.ua_close.proofs.AnswerLaws.{wide_or}
 use Rattle.ua_close.proofs.KindLaws.{one_kind}
 use Rattle.ua_close.proofs.MetLaws.{vector_or}
 use Rattle.ua_close.proofs.RowSteps.{steps_exist}
-use Rattle.ua_walk.specs.Ladders.{LinkLists, IsAllowed, HasLeastClimb, HasReached}
-use Rattle.ua_walk.proofs.ClimbLaws.{marked_low}
-use Rattle.ua_walk.proofs.ClimbsExist.{bool_or, both_or, test_of, climb_exists}
+use Rattle.ua_climb.specs.Ladders.{LinkLists, IsAllowed, HasLeastClimb, HasReached}
+use Rattle.ua_climb.proofs.ClimbLaws.{marked_low}
+use Rattle.ua_climb.proofs.ClimbsExist.{bool_or, both_or, test_of, climb_exists}
 use Rattle.ua_identity.specs.Chains.{ChainKind, power_of, generators_of}
 use Rattle.ua_identity.specs.Identities.{VariablePattern, xxy, xyx, xyy}
 use Rattle.ua_identity.specs.KindTables.{pattern_at, own_of, kind_of, IsKindTable}

@@ -10,7 +10,7 @@ use Rattle.ua_table.specs.Terms.{Tree, Generator, IsTerm, eval}
 use Rattle.ua_table.proofs.Lists.{Contains-slice_get, found, AllZip-length}
 use Rattle.ua_chain.proofs.ZipLaws.{alternates_zip, alternates_unzip, all_zip, all_unzip, ends_unzip, ends_weaker, even_zip}
 use Rattle.ua_table.specs.Sequences.{BeginsWith, EndsWith, ends_even}
-use Rattle.ua_walk.specs.Ladders.{LinkLists, Joins, IsAllowed, IsClimb, IsLeastClimb, IsClimbed}
+use Rattle.ua_climb.specs.Ladders.{LinkLists, Joins, IsAllowed, IsClimb, IsLeastClimb, IsClimbed}
 use Rattle.ua_identity.specs.Chains.{ChainKind, AreLinked, IsPlace, IsOwn, IsBeginning, IsChain, IsLeastChain, IsReached}
 use Rattle.ua_identity.specs.Kinds.{IsKind}
 use Rattle.ua_identity.specs.Patterns.{all_fillings, vector_of}

@@ -16,11 +16,11 @@ use Rattle.ua_table.specs.Listings.{Row, vectors_of, IsClosedListing}
 use Rattle.ua_table.specs.Orders.{IsSerialListing}
 use Rattle.ua_table.proofs.Lists.{mapped_at, found, all_from_contains, all_from_places}
 use Rattle.ua_term.specs.Steps.{StepList}
-use Rattle.ua_walk.specs.declared.ladders.Climb.{Climb}
+use Rattle.ua_climb.specs.declared.ladders.Climb.{Climb}
 use Rattle.ua_table.specs.Sequences.{BeginsWith, EndsWith}
-use Rattle.ua_walk.specs.Ladders.{LinkLists, IsAllowed, IsLeastClimb, HasNoClimb}
-use Rattle.ua_walk.specs.Climbs.{TellsClimb}
-use Rattle.ua_walk.proofs.ClimbLaws.{marked_low}
+use Rattle.ua_climb.specs.Ladders.{LinkLists, IsAllowed, IsLeastClimb, HasNoClimb}
+use Rattle.ua_climb.specs.Climbs.{TellsClimb}
+use Rattle.ua_climb.proofs.ClimbLaws.{marked_low}
 use Rattle.ua_identity.specs.Identities.{VariablePattern, TermIdentity, Satisfies}
 use Rattle.ua_table.proofs.GeneratedLaws.{generator_in}
 use Rattle.ua_table.proofs.FrameLaws.{arities_of_power}

@@ -14,7 +14,7 @@ use Rattle.ua_table.specs.Listings.{Row, vectors_of}
 use Rattle.ua_table.proofs.Lists.{all_weaker}
 use Rattle.ua_table.specs.Terms.{Tree, eval}
 use Rattle.ua_table.specs.Generated.{Sg}
-use Rattle.ua_walk.specs.Ladders.{LinkLists, Joins, IsAllowed}
+use Rattle.ua_climb.specs.Ladders.{LinkLists, Joins, IsAllowed}
 use Rattle.ua_term.specs.Assignments.{projection}
 use Rattle.ua_identity.specs.Identities.{VariablePattern, TermIdentity, Satisfies}
 use Rattle.ua_identity.specs.Chains.{ChainKind, Link, AreLinked, power_of, generators_of}
@@ -24,19 +24,19 @@ use Rattle.ua_chain.specs.inner.Charts.{IsRowOf, IsChart}
 use Rattle.ua_identity.proofs.PatternLaws.{part_is, linked_from_parts, parts_from_linked, satisfied_from_part, part_from_satisfied}
 use Rattle.ua_identity.proofs.KindLaws.{part_within, entries_are}
 use Rattle.ua_identity.proofs.ChainLaws.{term_of_member}
-use Rattle.ua_identity.specs.declared.kinds.Part.{Part}
+use Rattle.ua_identity.specs.declared.kinds.CoordinateRange.{CoordinateRange}
 use Rattle.ua_identity.specs.declared.kinds.PatternPair.{PatternPair}
 use Rattle.ua_chain.specs.inner.Classes.{entries_at, AreLinksBy}
 use Rattle.ua_identity.specs.KindTables.{pattern_at, own_of, link_of, blank, IsPartOf}
 use Rattle.ua_chain.specs.inner.RowsOf.{part_at, HasOwnAt, AreOwnRows, AreLinksAt, HaveWidth}
 
 -- the coordinates of a pattern are among the entries of each vector
-pub part_in_all : (n : ℕ) (ps : List VariablePattern) (m : ℕ) (p : Part) (vs : List Vector) → m < length ps → IsPartOf n ps m p → HaveWidth n ps vs → AllByRecursion (λ (v : Vector). p.to ≤ length v) vs
+pub part_in_all : (n : ℕ) (ps : List VariablePattern) (m : ℕ) (p : CoordinateRange) (vs : List Vector) → m < length ps → IsPartOf n ps m p → HaveWidth n ps vs → AllByRecursion (λ (v : Vector). p.to ≤ length v) vs
 part_in_all n ps m p vs l h w =
     let within = (part_within n ps m p l h).1 in
     all_weaker (λ (v : Vector). length v ≡ length (all_fillings n ps)) (λ (v : Vector). p.to ≤ length v) (λ v e. omega (arith, within, e)) vs w
 
-pub parts_in_all : (n : ℕ) (ps : List VariablePattern) (pair : PatternPair) (p q : Part) (vs : List Vector) → pair.first < length ps
+pub parts_in_all : (n : ℕ) (ps : List VariablePattern) (pair : PatternPair) (p q : CoordinateRange) (vs : List Vector) → pair.first < length ps
     → pair.second < length ps → IsPartOf n ps pair.first p → IsPartOf n ps pair.second q → HaveWidth n ps vs
     → AllByRecursion (λ (v : Vector). (p.to ≤ length v) × (q.to ≤ length v)) vs
 parts_in_all n ps pair p q vs l m h k w =
@@ -45,7 +45,7 @@ parts_in_all n ps pair p q vs l m h k w =
     all_weaker (λ (v : Vector). length v ≡ length (all_fillings n ps)) (λ (v : Vector). (p.to ≤ length v) × (q.to ≤ length v)) (λ v e. (omega (arith, one, e), omega (arith, two, e))) vs w
 
 -- the rows with the values of place 0 are the allowed ones
-pub own_rows_from : (n : ℕ) (kind : ChainKind) (rows : List Row) (m : ℕ) (p : Part) (values lent : List ℕ) (r : Result (Vec Bool Global) AllocError)
+pub own_rows_from : (n : ℕ) (kind : ChainKind) (rows : List Row) (m : ℕ) (p : CoordinateRange) (values lent : List ℕ) (r : Result (Vec Bool Global) AllocError)
     → kind.own ≡ own_of kind.patterns (Some m) → m < length kind.patterns → IsPartOf n kind.patterns m p → lent ≡ values
     → values ≡ projection n (pattern_at kind.patterns m).variables (slice_index (pattern_at kind.patterns m).places 0)
     → IfOk r (λ allowed. length allowed.items ≡ length rows)
@@ -64,7 +64,7 @@ own_rows_from n kind rows m p values lent (Ok allowed) own low part same are cou
 }
 own_rows_from n kind rows m p values lent (Err e) own low part same are count h = tt
 
-pub links_from : (n : ℕ) (ps : List VariablePattern) (pair : PatternPair) (vs : List Vector) (p q : Part) (links : LinkLists) → pair.first < length ps
+pub links_from : (n : ℕ) (ps : List VariablePattern) (pair : PatternPair) (vs : List Vector) (p q : CoordinateRange) (links : LinkLists) → pair.first < length ps
     → pair.second < length ps → IsPartOf n ps pair.first p → IsPartOf n ps pair.second q → AreLinksBy vs p q links → AreLinksAt n ps pair vs links
 links_from n ps pair vs p q links l m a b h = record {
   count = h.count;
@@ -76,7 +76,7 @@ links_from n ps pair vs p q links l m a b h = record {
       );
 }
 
-pub links_from_ok : (n : ℕ) (ps : List VariablePattern) (pair : PatternPair) (vs : List Vector) (p q : Part) (r : Result LinkLists AllocError)
+pub links_from_ok : (n : ℕ) (ps : List VariablePattern) (pair : PatternPair) (vs : List Vector) (p q : CoordinateRange) (r : Result LinkLists AllocError)
     → pair.first < length ps → pair.second < length ps → IsPartOf n ps pair.first p → IsPartOf n ps pair.second q → IfOk r (AreLinksBy vs p q)
     → IfOk r (AreLinksAt n ps pair vs)
 links_from_ok n ps pair vs p q (Ok links) l m a b h = links_from n ps pair vs p q links l m a b h

@@ -16,7 +16,7 @@ use ua_close::{Listing, steps_for};
 use ua_identity::Kind;
 use ua_table::{Algebra, Frame, Origin, Vectors};
 use ua_term::Steps;
-use ua_walk::Climb;
+use ua_climb::Climb;
 
 /// What is answered when a least chain is asked for.
 #[derive(Drop, Debug)]

@@ -3,7 +3,7 @@
 ghost use Rattle.std.specs.Prelude.{◌≡◌, ◌↔◌, ◌⊎◌, ◌<◌, ◌≤◌, ℕ, Bool, List, true, length, slice_index_or, IfOk, false};
 ghost use Rattle.ua_table.specs.declared.limits.TheConstants.{SIZE, WIDTH, BUDGET};
 ghost use Rattle.ua_table.specs.Listings.{vectors_of};
-ghost use Rattle.ua_walk.specs.Ladders.{IsAllowed};
+ghost use Rattle.ua_climb.specs.Ladders.{IsAllowed};
 ghost use Rattle.ua_identity.specs.Patterns.{all_fillings};
 ghost use Rattle.ua_chain.specs.inner.RowsOf.{AreOwnRows, HaveWidth};
 ghost use Rattle.ua_chain.specs.inner.ClimbsIn.{IsClimbIn};
@@ -12,7 +12,7 @@ use crate::rows::{links_at, own_rows};
 use std::alloc::{AllocError, Global};
 use ua_close::Listing;
 use ua_identity::Kind;
-use ua_walk::{Climb, least_climb};
+use ua_climb::{Climb, least_climb};
 
 /// A least climb over the rows from the start to the end, or the rows that climbs lead to.
 pub(crate) fn climb_in(

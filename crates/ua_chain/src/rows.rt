@@ -4,7 +4,7 @@ ghost use Rattle.std.specs.Prelude.{◌≡◌, ◌↔◌, ◌+◌, ◌<◌, ◌�
 ghost use Rattle.std.specs.List.{AllByRecursion};
 ghost use Rattle.ua_table.specs.Algebras.{Vector};
 ghost use Rattle.ua_table.specs.Listings.{vectors_of};
-ghost use Rattle.ua_walk.specs.Ladders.{IsAllowed};
+ghost use Rattle.ua_climb.specs.Ladders.{IsAllowed};
 ghost use Rattle.ua_table.specs.declared.limits.TheConstants.{SIZE, WIDTH};
 ghost use Rattle.ua_identity.specs.Patterns.{all_fillings};
 ghost use Rattle.ua_chain.specs.inner.Classes.{entries_at};
@@ -14,15 +14,15 @@ ghost use Rattle.ua_chain.specs.inner.RowsOf.{AreOwnRows, AreLinksAt, HaveWidth}
 use crate::classes::links_by;
 use std::alloc::{AllocError, Global};
 use ua_close::Listing;
-use ua_identity::{Kind, Part, PatternPair};
+use ua_identity::{CoordinateRange, Kind, PatternPair};
 use ua_table::Elem;
-use ua_walk::Links;
+use ua_climb::Links;
 
 /// Which rows have these values at a part.
 fn rows_with(
     alloc: Global,
     list: &Listing,
-    part: Part,
+    part: CoordinateRange,
     values: &[Elem],
 ) -> Result<Vec<bool>, AllocError>
     requires order { part.from ≤ part.to }

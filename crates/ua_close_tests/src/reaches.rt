@@ -11,7 +11,7 @@ use std::alloc::Global;
 use std::process::Abort;
 use std::test::Fail;
 use std::thread::Threads;
-use ua_close::calls::reach;
+use ua_close::reaching::reach;
 use ua_close::{FreeGate, Goal, Listing, Reach, Run};
 use ua_table::{Frame, Vectors};
 

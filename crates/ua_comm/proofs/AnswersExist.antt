@@ -21,7 +21,7 @@ use Rattle.ua_comm.specs.declared.members.Kind.{Kind}
 use Rattle.ua_comm.specs.declared.members.Series.TheVariants.{Whole, Exceeds}
 use Rattle.ua_comm.specs.Series.{partner, IsSuccessorWithin, IsBeginning, last_member}
 use Rattle.ua_comm.specs.Permitted.{MayCommute, MayDescend}
-use Rattle.ua_comm.proofs.ExistenceLaws.{commutator_exists}
+use Rattle.ua_comm.proofs.CommutatorsExist.{commutator_exists}
 use Rattle.ua_comm.proofs.MemberLaws.{left_to_rise}
 use Rattle.ua_comm.proofs.SeriesLaws.{last_more, beginning_more, last_congruence, partner_congruence, successor_rises, member_bounded}
 

@@ -2,5 +2,5 @@ pub mod CommutatorLaws
 pub mod GrowthLaws
 pub mod SeriesLaws
 pub mod MemberLaws
-pub mod ExistenceLaws
+pub mod CommutatorsExist
 pub mod AnswersExist

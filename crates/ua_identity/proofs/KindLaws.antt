@@ -5,7 +5,7 @@ use Rattle.std.proofs.lemmas.Bool.{cases_lt}
 use Rattle.std.proofs.lemmas.List.Elements.{Contains-push, Contains-append_left}
 use Rattle.std.proofs.lemmas.Option.{slice_get-get_or, get_or_from_slice_get}
 use Rattle.ua_table.specs.Algebras.{Vector}
-use Rattle.ua_identity.specs.declared.kinds.Part.{Part}
+use Rattle.ua_identity.specs.declared.kinds.CoordinateRange.{CoordinateRange}
 use Rattle.ua_table.specs.Counting.{numbers_below}
 use Rattle.ua_table.proofs.Lists.{all_at}
 use Rattle.ua_identity.specs.Chains.{ChainKind}
@@ -92,7 +92,7 @@ pub some_fillings : (n : ℕ) (kind : ChainKind) → IsKind kind → 0 < n → 0
 some_fillings n kind k some = let there = (apart_at kind 0 k k.some).there.1 in patterns_wide n kind.patterns some (omega (arith, there))
 
 -- the coordinates of a pattern are among all, and as many as its fillings
-pub part_within : (n : ℕ) (ps : List VariablePattern) (m : ℕ) (p : Part) → m < length ps → IsPartOf n ps m p → (p.from ≤ p.to) × (p.to ≤ length (all_fillings n ps)) × (p.to - p.from ≡ length (fillings n (pattern_at ps m)))
+pub part_within : (n : ℕ) (ps : List VariablePattern) (m : ℕ) (p : CoordinateRange) → m < length ps → IsPartOf n ps m p → (p.from ≤ p.to) × (p.to ≤ length (all_fillings n ps)) × (p.to - p.from ≡ length (fillings n (pattern_at ps m)))
 part_within n ps m p l h =
     let q = pattern_at ps m in
     let from = h.from_is in
@@ -103,6 +103,6 @@ part_within n ps m p l h =
     (omega (arith, from, to, more), omega (arith, to, below), omega (arith, from, to, more, count))
 
 -- the entries at a pattern's coordinates are the vector's part there
-pub entries_are : (n : ℕ) (ps : List VariablePattern) (m : ℕ) (p : Part) (v : Vector) → m < length ps → IsPartOf n ps m p → slice_range v p.from p.to ≡ part_of n ps m (pattern_at ps m) v
+pub entries_are : (n : ℕ) (ps : List VariablePattern) (m : ℕ) (p : CoordinateRange) (v : Vector) → m < length ps → IsPartOf n ps m p → slice_range v p.from p.to ≡ part_of n ps m (pattern_at ps m) v
 entries_are n ps m p v l h =
     ap (λ k. take k (drop p.from v)) (part_within n ps m p l h).2 ∙ ap (λ k. take (length (fillings n (pattern_at ps m))) (drop k v)) h.from_is

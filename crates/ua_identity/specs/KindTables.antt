@@ -7,7 +7,7 @@ use Rattle.ua_identity.specs.Chains.{Link, ChainKind}
 use Rattle.ua_identity.specs.Kinds.{IsKind}
 use Rattle.ua_identity.specs.Patterns.{start_of}
 use Rattle.ua_identity.specs.declared.kinds.PatternPair.{PatternPair}
-use Rattle.ua_identity.specs.declared.kinds.Part.{Part}
+use Rattle.ua_identity.specs.declared.kinds.CoordinateRange.{CoordinateRange}
 
 -- no pattern
 abbrev pub blank : VariablePattern
@@ -43,7 +43,7 @@ kind_of places ps own even odd by_parity = record {
 }
 
 -- the coordinates of pattern m: from where they begin to where those of the next would
-pub record IsPartOf (n : ℕ) (ps : List VariablePattern) (m : ℕ) (part : Part) : Type 0 where
+pub record IsPartOf (n : ℕ) (ps : List VariablePattern) (m : ℕ) (part : CoordinateRange) : Type 0 where
   pub from_is : part.from ≡ start_of n ps m
   pub to_is : part.to ≡ start_of n ps (m + 1)
 

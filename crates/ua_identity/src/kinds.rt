@@ -25,7 +25,7 @@ pub struct PatternPair {
 
 /// The coordinates from one up to, not including, another.
 #[derive(Clone, Copy, Debug)]
-pub struct Part {
+pub struct CoordinateRange {
     pub from: u32,
     pub to: u32,
 }
@@ -156,13 +156,13 @@ impl Kind {
     }
 
     /// The coordinates of pattern m.
-    pub fn part(&self, size: u32, m: usize) -> Part
+    pub fn part(&self, size: u32, m: usize) -> CoordinateRange
         requires small { size ≤ SIZE }
         requires narrow { length (all_fillings size self.now.patterns) ≤ WIDTH }
         requires pattern { m < length self.now.patterns }
         ensures { IsPartOf size self.now.patterns m result }
     {
-        Part {
+        CoordinateRange {
             from: start_of(size, self.patterns.as_slice(), m),
             to: start_of(size, self.patterns.as_slice(), m + 1),
         }

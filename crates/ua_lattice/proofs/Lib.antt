@@ -7,4 +7,4 @@ pub mod CoverLaws
 pub mod PairLaws
 pub mod PrincipalLaws
 pub mod WholeLaws
-pub mod LatticeExist
+pub mod LatticesExist

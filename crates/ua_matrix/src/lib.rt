@@ -1,7 +1,7 @@
 //! The term condition of two congruences, and the matrices that decide it.
 #![tactic(auto)]
 
-pub mod calls;
+pub mod centralizing;
 mod centrality;
 mod deltas;
 mod failures;

@@ -4,4 +4,4 @@ pub mod Answering
 pub mod PartLaws
 mod Rows
 mod SessionLaws
-pub mod ReplyExistence
+pub mod RepliesExist

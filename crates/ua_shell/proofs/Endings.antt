@@ -1,8 +1,8 @@
 -- How runs end.
 use Rattle.std.proofs.Common.{◌≡◌, ◌⊎◌, inr, ℕ, List, Option, Err, refl, ap, subst}
-use Rattle.ua_words.specs.declared.words.Settings.{Settings}
-use Rattle.ua_words.specs.Words.{Asks}
-use Rattle.ua_words.proofs.OptionValues.{asked_once}
+use Rattle.ua_options.specs.declared.words.Settings.{Settings}
+use Rattle.ua_options.specs.Words.{Asks}
+use Rattle.ua_options.proofs.OptionValues.{asked_once}
 use Rattle.ua_shell.specs.declared.status.Status.{Status}
 use Rattle.ua_shell.specs.declared.status.Status.TheVariants as status
 use Rattle.ua_shell.specs.Reads.{IsThere}

@@ -9,9 +9,9 @@ use Rattle.ua_script.specs.declared.script.Command.{Command}
 use Rattle.ua_script.specs.declared.script.Item.{Item}
 use Rattle.ua_script.specs.declared.script.Item.TheVariants as items
 use Rattle.ua_script.specs.declared.script.Script.{Script}
-use Rattle.ua_words.specs.declared.words.Settings.{Settings}
-use Rattle.ua_words.specs.declared.words.TheConstants.{USUAL_BUDGET}
-use Rattle.ua_words.specs.Words.{Budget, value_of, IsNumber, Asks}
+use Rattle.ua_options.specs.declared.words.Settings.{Settings}
+use Rattle.ua_options.specs.declared.words.TheConstants.{USUAL_BUDGET}
+use Rattle.ua_options.specs.Words.{Budget, value_of, IsNumber, Asks}
 use Rattle.ua_reply.specs.Sessions.{Bounds, AreAlgebras, AreBounds}
 use Rattle.ua_reply.specs.Replies.{HasBytes}
 use Rattle.ua_answer_algebras.specs.MakeCommand.{HasReply}

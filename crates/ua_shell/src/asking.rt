@@ -2,7 +2,7 @@
 
 ghost use Rattle.std.specs.Prelude.{◌≤◌, IfOk, IfSome};
 ghost use Rattle.std.specs.List.{AllByRecursion};
-ghost use Rattle.ua_words.specs.declared.words.TheConstants.{SEED};
+ghost use Rattle.ua_options.specs.declared.words.TheConstants.{SEED};
 ghost use Rattle.ua_shell.specs.inner.Outputs.{IsServed};
 ghost use Rattle.ua_shell.specs.Reads.{HasScript, IsThere};
 ghost use Rattle.ua_shell.specs.inner.Reads.{IsGiven, MayAsk, MayRead};

@@ -3,7 +3,7 @@
 ghost use Rattle.std.specs.Prelude.{◌≡◌, ◌≤◌, codes, IfOk, OnOk};
 ghost use Rattle.ua_prod.specs.Draws.{state_after};
 ghost use Rattle.ua_script.specs.Grammar.{IsWellFormed};
-ghost use Rattle.ua_words.specs.declared.words.TheConstants.{SEED};
+ghost use Rattle.ua_options.specs.declared.words.TheConstants.{SEED};
 ghost use Rattle.ua_shell.specs.Generated.{word, number, values_drawn, drawn_block, drawn_vector, drawn_vectors, closing, congruences, generated};
 
 use std::alloc::{AllocError, Global};
@@ -123,7 +123,7 @@ fn congruences(alloc: Global) -> Result<Command, AllocError>
     })
 }
 
-/// The script that is generated from a number up to `ua_words::SEED`: an algebra, the size of the closure of
+/// The script that is generated from a number up to `ua_options::SEED`: an algebra, the size of the closure of
 /// four vectors, and the congruences of the algebra. What it consists of stands at line and column 0.
 pub fn generated_script(alloc: Global, n: u32) -> Result<Script, AllocError>
     requires { n ≤ SEED }

@@ -2,8 +2,8 @@
 
 ghost use Rattle.std.specs.Prelude.{◌↔◌, ◌≤◌, ℕ, List, length};
 ghost use Rattle.ua_table.specs.declared.limits.TheConstants.{SCRIPT};
-ghost use Rattle.ua_words.specs.declared.words.Settings.{Settings};
-ghost use Rattle.ua_words.specs.Words.{Asks};
+ghost use Rattle.ua_options.specs.declared.words.Settings.{Settings};
+ghost use Rattle.ua_options.specs.Words.{Asks};
 ghost use Rattle.ua_script.specs.declared.script.Script.{Script};
 ghost use Rattle.ua_script.specs.Grammar.{migrated, IsScript};
 ghost use Rattle.ua_reply.specs.Sessions.{Bounds, AreBounds};

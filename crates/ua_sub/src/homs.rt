@@ -13,7 +13,7 @@ ghost use Rattle.ua_sub.specs.Permitted.{MayMapPairs};
 use std::alloc::{AllocError, Global};
 use std::thread::Threads;
 use thiserror::Error;
-use ua_close::calls::reach;
+use ua_close::reaching::reach;
 use ua_close::{CloseError, Goal, Listing, Reach, laws, steps_for};
 use ua_table::{Elem, Frame, Gate, Listed, Run, Vectors};
 use ua_term::Steps;

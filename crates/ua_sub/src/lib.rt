@@ -1,7 +1,7 @@
 //! Subalgebras, and homomorphisms.
 #![tactic(auto)]
 
-pub mod calls;
+pub mod extending;
 mod flaws;
 mod homs;
 pub mod laws;

@@ -3,7 +3,7 @@
 use std::test::Fail;
 use ua_table::limits::SCRIPT;
 use ua_text::Tokens;
-use ua_text::calls::tokens;
+use ua_text::tokenizing::tokens;
 
 /// The tokens of a text.
 pub fn tokens_of(text: &str) -> Result<Tokens<'_>, Fail> {

@@ -1,7 +1,7 @@
 //! Subtraces and types of covers in the lattice of congruences.
 #![tactic(auto)]
 
-pub mod calls;
+pub mod labelling;
 mod descents;
 mod generators;
 mod known;

@@ -9,7 +9,7 @@ ghost use Rattle.ua_type.specs.Subtraces.{pair_generators, IsBefore};
 use crate::generators::pair_generators;
 use std::alloc::Global;
 use std::thread::Threads;
-use ua_close::calls::reach;
+use ua_close::reaching::reach;
 use ua_close::{CloseError, Closure, Gate, Goal, Listing, Reach, Run, close_set};
 use ua_table::{Algebra, Elem, Frame};
 

@@ -3,7 +3,7 @@ use Rattle.std.specs.Prelude.{◌≡◌, ◌↔◌, ℕ, Bool, List, length, sli
 use Rattle.ua_table.specs.Algebras.{Vector, FiniteAlgebra, arities_of}
 use Rattle.ua_table.specs.Terms.{Tree, IsTerm}
 use Rattle.ua_table.specs.Generated.{Sg}
-use Rattle.ua_walk.specs.Ladders.{LinkLists, Joins, IsAllowed}
+use Rattle.ua_climb.specs.Ladders.{LinkLists, Joins, IsAllowed}
 use Rattle.ua_identity.specs.Chains.{ChainKind, AreLinked, IsOwn, power_of, generators_of}
 use Rattle.ua_identity.specs.Patterns.{vector_of}
 

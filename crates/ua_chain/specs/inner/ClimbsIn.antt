@@ -1,9 +1,9 @@
 -- Climbs over the rows of a closed listing.
 use Rattle.std.specs.Prelude.{◌≡◌, ℕ, ◌<◌, Bool, List, length}
 use Rattle.ua_table.specs.Algebras.{Vector}
-use Rattle.ua_walk.specs.declared.ladders.Climb.{Climb}
-use Rattle.ua_walk.specs.Ladders.{LinkLists}
-use Rattle.ua_walk.specs.Climbs.{TellsClimb}
+use Rattle.ua_climb.specs.declared.ladders.Climb.{Climb}
+use Rattle.ua_climb.specs.Ladders.{LinkLists}
+use Rattle.ua_climb.specs.Climbs.{TellsClimb}
 use Rattle.ua_identity.specs.Chains.{ChainKind}
 use Rattle.ua_identity.specs.declared.kinds.PatternPair.{PatternPair}
 use Rattle.ua_identity.specs.KindTables.{link_of}

@@ -3,7 +3,7 @@ use Rattle.std.specs.Prelude.{◌≡◌, ◌↔◌, ℕ, ◌<◌, ◌≤◌, ◌
 use Rattle.std.specs.Option.{IfSome}
 use Rattle.std.specs.List.{AllByRecursion}
 use Rattle.ua_table.specs.Algebras.{Vector}
-use Rattle.ua_walk.specs.Ladders.{LinkLists, Joins, IsAllowed}
+use Rattle.ua_climb.specs.Ladders.{LinkLists, Joins, IsAllowed}
 use Rattle.ua_identity.specs.Identities.{VariablePattern}
 use Rattle.ua_identity.specs.Chains.{ChainKind}
 use Rattle.ua_term.specs.Assignments.{projection}

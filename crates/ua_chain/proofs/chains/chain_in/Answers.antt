@@ -4,7 +4,7 @@ use Rattle.std.specs.List.{AllByRecursion}
 use Rattle.ua_table.specs.Listings.{vectors_of}
 use Rattle.ua_table.proofs.ListingLaws.{closed_has_no_more}
 use Rattle.ua_term.specs.Steps.{StepList}
-use Rattle.ua_walk.specs.declared.ladders.Climb.TheVariants.{Rows, Reached}
+use Rattle.ua_climb.specs.declared.ladders.Climb.TheVariants.{Rows, Reached}
 use Rattle.ua_chain.specs.inner.Closures.{AreStepsAt, AreEvenNumbers, AreOddNumbers}
 use Rattle.ua_chain.specs.inner.ClimbsIn.{IsClimbIn}
 use Rattle.ua_chain.proofs.VectorLaws.{closure_from, end_made, some_generators, some_places}

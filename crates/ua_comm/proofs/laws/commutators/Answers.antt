@@ -1,5 +1,5 @@
 use Rattle.ua_comm.proofs.CommutatorLaws.{commutator_grown, one_commutator, commutator_below_first, commutator_below_second}
-use Rattle.ua_comm.proofs.ExistenceLaws.{commutator_exists}
+use Rattle.ua_comm.proofs.CommutatorsExist.{commutator_exists}
 use Rattle.ua_comm.proofs.laws.commutators.Goals as goal
 
 pub returns-clause-grown : goal.returns-clause-grown

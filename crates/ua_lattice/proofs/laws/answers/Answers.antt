@@ -1,4 +1,4 @@
-use Rattle.ua_lattice.proofs.LatticeExist.{lattice_told}
+use Rattle.ua_lattice.proofs.LatticesExist.{lattice_told}
 use Rattle.ua_lattice.proofs.laws.answers.Goals as goal
 
 pub returns : goal.returns
