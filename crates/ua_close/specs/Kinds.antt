@@ -1,10 +1,16 @@
 -- Which kind of listing there is.
 use Rattle.std.specs.Prelude.{ℕ, ◌*◌, List, [], ◌∷◌}
 use Rattle.ua_table.specs.Algebras.{Product, Vector}
-use Rattle.ua_table.specs.Listings.{Row, IsClosedListing}
+use Rattle.ua_table.specs.Listings.{Row, IsClosedListing, vectors_of}
 use Rattle.ua_table.specs.Orders.{IsLeast}
+use Rattle.ua_work.specs.declared.goals.Goal.{Goal}
+use Rattle.ua_work.specs.Goals.{Meets}
 use Rattle.ua_close.specs.declared.close.Closure.{Closure}
 use Rattle.ua_close.specs.Answers.{Answers, IsSerialAnswer}
+
+-- the vectors of the rows meet the goal
+abbrev pub RowsMeet : Goal → List Row → Type 0
+RowsMeet goal rows = Meets goal (vectors_of rows)
 
 -- how many vectors a product has
 abbrev pub cardinality : Product → ℕ

@@ -4,7 +4,7 @@ ghost use Rattle.std.specs.Prelude.{ℕ, ◌<◌, ◌≤◌, List, length};
 ghost use Rattle.std.specs.List.{AllByRecursion};
 ghost use Rattle.ua_table.specs.Algebras.{Vector, Product, IsProduct, IsVector, arities};
 ghost use Rattle.ua_table.specs.Generated.{Sg, HasMoreThan};
-ghost use Rattle.ua_table.specs.Listings.{Row, vectors_of, IsListing, IsClosedListing};
+ghost use Rattle.ua_table.specs.Listings.{Row, IsListing, IsClosedListing};
 ghost use Rattle.ua_table.specs.Numbering.{Fits};
 ghost use Rattle.ua_term.specs.Steps.{StepList};
 ghost use Rattle.ua_close.specs.declared.memberships.Answer.{Answer};
@@ -12,11 +12,10 @@ ghost use Rattle.ua_close.specs.declared.close.CloseError.{CloseError};
 ghost use Rattle.ua_close.specs.Answers.{IsWide};
 ghost use Rattle.ua_log.specs.declared.views.Plan.{Plan};
 ghost use Rattle.ua_work.specs.declared.goals.Goal.{Goal};
-ghost use Rattle.ua_work.specs.Goals.{Meets};
 ghost use Rattle.ua_work.specs.Harvests.{IsPlanOf};
 ghost use Rattle.ua_close.specs.Memberships.{Tells};
 ghost use Rattle.ua_close.specs.Permitted.{MayClose, MayCount, MayReach, MayMember, IsAnswerable};
-ghost use Rattle.ua_close.specs.Kinds.{cardinality, HasAnswer, HasClosedListing, HasLeast};
+ghost use Rattle.ua_close.specs.Kinds.{cardinality, HasAnswer, HasClosedListing, HasLeast, RowsMeet};
 ghost use Rattle.ua_close.specs.Steps.{LoadFound, LoadEmpty, LoadBelow, PutWon, PutLost, LoadIdle, LoadKnow, ClaimWon, ClaimLost, HaltSet, SeatSplit, SeatJoin, SeatsAreViews, StartIsRead, GatheredIsRead};
 
 /// Each step on the words and views of a board is an event of its worker in the machine that is read of
@@ -56,7 +55,7 @@ pub fn kinds()
     ensures few { (p : Product) (gens : List Vector) (b : ℕ) → IsProduct p → AllByRecursion (IsVector p) gens → HasMoreThan p gens b → b < cardinality p }
     ensures closed { (p : Product) (gens : List Vector) (b : ℕ) → IsProduct p → AllByRecursion (IsVector p) gens → cardinality p ≤ b → HasClosedListing p gens b }
     ensures least { (p : Product) (gens : List Vector) (b : ℕ) (rows : List Row) → IsClosedListing p gens b rows → HasLeast p gens b }
-    ensures goals { (p : Product) (gens : List Vector) (goal : Goal) (b : ℕ) (rows others : List Row) → IsListing p gens rows → Meets goal (vectors_of rows) → IsClosedListing p gens b others → Meets goal (vectors_of others) }
+    ensures goals { (p : Product) (gens : List Vector) (goal : Goal) (b : ℕ) (rows all : List Row) → IsListing p gens rows → RowsMeet goal rows → IsClosedListing p gens b all → RowsMeet goal all }
 {}
 
 /// A call may always be answered otherwise than by want of memory: some answer of one worker is permitted, or the

@@ -1,2 +1,2 @@
--- A number at the front of the tokens.
+-- What is read up to a closing token, and a number at the front of the tokens.
 pub mod Reading

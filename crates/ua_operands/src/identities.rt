@@ -1,15 +1,16 @@
 //! Readers and printers of identities.
 
-ghost use Rattle.std.specs.Prelude.{◌≡◌, ◌<◌, ◌≤◌, ◌∷◌, ◌++◌, List, [], length, map, false, codes, IfOk, OnOk};
+ghost use Rattle.std.specs.Prelude.{◌≡◌, ◌<◌, ◌≤◌, ◌∷◌, List, [], length, map, false, codes, IfOk, OnOk};
 ghost use Rattle.std.specs.List.{flat_map};
 ghost use Rattle.ua_text.specs.declared.symbols.Role.{Role};
 ghost use Rattle.ua_text.specs.Printing.{Shows};
-ghost use Rattle.ua_text.specs.Signs.{Wanted, sign, Front};
+ghost use Rattle.ua_text.specs.Signs.{Wanted, sign};
 ghost use Rattle.ua_text.specs.Tokens.{tokens_left, source_of};
-ghost use Rattle.ua_text.specs.Reading.{Takes, Gives, begins_with};
+ghost use Rattle.ua_text.specs.Reading.{Takes, begins_with};
 ghost use Rattle.ua_operands.specs.declared.written.Variable.{Variable};
 ghost use Rattle.ua_operands.specs.declared.written.IdentityText.{IdentityText};
 ghost use Rattle.ua_operands.specs.Written.{variable, arguments, identity};
+ghost use Rattle.ua_operands.specs.inner.Reading.{TakesList};
 
 use crate::readers::{is_word, place_of};
 use crate::written::{IdentityText, Variable};
@@ -41,7 +42,7 @@ fn variable(tokens: &mut Tokens<'_>) -> Result<Variable, Miss>
 
 /// Variables up to a parenthesis.
 fn variables(alloc: Global, tokens: &mut Tokens<'_>) -> Result<Vec<Variable>, Miss>
-    ensures only { (vs : List Variable) (ws : List Wanted) → Front (tokens_left tokens.old) (map variable vs ++ sign Role.Closes (codes ")") ∷ ws) [] → Gives result (λ x. (x.items ≡ vs) × Front (tokens_left tokens.new) (sign Role.Closes (codes ")") ∷ ws) []) }
+    ensures only { (vs : List Variable) (ws : List Wanted) → TakesList tokens.old tokens.new result vs (map variable vs) (sign Role.Closes (codes ")") ∷ ws) }
     ensures progress { IfOk result (λ x. length (tokens_left tokens.new) ≤ length (tokens_left tokens.old)) }
     ensures source { source_of tokens.new ≡ source_of tokens.old }
 {

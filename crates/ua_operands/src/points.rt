@@ -1,17 +1,17 @@
 //! Readers and printers of the values of an operation, and of the words for the kinds of clones.
 
-ghost use Rattle.std.specs.Prelude.{◌≡◌, ◌<◌, ◌∷◌, ◌++◌, List, [], length, false, codes, IfOk, OnOk};
-ghost use Rattle.std.specs.List.{AllByRecursion, flat_map};
+ghost use Rattle.std.specs.Prelude.{◌≡◌, ◌<◌, ◌∷◌, List, [], length, false, codes, IfOk, OnOk};
 ghost use Rattle.ua_text.specs.declared.symbols.Role.{Role};
 ghost use Rattle.ua_text.specs.Printing.{Shows};
-ghost use Rattle.ua_text.specs.Signs.{Wanted, sign, Front};
+ghost use Rattle.ua_text.specs.Signs.{Wanted, sign};
 ghost use Rattle.ua_text.specs.Tokens.{tokens_left, source_of};
-ghost use Rattle.ua_text.specs.Reading.{Takes, Gives, begins_with};
+ghost use Rattle.ua_text.specs.Reading.{Takes, begins_with};
 ghost use Rattle.ua_operands.specs.declared.written.Items.{Items};
 ghost use Rattle.ua_operands.specs.declared.written.CloneWord.{CloneWord};
 ghost use Rattle.ua_operands.specs.declared.written.PointsText.{PointsText};
 ghost use Rattle.ua_operands.specs.Written.{vector, clone_word, points};
 ghost use Rattle.ua_operands.specs.Reading.{IsShortVector, ArePointsShort};
+ghost use Rattle.ua_operands.specs.inner.Reading.{TakesPoints};
 
 use crate::printers::{put_vector, put_vectors};
 use crate::readers::{is_word, vector, vectors};
@@ -47,7 +47,7 @@ fn total(alloc: Global, tokens: &mut Tokens<'_>) -> Result<PointsText, Miss>
 
 /// Some values of an operation with their arguments, behind their word.
 fn partial(alloc: Global, tokens: &mut Tokens<'_>) -> Result<PointsText, Miss>
-    ensures only { (v : Items) (vs : List Items) (ws : List Wanted) → IsShortVector v → AllByRecursion IsShortVector vs → begins_with (codes "[") ws ≡ false → Front (tokens_left tokens.old) (vector v ++ (flat_map vector vs ++ ws)) [] → Gives result (λ x. (x ≡ PointsText.Partial v vs) × Front (tokens_left tokens.new) ws []) }
+    ensures only { (v : Items) (vs : List Items) (ws : List Wanted) → IsShortVector v → AreShortVectors vs → begins_with (codes "[") ws ≡ false → TakesPoints tokens.old tokens.new result v vs ws }
     ensures progress { IfOk result (λ x. length (tokens_left tokens.new) < length (tokens_left tokens.old)) }
     ensures source { source_of tokens.new ≡ source_of tokens.old }
 {

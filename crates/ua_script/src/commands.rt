@@ -1,21 +1,21 @@
 //! Commands, read and printed. What is written for a command is read as that command, with its places, unless memory runs
 //! out. Both tables have a row for each form, with what stands for its parts.
 
-ghost use Rattle.std.specs.Prelude.{◌≡◌, ◌≤◌, ◌<◌, ◌++◌, ℕ, List, [], Option, false, length, IfOk, OnOk};
+ghost use Rattle.std.specs.Prelude.{◌≡◌, ◌≤◌, ◌<◌, ℕ, List, [], Option, false, length, IfOk, OnOk};
 ghost use Rattle.ua_text.specs.declared.tokens.Place.{Place};
-ghost use Rattle.ua_text.specs.Signs.{Wanted, Front};
+ghost use Rattle.ua_text.specs.Signs.{Wanted};
 ghost use Rattle.ua_text.specs.Tokens.{tokens_left, source_of};
-ghost use Rattle.ua_text.specs.Reading.{Takes, Gives};
+ghost use Rattle.ua_text.specs.Reading.{Takes};
 ghost use Rattle.ua_text.specs.Printing.{Shows};
 ghost use Rattle.ua_operands.specs.Reading.{begins_item};
 ghost use Rattle.ua_script.specs.declared.script.Command.{Command};
 ghost use Rattle.ua_script.specs.declared.script.Item.{Item};
 ghost use Rattle.ua_script.specs.declared.forms.CommandForm.{CommandForm};
-ghost use Rattle.ua_script.specs.Operands.{Values, values_text};
+ghost use Rattle.ua_script.specs.Operands.{values_text};
 ghost use Rattle.ua_script.specs.Forms.{word_of, parts_of, question, asked, certified};
 ghost use Rattle.ua_script.specs.Grammar.{heading, command};
 ghost use Rattle.ua_script.specs.Reading.{IsReadableItem};
-ghost use Rattle.ua_script.specs.inner.Reading.{Beginning, IsMade, IsCommandRead};
+ghost use Rattle.ua_script.specs.inner.Reading.{IsCommandRead, IsPlainRead};
 
 use crate::forms::{CommandForm, form, found_form};
 use crate::script::{Command, Provable};
@@ -203,7 +203,7 @@ fn certified(asked: Command) -> Command
 
 /// A command without a certificate.
 fn plain(alloc: Global, tokens: &mut Tokens<'_>) -> Result<Command, Miss>
-    ensures only { (f : CommandForm) (x : Values (parts_of f)) (w : Wanted) (ws : List Wanted) → Beginning f x w (tokens_left tokens.old) ws → Gives result (λ c. IsMade f x w.place c × Front (tokens_left tokens.new) ws []) }
+    ensures only { IsPlainRead (tokens_left tokens.old) (tokens_left tokens.new) result }
     ensures progress { IfOk result (λ x. length (tokens_left tokens.new) < length (tokens_left tokens.old)) }
     ensures source { source_of tokens.new ≡ source_of tokens.old }
 {

@@ -3,7 +3,7 @@ use Rattle.std.specs.Prelude.{◌≡◌, ℕ, ◌^◌, ◌<◌, List, length, ma
 use Rattle.std.specs.List.{AllByRecursion, range_with_len}
 use Rattle.ua_table.specs.Algebras.{Vector, FiniteAlgebra, Product}
 use Rattle.ua_table.specs.Numbering.{choices}
-use Rattle.ua_table.specs.Terms.{Tree, eval}
+use Rattle.ua_table.specs.Terms.{Tree, eval, term_value}
 
 -- an element below n for each of so many variables
 pub record IsAssignment (n variables : ℕ) (xs : List ℕ) : Type 0 where
@@ -25,6 +25,10 @@ projections n variables = map (projection n variables) (range_with_len 0 variabl
 -- the power with a coordinate for each assignment
 abbrev pub power_of_assignments : FiniteAlgebra → ℕ → Product
 power_of_assignments a variables = replicate (a.size ^ variables) a
+
+-- the value in this power of a term at the projections
+abbrev pub value_at_projections : FiniteAlgebra → ℕ → Tree → Vector
+value_at_projections a variables t = term_value (power_of_assignments a variables) (projections a.size variables) t
 
 -- the values of a term at all assignments
 abbrev pub term_operation : FiniteAlgebra → ℕ → Tree → Vector

@@ -1,4 +1,4 @@
--- Where a phrase is written.
+-- Where a phrase is written, and what is read of the arguments of one.
 pub mod Phrases
 -- Nodes that are left.
 pub mod Steps

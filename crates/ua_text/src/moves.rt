@@ -1,10 +1,11 @@
 //! What the symbols do with tokens: which may be left out, what a token is there for, and what follows it.
 
 ghost use Rattle.std.specs.Prelude.{◌≡◌, ◌∷◌, if◌then◌else◌, true, OnOk};
-ghost use Rattle.ua_text.specs.Machine.{Taken, table_role, with_naming};
+ghost use Rattle.ua_text.specs.Machine.{table_role, with_naming};
 ghost use Rattle.ua_text.specs.Offers.{is_role, offers_here};
-ghost use Rattle.ua_text.specs.Steps.{takes, skips, is_items, next_stack, pushed_parts, parts_behind};
+ghost use Rattle.ua_text.specs.Steps.{takes, skips, is_items, pushed_parts, parts_behind};
 ghost use Rattle.ua_text.specs.Grammars.{forms_of};
+ghost use Rattle.ua_text.specs.inner.States.{Follows};
 
 use crate::checks::{size_of, values_of};
 use crate::grammar::Grammar;
@@ -92,7 +93,7 @@ pub fn follow(
     symbol: Symbol,
     text: &[u8],
 ) -> Result<(), AllocError>
-    ensures { OnOk result ((x : Taken) → x.version ≡ version → takes (forms_of grammar.now) x symbol text.now ≡ true → stack.new ≡ next_stack (forms_of grammar.now) version symbol stack.old text.now) }
+    ensures { OnOk result (Follows (forms_of grammar.now) version symbol text.now stack.old stack.new) }
 {
     match symbol {
         Symbol::Loop { close, .. } => push_unless(stack, text == [close].as_slice(), symbol)?,

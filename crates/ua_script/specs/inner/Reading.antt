@@ -78,3 +78,8 @@ pub record IsMade (f : CommandForm) (x : Values (parts_of f)) (place : Option Pl
 -- what is written for the parts of a form is read as the command that is made of it
 abbrev pub IsCommandRead : CommandForm → Place → List Placed → List Placed → Result Command Miss → Type 0
 IsCommandRead f place old new result = (x : Values (parts_of f)) (ws : List Wanted) → Standing (parts_of f) x old ws → Gives result (λ c. (c ≡ made f place x) × Front new ws [])
+
+-- a command without `cert` is read
+abbrev pub IsPlainRead : List Placed → List Placed → Result Command Miss → Type 0
+IsPlainRead old new result =
+    (f : CommandForm) (x : Values (parts_of f)) (w : Wanted) (ws : List Wanted) → Beginning f x w old ws → Gives result (λ c. IsMade f x w.place c × Front new ws [])
