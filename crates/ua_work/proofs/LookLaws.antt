@@ -1,8 +1,6 @@
 -- A seat that has looked for a record, and is else as it was.
-use Rattle.std.proofs.Common.{◌≡◌, ◌≤◌, ℕ, List, [], ◌∷◌, ◌++◌, length, refl, sym, ap, ◌∙◌, subst}
+use Rattle.std.proofs.Common.{◌≡◌, ℕ, List, [], ◌∷◌, ◌++◌, length, refl, sym, ap, ◌∙◌, subst}
 use Rattle.ua_table.specs.declared.origins.Origin.{Origin}
-use Rattle.ua_table.specs.Algebras.{arities}
-use Rattle.ua_table.specs.Slices.{bound}
 use Rattle.ua_log.specs.declared.views.Plan.{Plan}
 use Rattle.ua_log.specs.Rule.{MayStand}
 use Rattle.ua_log.specs.Moves.{sees, missed, IsAlone}
@@ -12,12 +10,10 @@ use Rattle.ua_work.specs.declared.puts.Job.{Job}
 use Rattle.ua_work.specs.declared.replicas.Replica.{Replica}
 use Rattle.ua_work.specs.inner.Looks.{HasMissed}
 use Rattle.ua_work.specs.Goals.{Meets}
-use Rattle.ua_work.specs.Harvests.{HasLeft}
-use Rattle.ua_work.specs.Serials.{HasCome}
 use Rattle.ua_work.specs.inner.Replicas.{values_in, value_in, IsReplica, SameClosure, SameRecords}
 use Rattle.ua_work.specs.Beginnings.{IsFurther}
-use Rattle.ua_work.specs.inner.Workings.{IsWorking, IsAtWork, HasWorked, AreDone, Comes}
-use Rattle.ua_work.proofs.WorkLaws.{for_same, same_trans, further_trans, further_sees, working_sees, still_at_work}
+use Rattle.ua_work.specs.inner.Workings.{IsWorking, IsAtWork, HasWorked}
+use Rattle.ua_work.proofs.WorkLaws.{same_trans, further_trans, further_sees, working_sees, still_at_work}
 
 pub missed_self : (s : SeatView) → HasMissed s s
 missed_self s = record { misses = s.own.misses; same = refl }
@@ -50,15 +46,6 @@ found_working {r} {new} {s} {t} k same replica own x more h =
 
 pub missed_work : {j : Job} {r : Replica} {s t : SeatView} → HasMissed s t → IsAtWork j r s → IsAtWork j r t
 missed_work {j} {r} {s} {t} h k = record { home = ap (λ (x : SeatView). x.home) h.same ∙ k.home; job = k.job; goes = record { working = missed_working r s t h k.goes.working; unmet = k.goes.unmet } }
-
-pub missed_come : (r two : Replica) (s t : SeatView) (x : List ℕ) → HasMissed s t → SameClosure r two → Comes r s.own x → Comes two t.own x
-missed_come r two s t x h same come = subst (λ (y : SeatView). Comes two y.own x) (sym h.same) (for_same (λ p gens. HasCome p gens s.own.seen x) r two same come)
-
--- all slices of what it has seen are claimed, and its own are done
-pub missed_left : (r two : Replica) (s t : SeatView) → HasMissed s t → SameClosure r two → r.shape ≡ arities r.operations → AreDone r s.own → bound r.shape (length s.own.seen) ≤ s.own.known → HasLeft two.operations two.gens.now.items t.own
-missed_left r two s t h same shape done known =
-    for_same (λ p gens. HasLeft p gens t.own) r two same
-    (subst (λ (y : SeatView). HasLeft r.operations r.gens.now.items y.own) (sym h.same) record { done = done; known = subst (λ ks. bound ks (length s.own.seen) ≤ s.own.known) shape known })
 
 pub missed_further : (s t : SeatView) → HasMissed s t → IsFurther s t
 missed_further s t h = subst (IsFurther s) (sym h.same) record {

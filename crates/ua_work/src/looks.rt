@@ -1,8 +1,9 @@
 //! Records of other workers, which a worker looks for.
 
-ghost use Rattle.std.specs.Prelude.{◌≡◌, ◌<◌, length, None, MatchOption, MatchResult};
+ghost use Rattle.std.specs.Prelude.{◌≡◌, ◌<◌, [], length, None, IsFalse, MatchOption, MatchResult};
 ghost use Rattle.ua_log.specs.Moves.{IsAlone};
-ghost use Rattle.ua_work.specs.inner.Looks.{LooksTell};
+ghost use Rattle.ua_work.specs.Serials.{told_by};
+ghost use Rattle.ua_work.specs.inner.Looks.{LooksTell, HasLooked};
 ghost use Rattle.ua_work.specs.inner.Workings.{IsAtWork, HasWorked, Stops};
 
 use crate::harvests::End;
@@ -15,7 +16,7 @@ use ua_table::Origin;
 pub(crate) const LOOKS: u32 = 1024;
 
 /// Looks for the next record, so often at most.
-pub(crate) fn look_often(board: &Board, seat: &mut Seat, looks: u32) -> Option<Origin>
+fn look_often(board: &Board, seat: &mut Seat, looks: u32) -> Option<Origin>
     requires home { seat.old.home ≡ board.now }
     requires room { length seat.old.own.seen < board.now.plan.budget }
     ensures found { LooksTell board.now.plan seat.old result seat.new }
@@ -30,10 +31,16 @@ pub(crate) fn look_often(board: &Board, seat: &mut Seat, looks: u32) -> Option<O
 }
 
 /// Looks for the next record, so often at most, and enters it. Answers whether there was one.
-fn see_next(job: &Job, seat: &mut Seat, replica: &mut Replica, looks: u32) -> Result<bool, End>
+pub(crate) fn see_next(
+    job: &Job,
+    seat: &mut Seat,
+    replica: &mut Replica,
+    looks: u32,
+) -> Result<bool, End>
     requires work { IsAtWork job.now replica.old seat.old }
     ensures worked { HasWorked seat.old replica.old seat.new replica.new }
-    ensures done { MatchResult result (λ found. IsAtWork job.now replica.new seat.new) (Stops job.now.goal.now replica.new seat.new) }
+    ensures done { MatchResult result (λ found. IsAtWork job.now replica.new seat.new × HasLooked job.now.budget seat.old seat.new found) (Stops job.now.goal.now replica.new seat.new) }
+    ensures lone { IsAlone seat.old.made seat.old.own → MatchResult result (λ found. IsFalse found) (λ end. (told_by end ≡ []) × (seat.new ≡ seat.old)) }
 {
     if Board::seen(seat) >= job.budget {
         return Ok(false);

@@ -1,5 +1,5 @@
 -- What a worker's looks for the next record tell.
-use Rattle.std.specs.Prelude.{◌≡◌, ℕ, List, length, Option, None, Some}
+use Rattle.std.specs.Prelude.{◌≡◌, ℕ, ◌<◌, Bool, true, false, List, length, Option, None, Some}
 use Rattle.ua_table.specs.declared.origins.Origin.{Origin}
 use Rattle.ua_log.specs.declared.views.Plan.{Plan}
 use Rattle.ua_log.specs.Rule.{MayStand}
@@ -15,3 +15,8 @@ pub record HasMissed (s t : SeatView) : Type 0 where
 abbrev pub LooksTell : Plan → SeatView → Option Origin → SeatView → Type 0
 LooksTell p s None t = HasMissed s t
 LooksTell p s (Some o) t = MayStand p (length s.own.seen) o × HasMissed (with_worker s (sees s.own o)) t
+
+-- and what they come to, where the worker goes on: it has seen a record more, which stands below the budget, or none
+abbrev pub HasLooked : ℕ → SeatView → SeatView → Bool → Type 0
+HasLooked budget s t true = (length s.own.seen < length t.own.seen) × (length s.own.seen < budget)
+HasLooked budget s t false = HasMissed s t

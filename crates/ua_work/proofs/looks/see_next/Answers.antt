@@ -1,6 +1,7 @@
-use Rattle.std.proofs.Common.{refl}
+use Rattle.std.proofs.Common.{◌≡◌, ◌+◌, length, refl, ap, ◌∙◌, arith, length-append, [], ◌∷◌}
+use Rattle.ua_log.specs.Seats.{SeatView}
 use Rattle.ua_work.proofs.WorkLaws.{same_work, same_origin, few_more, origin_in}
-use Rattle.ua_work.proofs.LookLaws.{found_worked, found_working, found_work, missed_worked, missed_work}
+use Rattle.ua_work.proofs.LookLaws.{found_worked, found_working, found_work, missed_self, missed_worked, missed_work}
 use Rattle.ua_work.proofs.looks.see_next.Goals as goal
 
 pub take_in-requires-clause-origin : goal.take_in-requires-clause-origin
@@ -26,10 +27,18 @@ pub returns-clause-done : goal.returns-clause-done
 returns-clause-done c =
     let work = same_work c.reserve.ensures.same c.reserve.ensures.replica c.requires.work in
     let e = c.if-take_in.ensures in
-    found_work work e.closure e.replica c.seen.ensures.own c.in-Some.o e.values (e.unmet refl) c.in-Some.ensures.found.1
+    let x = c.in-Some.o in
+    let long : length c.look_often.new.seat.own.seen ≡ length c.args.seat.now.own.seen + 1 = ap (λ (u : SeatView). length u.own.seen) c.in-Some.ensures.found.1.same ∙ length-append c.args.seat.now.own.seen (x ∷ []) in
+    let seen = c.seen.ensures.seen in
+    (found_work work e.closure e.replica c.seen.ensures.own x e.values (e.unmet refl) c.in-Some.ensures.found.1, (omega (arith, long), omega (arith, seen, c.if-seen-job.false)))
 
 pub returns-in_default-clause-worked : goal.returns-in_default-clause-worked
 returns-in_default-clause-worked c = missed_worked c.reserve.ensures.same c.in_default.ensures.found
 
 pub returns-in_default-clause-done : goal.returns-in_default-clause-done
-returns-in_default-clause-done c = missed_work c.in_default.ensures.found (same_work c.reserve.ensures.same c.reserve.ensures.replica c.requires.work)
+returns-in_default-clause-done c =
+    let missed = c.in_default.ensures.found in
+    (missed_work missed (same_work c.reserve.ensures.same c.reserve.ensures.replica c.requires.work), missed)
+
+pub returns-then-seen-job-clause-done : goal.returns-then-seen-job-clause-done
+returns-then-seen-job-clause-done c = (c.requires.work, missed_self c.args.seat.now)
