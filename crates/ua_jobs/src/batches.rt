@@ -10,7 +10,7 @@ ghost use Rattle.ua_jobs.specs.declared.batches.Turn.{Turn};
 ghost use Rattle.ua_jobs.specs.declared.serving.Served.{Served};
 ghost use Rattle.ua_jobs.specs.Seats.{first_pass, with_view};
 ghost use Rattle.ua_jobs.specs.Harvests.{AnswerEach, AreAnswers, IsAnswer, MayGive, numbered};
-ghost use Rattle.ua_jobs.specs.inner.Batches.{IsUnused};
+ghost use Rattle.ua_jobs.specs.inner.Batches.{IsUnused, IsPermittedHarvest, ArePermittedHarvests};
 
 use crate::gathering::{gather, in_order};
 use crate::jobs::Job;

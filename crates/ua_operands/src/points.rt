@@ -10,7 +10,7 @@ ghost use Rattle.ua_operands.specs.declared.written.Items.{Items};
 ghost use Rattle.ua_operands.specs.declared.written.CloneWord.{CloneWord};
 ghost use Rattle.ua_operands.specs.declared.written.PointsText.{PointsText};
 ghost use Rattle.ua_operands.specs.Written.{vector, clone_word, points};
-ghost use Rattle.ua_operands.specs.Reading.{IsShortVector, ArePointsShort};
+ghost use Rattle.ua_operands.specs.Reading.{IsShortVector, AreShortVectors, ArePointsShort};
 ghost use Rattle.ua_operands.specs.inner.Reading.{TakesPoints};
 
 use crate::printers::{put_vector, put_vectors};
