@@ -1,4 +1,18 @@
--- The words and the views of a board read as the machine, and the event that each step on them is.
+-- The words and the views of a board read as the machine, and the event that each step on them is:
+--
+--   step                          word           view of the seat             event
+--   load, a record found          next row word  takes the record in          Look
+--   load, the word is empty       next row word  notes what was missed        none
+--   load of a record seen         row word       recalls it                   none
+--   put that won                  next row word  adds the record, as its own  Put
+--   put that lost                 next row word  takes the record in          Look
+--   load, all slices claimed      claim word     notes the claims             Idle
+--   load, whatever it finds       claim word     notes the claims             Know
+--   exchange that won             claim word     owns one slice more          Claim
+--   exchange that lost            claim word     notes the claims             Know
+--   halt bit set                  claim word     notes the halt               Halt
+--   split of the first seat       none           counts one seat more         Split
+--   join of the first seat        none           keeps the other's worker     Join
 use Rattle.std.specs.Prelude.{◌≡◌, ◌≢◌, ℕ, suc, ◌+◌, ◌%◌, ◌<◌, ◌≤◌, ◌^◌, ◌==◌, nat_le, bit_or, if◌then◌else◌, Bool, true, false, List, [], ◌∷◌, ◌++◌, length, map, drop, slice_index, slice_get, slice_set, None, Some, Contains}
 use Rattle.std.specs.List.{flat_map}
 use mathlib.Core.Option.{some}
