@@ -29,7 +29,13 @@ pub fn chain<R: Threads + Sync, G: Gate>(
 ) -> Result<Chain, CloseError>
     ensures { MayChain known.now.algebra (kind_named asked) context.now.run.now.budget context.now.run.now.workers result }
 {
-    named_chain(context.rt, context.alloc, known.algebra(), asked, context.run)
+    named_chain(
+        context.rt,
+        context.alloc,
+        known.algebra(),
+        asked,
+        context.run,
+    )
 }
 
 /// Appends the steps of a term of a chain, behind its number and theirs.

@@ -12,11 +12,11 @@ ghost use Rattle.ua_identity.specs.Chains.{power_of, generators_of};
 
 use crate::climbs::{climb_in, either};
 use std::alloc::{AllocError, Global};
+use ua_climb::Climb;
 use ua_close::{Listing, steps_for};
 use ua_identity::Kind;
 use ua_table::{Algebra, Frame, Origin, Vectors};
 use ua_term::Steps;
-use ua_climb::Climb;
 
 /// What is answered when a least chain is asked for.
 #[derive(Drop, Debug)]

@@ -10,9 +10,9 @@ ghost use Rattle.ua_chain.specs.inner.ClimbsIn.{IsClimbIn};
 
 use crate::rows::{links_at, own_rows};
 use std::alloc::{AllocError, Global};
+use ua_climb::{Climb, least_climb};
 use ua_close::Listing;
 use ua_identity::Kind;
-use ua_climb::{Climb, least_climb};
 
 /// A least climb over the rows from the start to the end, or the rows that climbs lead to.
 pub(crate) fn climb_in(

@@ -13,10 +13,10 @@ ghost use Rattle.ua_chain.specs.inner.RowsOf.{AreOwnRows, AreLinksAt, HaveWidth}
 
 use crate::classes::links_by;
 use std::alloc::{AllocError, Global};
+use ua_climb::Links;
 use ua_close::Listing;
 use ua_identity::{CoordinateRange, Kind, PatternPair};
 use ua_table::Elem;
-use ua_climb::Links;
 
 /// Which rows have these values at a part.
 fn rows_with(

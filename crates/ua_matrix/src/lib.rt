@@ -1,8 +1,8 @@
 //! The term condition of two congruences, and the matrices that decide it.
 #![tactic(auto)]
 
-pub mod centralizing;
 mod centrality;
+pub mod centralizing;
 mod deltas;
 mod failures;
 mod generators;

@@ -1,10 +1,10 @@
 //! Subtraces and types of covers in the lattice of congruences.
 #![tactic(auto)]
 
-pub mod labelling;
 mod descents;
 mod generators;
 mod known;
+pub mod labelling;
 pub mod laws;
 mod leads;
 mod marks;
