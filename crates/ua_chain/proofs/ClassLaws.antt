@@ -29,7 +29,8 @@ places_more vs p keys keys' classes i c row old kept long at here j v l e =
     (cases_lt j i)
 
 -- the classes stay when keys are added
-pub classes_kept : (vs : List Vector) (p : CoordinateRange) (keys keys' : List Vector) (classes : List ℕ) → AreClasses vs p keys classes → ((j : ℕ) (v : Vector) → slice_get keys j ≡ Some v → slice_get keys' j ≡ Some v) → AreClasses vs p keys' classes
+pub classes_kept : (vs : List Vector) (p : CoordinateRange) (keys keys' : List Vector) (classes : List ℕ) → AreClasses vs p keys classes
+    → ((j : ℕ) (v : Vector) → slice_get keys j ≡ Some v → slice_get keys' j ≡ Some v) → AreClasses vs p keys' classes
 classes_kept vs p keys keys' classes h kept = record { count = h.count; places = λ i v e. kept (slice_index classes i) (entries_at p v) (h.places i v e) }
 
 -- classes are places of keys
