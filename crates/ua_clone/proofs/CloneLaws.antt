@@ -79,6 +79,5 @@ module _ (a : FiniteAlgebra) (k : ℕ) (kind : CloneKind) (ps : List Point) wher
       let is : IsPolynomial a k kind (polynomial_of k p) = subst (IsPolynomial a k kind) (sym same) h.is_polynomial in
       let few = few_elements kind a.size in (
         record { variables = low; polynomial = term_wider (arities_of a) (k + named_elements kind a.size) (k + a.size) (polynomial_of k p) (omega (arith, few)) is },
-        is,
-        subst (AgreesWith a ps) (sym same) h.agrees,
+        (is, subst (AgreesWith a ps) (sym same) h.agrees),
       )
