@@ -1,5 +1,6 @@
 use Rattle.std.proofs.Common.{refl, sym, ap, ◌∙◌}
 use Rattle.std.proofs.lemmas.Result.{IfOk-weaker}
+use Rattle.ua_chain.specs.Names.{kind_named}
 use Rattle.ua_reply.specs.Sessions.{bounds_of, lookup}
 use Rattle.ua_reply.specs.Checks.{passed}
 use Rattle.ua_reply.proofs.Answering.{known_answered}
