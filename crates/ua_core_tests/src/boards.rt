@@ -86,6 +86,25 @@ fn two_seats_in_turn(rt: HostRuntime) -> Result<(), Fail> {
     Ok(())
 }
 
+/// Whether the slices of all records that a seat has seen are claimed: of none, of one whose slices are not, and where the
+/// halt bit stands.
+fn told_of_claimed(alloc: Global) -> Result<[bool; 3], Fail> {
+    let (board, mut seat) = start(alloc)?;
+    let none = board.are_claimed(&mut seat);
+    board.put(&mut seat, FIRST);
+    let one = board.are_claimed(&mut seat);
+    board.halt(&mut seat);
+    let halted = board.are_claimed(&mut seat);
+    Ok([none, one, halted])
+}
+
+#[test]
+fn slices_are_claimed(rt: HostRuntime) -> Result<(), Fail> {
+    let told = told_of_claimed(rt.alloc())?;
+    assert!(rt; told == [true, false, true]);
+    Ok(())
+}
+
 /// What a seat sees where another has put a record since it was made.
 fn told_of_a_look(alloc: Global) -> Result<Option<Origin>, Fail> {
     let (board, mut first) = start(alloc)?;
