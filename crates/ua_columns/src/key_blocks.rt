@@ -2,26 +2,23 @@
 
 ghost use Rattle.std.specs.Prelude.{◌≡◌, ℕ, ◌<◌, ◌≤◌, ◌-◌, ◌*◌, ◌/◌, ◌%◌, ◌^◌, length, IsTrue};
 ghost use Rattle.std.specs.List.{AllByRecursion};
-ghost use Rattle.ua_columns.specs.inner.Quads.{IsSomeKey};
+ghost use Rattle.ua_columns.specs.inner.Quads.{IsOneOf, IsSomeKey};
 
 use crate::fronts::{guesses, second_guess};
 use crate::tiles::LANES;
 
-/// Whether key r of a block is key i of so many.
+/// Whether a key is key i of so many.
 #[inline(always)]
-fn is_key(keys: &[u64], count: usize, i: usize, block: &[u64], words: usize, r: usize) -> bool
-    requires whole { length keys.now ≡ count * words }
-    requires key { i < count }
-    requires block { length block.now ≡ LANES * words }
-    requires lane { r < LANES }
-    ensures { IsTrue result → IsSomeKey keys.now words count block.now r }
+fn is_key(keys: &[u64], count: usize, i: usize, key: &[u64]) -> bool
+    requires whole { length keys.now ≡ count * length key.now }
+    requires numbered { i < count }
+    ensures { IsTrue result → IsOneOf keys.now count key.now }
 {
-    let start = i * words;
-    let from = r * words;
-    keys[start..start + words] == block[from..from + words]
+    let start = i * key.len();
+    &keys[start..start + key.len()] == key
 }
 
-/// Whether key r of a block is the one that is guessed first, or the one that is guessed second by its hash.
+/// Whether a key is the one that is guessed first, or the one that is guessed second by its hash.
 #[inline(always)]
 fn is_guessed(
     keys: &[u64],
@@ -29,24 +26,20 @@ fn is_guessed(
     count: usize,
     guess: usize,
     hash: u64,
-    block: &[u64],
-    words: usize,
-    r: usize,
+    key: &[u64],
 ) -> bool
-    requires whole { length keys.now ≡ count * words }
+    requires whole { length keys.now ≡ count * length key.now }
     requires some { 0 < length front.now }
     requires vectors { 0 < count }
     requires named { AllByRecursion (λ r. r ≤ count - 1) front.now }
     requires guess { guess < count }
-    requires block { length block.now ≡ LANES * words }
-    requires lane { r < LANES }
-    ensures { IsTrue result → IsSomeKey keys.now words count block.now r }
+    ensures { IsTrue result → IsOneOf keys.now count key.now }
 {
-    if is_key(keys, count, guess, block, words, r) {
+    if is_key(keys, count, guess, key) {
         return true;
     }
     let second = second_guess(front, hash, count);
-    is_key(keys, count, second, block, words, r)
+    is_key(keys, count, second, key)
 }
 
 /// A bit for each key of a block that is one that its hash lets guess.
@@ -69,7 +62,8 @@ pub(crate) fn known_keys(
     let first = guesses(front, hashes, count);
     let mut bits = 0;
     for r in 0..16 {
-        let is_there = is_guessed(keys, front, count, first[r], hashes[r], block, words, r);
+        let key = &block[r * words..r * words + words];
+        let is_there = is_guessed(keys, front, count, first[r], hashes[r], key);
         bits |= u32::from(is_there) << r;
     }
     bits

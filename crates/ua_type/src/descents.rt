@@ -1,10 +1,9 @@
 //! The pairs that a pair generates, asked in order whether they generate it, and the descent from a pair that
 //! does not to those that it generates.
 
-ghost use Rattle.std.specs.Prelude.{◌≡◌, ◌<◌, ◌++◌, [], ◌∷◌, length, slice_index, OnOk, IfOk};
+ghost use Rattle.std.specs.Prelude.{◌≡◌, ◌≢◌, ◌<◌, ◌++◌, [], ◌∷◌, length, slice_index, OnOk, IfOk};
 ghost use Rattle.ua_type.specs.Trials.{HasMorePairs, ArePairsNarrow};
 ghost use Rattle.ua_type.specs.Known.{IsRight};
-ghost use Rattle.ua_type.specs.inner.Marks.{AreMarks};
 ghost use Rattle.ua_type.specs.inner.Descents.{MayAsk, IsDescent, MaySift, MaySettle};
 
 use crate::known::Known;
@@ -15,17 +14,6 @@ use std::alloc::{AllocError, Global};
 use std::thread::Threads;
 use ua_close::{CloseError, Gate, Goal, Listing, Reach, Run};
 use ua_table::{Algebra, Elem};
-
-/// What comes of asking a pair whether it generates another.
-#[derive(Drop)]
-enum Asked {
-    /// It does, or has equal elements.
-    Back,
-    /// It is settled.
-    Settled,
-    /// It does not; what it generates.
-    Lacks(Listing),
-}
 
 /// What comes of asking the pairs that a pair generates.
 #[derive(Drop)]
@@ -81,42 +69,30 @@ impl Descent {
     }
 }
 
-/// Asks the pair of a row whether it generates another pair. Unless marks tell that it does, what it generates
-/// is closed until that pair is found, within the budget.
+/// Asks the pair of a row, whose elements differ, whether it generates another pair: what it generates is closed until that
+/// pair is found, within the budget. If it does not, this answers what it generates.
 fn ask<R: Threads + Sync, G: Gate>(
     rt: &R,
     alloc: Global,
     b: &Algebra,
-    known: &Known,
-    marks: &Marks,
     row: &[Elem],
     pair: (Elem, Elem),
     run: &Run<G>,
-) -> Result<Asked, CloseError>
+) -> Result<Option<Listing>, CloseError>
     requires width { length row.now ≡ 2 }
     requires first { slice_index row.now 0 < b.now.size }
     requires second { slice_index row.now 1 < b.now.size }
     requires low { pair.0 < b.now.size }
     requires high { pair.1 < b.now.size }
-    requires marks { AreMarks b.now pair marks.now }
+    requires differ { slice_index row.now 0 ≢ slice_index row.now 1 }
     requires within { ¬ HasMorePairs b.now run.now.budget (slice_index row.now 0) (slice_index row.now 1) }
-    ensures { MayAsk b.now run.now.budget known.now row.now pair result }
+    ensures { MayAsk b.now run.now.budget row.now pair result }
 {
-    let (c, d) = (row[0], row[1]);
-    if c == d {
-        return Ok(Asked::Back);
-    }
-    if known.is_settled((c, d)) {
-        return Ok(Asked::Settled);
-    }
-    if is_known(b, marks, (c, d)) {
-        return Ok(Asked::Back);
-    }
     let goal = Goal::Target([pair.0, pair.1].to_vec(alloc)?);
-    match sought(rt, alloc, b, c, d, &goal, run)? {
+    match sought(rt, alloc, b, row[0], row[1], &goal, run)? {
         Reach::Exceeds(_) => unreachable!(),
-        Reach::Met(_) => Ok(Asked::Back),
-        Reach::Closed(list) => Ok(Asked::Lacks(list)),
+        Reach::Met(_) => Ok(None),
+        Reach::Closed(list) => Ok(Some(list)),
     }
 }
 
@@ -140,16 +116,20 @@ pub fn sift<R: Threads + Sync, G: Gate>(
     for i in 0..descent.list.len() {
         let row = descent.list.row(i);
         let (c, d) = (row[0], row[1]);
-        match ask(rt, alloc, b, known, &marks, row, descent.pair, run)? {
-            Asked::Settled => return Ok(Sifted::Settled),
-            Asked::Lacks(list) => return Ok(Sifted::Lacks { pair: (c, d), list }),
-            Asked::Back => {
-                if c != d {
-                    descent.put_above((c, d))?;
-                    mark(b, &mut marks, (c, d));
-                }
+        if c == d {
+            continue;
+        }
+        if known.is_settled((c, d)) {
+            return Ok(Sifted::Settled);
+        }
+        if !is_known(b, &marks, (c, d)) {
+            match ask(rt, alloc, b, row, descent.pair, run)? {
+                Some(list) => return Ok(Sifted::Lacks { pair: (c, d), list }),
+                None => {}
             }
         }
+        descent.put_above((c, d))?;
+        mark(b, &mut marks, (c, d));
     }
     Ok(Sifted::Minimal)
 }

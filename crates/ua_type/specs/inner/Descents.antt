@@ -1,15 +1,11 @@
 -- What comes of asking the pairs that a pair generates, and of going down to one that does not generate it.
-use Rattle.std.specs.Prelude.{◌≡◌, ◌≢◌, ℕ, ◌<◌, true, List, replicate, slice_index, Result, Ok, Err}
+use Rattle.std.specs.Prelude.{◌≡◌, ◌≢◌, ℕ, ◌<◌, List, replicate, slice_index, Option, Some, None, Result, Ok, Err}
 use Rattle.std.specs.Option.{IsSomeAnd}
 use Rattle.std.specs.List.{AllByRecursion}
-use Rattle.std.specs.HashSet.{contains}
 use Rattle.ua_table.specs.Algebras.{Vector, FiniteAlgebra}
 use Rattle.ua_table.specs.Listings.{Row, IsClosedListing}
 use Rattle.ua_close.specs.declared.close.CloseError.{CloseError}
-use Rattle.ua_part.specs.Labels.{same_labels}
 use Rattle.ua_type.specs.declared.known.Known.{Known}
-use Rattle.ua_type.specs.declared.descents.Asked.{Asked}
-use Rattle.ua_type.specs.declared.descents.Asked.TheVariants as asked
 use Rattle.ua_type.specs.declared.descents.Sifted.{Sifted}
 use Rattle.ua_type.specs.declared.descents.Sifted.TheVariants as sifted
 use Rattle.ua_type.specs.declared.descents.Descent.{Descent}
@@ -33,11 +29,10 @@ pub record IsLacking (b : FiniteAlgebra) (budget : ℕ) (row : ℕ × ℕ) (pair
   pub closed : AreGenerated b budget row list
 
 -- what comes of asking the pair of a row; pairs that are too wide are refused
-abbrev pub MayAsk : FiniteAlgebra → ℕ → Known → Vector → ℕ × ℕ → Result Asked CloseError → Type 0
-MayAsk b budget known row pair (Ok asked.Back) = GoesBack b row pair
-MayAsk b budget known row pair (Ok asked.Settled) = contains same_labels known.settled (slice_index row 0, slice_index row 1) ≡ true
-MayAsk b budget known row pair (Ok (asked.Lacks list)) = IsLacking b budget (slice_index row 0, slice_index row 1) pair list
-MayAsk b budget known row pair (Err e) = ArePairsWide b budget e
+abbrev pub MayAsk : FiniteAlgebra → ℕ → Vector → ℕ × ℕ → Result (Option (List Row)) CloseError → Type 0
+MayAsk b budget row pair (Ok None) = GoesBack b row pair
+MayAsk b budget row pair (Ok (Some list)) = IsLacking b budget (slice_index row 0, slice_index row 1) pair list
+MayAsk b budget row pair (Err e) = ArePairsWide b budget e
 
 -- a pair within the budget that generates the pair
 abbrev pub LeadsTo : FiniteAlgebra → ℕ → ℕ × ℕ → ℕ × ℕ → Type 0

@@ -6,9 +6,6 @@ use Rattle.ua_close.specs.declared.reaches.Reach.{Reach}
 use Rattle.ua_type.proofs.TrialLaws.{wide_all, MaySeek, met_back, closed_lacks, never_beyond}
 use Rattle.ua_type.proofs.descents.ask.Goals as goal
 
-pub returns-then-is_known : goal.returns-then-is_known
-returns-then-is_known g c _ = c.is_known.ensures c.args.pair c.requires.marks c.if-is_known.true
-
 pub sought-requires-clause-goal : goal.sought-requires-clause-goal
 sought-requires-clause-goal g c _ _ =
     let is : c.in_ok-to_vec.field-0.items ≡ c.args.pair.0 ∷ c.args.pair.1 ∷ [] = c.in_ok-to_vec.ensures.items_if_clones_equal (λ y e h. h) in
@@ -47,5 +44,5 @@ returns g c =
     let w = c.args.run.now.workers in
     let target = c.in_ok-to_vec.field-0 in
     let is : c.in_ok-to_vec.field-0.items ≡ c.args.pair.0 ∷ c.args.pair.1 ∷ [] = c.in_ok-to_vec.ensures.items_if_clones_equal (λ y e h. h) in
-    closed_lacks b budget w c.args.row.now c.args.pair target is c.in-Closed.list c.requires.first c.requires.second c.requires.within c.if-c-d.false
+    closed_lacks b budget w c.args.row.now c.args.pair target is c.in-Closed.list c.requires.first c.requires.second c.requires.within c.requires.differ
     (subst (λ (r : Reach). MaySeek b budget w c.args.row.now c.args.pair target is (Ok r)) c.in-Closed.is c.in_ok-sought.ensures)
