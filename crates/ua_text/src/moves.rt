@@ -30,10 +30,7 @@ pub fn skips(symbol: Symbol) -> bool
 pub fn is_items(symbol: Symbol) -> bool
     ensures { result ≡ is_items symbol }
 {
-    match symbol {
-        Symbol::Items => true,
-        _ => false,
-    }
+    matches!(symbol, Symbol::Items)
 }
 
 /// Whether two roles are the same.
