@@ -11,7 +11,7 @@ use Rattle.ua_text.specs.declared.pieces.TokenKind.TheVariants as kinds
 use Rattle.ua_text.specs.declared.pieces.Piece.{Piece}
 use Rattle.ua_text.specs.declared.pieces.Piece.TheVariants.{Gap, Lexeme}
 use Rattle.ua_text.specs.Pieces.{Placed, piece, placed, is_number_kind, tokens_from, tokens_of, with_piece}
-use Rattle.ua_text.specs.inner.Pieces.{piece_length}
+use Rattle.ua_text.specs.inner.Tokens.{piece_length}
 use Rattle.ua_text.specs.Slices.{IsSlice, AreSlices}
 
 -- a piece has some bytes, and not more than these

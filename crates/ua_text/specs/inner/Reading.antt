@@ -6,6 +6,8 @@ use Rattle.ua_table.specs.Names.{is_name}
 use Rattle.std.specs.List.{AllByRecursion, IsDistinct, flat_map}
 use Rattle.std.specs.declared.alloc.Global.{Global}
 use Rattle.std.specs.Cmp.Lexicographic.{pointwise}
+use Rattle.ua_forms.specs.Words.{command_words}
+use Rattle.ua_text.specs.Machine.{Forms}
 use Rattle.ua_text.specs.Numbers.{number_value}
 use Rattle.ua_text.specs.Labels.{place_in}
 use Rattle.ua_text.specs.Signs.{Wanted, may_spell, sign, element, Front}
@@ -17,6 +19,10 @@ use Rattle.ua_text.specs.declared.named.Block.{Block}
 use Rattle.ua_text.specs.declared.readers.Miss.{Miss}
 use Rattle.ua_text.specs.declared.symbols.Role.TheVariants as roles
 use Rattle.ua_text.specs.declared.tokens.Tokens.{Tokens}
+
+-- the machine of one block
+abbrev pub block_forms : ℕ → Forms
+block_forms version = record { version = version; unbuilt = command_words; commands = []; provables = []; constructions = []; points = []; choices = (codes "algebra" ∷ []) ∷ [] }
 
 abbrev pub or_else : Option ℕ → Option ℕ → Option ℕ
 or_else (Some v) o = Some v
