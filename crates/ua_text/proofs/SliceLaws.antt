@@ -10,8 +10,8 @@ use Rattle.ua_text.specs.declared.pieces.TokenKind.{TokenKind}
 use Rattle.ua_text.specs.declared.pieces.TokenKind.TheVariants as kinds
 use Rattle.ua_text.specs.declared.pieces.Piece.{Piece}
 use Rattle.ua_text.specs.declared.pieces.Piece.TheVariants.{Gap, Lexeme}
-use Rattle.ua_text.specs.Pieces.{Placed, piece, placed, tokens_from, tokens_of, with_piece}
-use Rattle.ua_text.specs.inner.Pieces.{piece_length}
+use Rattle.ua_text.specs.Pieces.{Placed, piece, placed, is_number_kind, tokens_from, tokens_of, with_piece}
+use Rattle.ua_text.specs.inner.Tokens.{piece_length}
 use Rattle.ua_text.specs.Slices.{IsSlice, AreSlices}
 
 -- a piece has some bytes, and not more than these
@@ -76,10 +76,9 @@ with_within : (source : List ℕ) (p : Piece) (at b : ℕ) (bs : List ℕ) → d
     → AreSlices source (at + 0) (with_piece source p at (b ∷ bs) (λ g s. tokens_from source g s (at + 1) bs))
 with_within source (Gap n) at b bs e w h = let some = w.some in let most = w.most in lower source (at + 0) (at + 1 + (n - 1)) (tokens_from source false (n - 1) (at + 1) bs) (omega arith) (h false (n - 1) (omega arith))
 with_within source (Lexeme kinds.Bad n) at b bs e w h = (omega arith, is_slice source kinds.Bad n at (b ∷ bs) e w.some w.most, tt)
-with_within source (Lexeme kinds.Word n) at b bs e w h = let some = w.some in let most = w.most in one_more source kinds.Word n at (b ∷ bs) (tokens_from source false (n - 1) (at + 1) bs) e some most (h false (n - 1) (omega arith))
-with_within source (Lexeme kinds.Number n) at b bs e w h = let some = w.some in let most = w.most in one_more source kinds.Number n at (b ∷ bs) (tokens_from source true (n - 1) (at + 1) bs) e some most (h true (n - 1) (omega arith))
-with_within source (Lexeme kinds.Mark n) at b bs e w h = let some = w.some in let most = w.most in one_more source kinds.Mark n at (b ∷ bs) (tokens_from source false (n - 1) (at + 1) bs) e some most (h false (n - 1) (omega arith))
-with_within source (Lexeme kinds.Json n) at b bs e w h = let some = w.some in let most = w.most in one_more source kinds.Json n at (b ∷ bs) (tokens_from source false (n - 1) (at + 1) bs) e some most (h false (n - 1) (omega arith))
+with_within source (Lexeme kind n) at b bs e w h =
+    let some = w.some in let most = w.most in
+    one_more source kind n at (b ∷ bs) (tokens_from source (is_number_kind kind) (n - 1) (at + 1) bs) e some most (h (is_number_kind kind) (n - 1) (omega arith))
 
 slices_from : (source : List ℕ) (number : Bool) (skip at : ℕ) (rest : List ℕ) → drop at source ≡ rest → skip ≤ length rest → AreSlices source (at + skip) (tokens_from source number skip at rest)
 slices_from source number zero at [] e k = tt

@@ -9,7 +9,7 @@ ghost use Rattle.ua_text.specs.inner.States.{Follows};
 
 use crate::checks::{size_of, values_of};
 use crate::grammar::Grammar;
-use crate::stacks::Stack;
+use crate::stacks::{Stack, atom, until};
 use crate::symbols::{Role, Symbol, Table, Test};
 use std::alloc::AllocError;
 use ua_table::{Elem, is_variable};
@@ -30,10 +30,7 @@ pub fn skips(symbol: Symbol) -> bool
 pub fn is_items(symbol: Symbol) -> bool
     ensures { result ≡ is_items symbol }
 {
-    match symbol {
-        Symbol::Items => true,
-        _ => false,
-    }
+    matches!(symbol, Symbol::Items)
 }
 
 /// Whether two roles are the same.
@@ -97,28 +94,37 @@ pub fn follow(
 {
     match symbol {
         Symbol::Loop { close, .. } => push_unless(stack, text == [close].as_slice(), symbol)?,
-        Symbol::Many { close, closes, .. } => push_group(stack, symbol, close, closes)?,
+        Symbol::Many { close, closes, .. } => {
+            stack.push_all(&[until(Role::Inner, Test::Number, close, closes), symbol])?
+        }
         Symbol::Start => stack.push(Symbol::Version)?,
-        Symbol::Vectors => push_vector(stack)?,
+        Symbol::Vectors => stack.push_all(&[Symbol::Inside, Symbol::Vectors])?,
         Symbol::Inside => push_unless(stack, text == b"]".as_slice(), symbol)?,
         Symbol::Identities(list) => stack.push_identity(list)?,
-        Symbol::Naming(size) => push_names(stack, size)?,
+        Symbol::Naming(size) => {
+            stack.push_all(&[atom(Role::Opens, Test::Mark(b'(')), Symbol::Elements(size)])?
+        }
         Symbol::Elements(0) | Symbol::Behind(0) | Symbol::Entries { count: 0, .. } => {}
         Symbol::Elements(count) => stack.push(Symbol::Elements(count - 1))?,
         Symbol::Pick(table) => push_form(grammar, stack, table, text)?,
         Symbol::Items => push_item(grammar, stack, text)?,
         Symbol::Term(depth) => push_unless(stack, is_variable(text), Symbol::Behind(depth))?,
-        Symbol::Behind(depth) => push_argument(stack, depth - 1)?,
+        Symbol::Behind(depth) => {
+            stack.push_all(&[Symbol::Term(depth - 1), Symbol::Args(depth - 1)])?
+        }
         Symbol::Args(depth) => {
             if text == b",".as_slice() {
-                push_argument(stack, depth)?;
+                stack.push_all(&[Symbol::Term(depth), symbol])?;
             }
         }
         Symbol::Size => push_inside(stack, version, size_of(text))?,
         Symbol::Ops(size) => push_unless(stack, text == b"end".as_slice(), Symbol::OpName(size))?,
         Symbol::OpName(size) => stack.push(Symbol::Arity(size))?,
         Symbol::Arity(size) => push_values(stack, size, values_of(size, text))?,
-        Symbol::Entries { count, size } => push_entries(stack, size, count - 1)?,
+        Symbol::Entries { count, size } => {
+            let left = count - 1;
+            stack.push(Symbol::Entries { count: left, size })?
+        }
         _ => {}
     }
     Ok(())
@@ -134,40 +140,12 @@ fn push_unless(stack: &mut Stack, ended: bool, symbol: Symbol) -> Result<(), All
     stack.push(symbol)
 }
 
-/// Pushes the numbers of a group, and the groups behind it.
-fn push_group(stack: &mut Stack, groups: Symbol, close: u8, closes: Role) -> Result<(), AllocError>
-    ensures { OnOk result (stack.new ≡ Symbol.Loop Role.Inner Test.Number close closes ∷ groups ∷ stack.old) }
-{
-    stack.push(groups)?;
-    stack.push(Symbol::Loop {
-        role: Role::Inner,
-        test: Test::Number,
-        close,
-        closes,
-    })
-}
-
-/// Pushes what stands inside a vector, and the vectors behind it.
-fn push_vector(stack: &mut Stack) -> Result<(), AllocError>
-    ensures { OnOk result (stack.new ≡ Symbol.Inside ∷ Symbol.Vectors ∷ stack.old) }
-{
-    stack.push(Symbol::Vectors)?;
-    stack.push(Symbol::Inside)
-}
-
 /// Pushes the parts of the form of this word, and the items behind it.
 fn push_item(grammar: &Grammar, stack: &mut Stack, text: &[u8]) -> Result<(), AllocError>
     ensures { OnOk result (stack.new ≡ pushed_parts (parts_behind (forms_of grammar.now) Table.Commands text.now) (Symbol.Items ∷ stack.old)) }
 {
     stack.push(Symbol::Items)?;
     push_form(grammar, stack, Table::Commands, text)
-}
-
-/// Pushes so many values of a table.
-fn push_entries(stack: &mut Stack, size: Elem, count: u64) -> Result<(), AllocError>
-    ensures { OnOk result (stack.new ≡ Symbol.Entries count size ∷ stack.old) }
-{
-    stack.push(Symbol::Entries { count, size })
 }
 
 /// Pushes the parts of the form of this word, if it may be taken.
@@ -185,25 +163,6 @@ fn push_form(
     }
 }
 
-/// Pushes an argument and what stands behind it.
-fn push_argument(stack: &mut Stack, depth: u8) -> Result<(), AllocError>
-    ensures { OnOk result (stack.new ≡ Symbol.Term depth ∷ Symbol.Args depth ∷ stack.old) }
-{
-    stack.push(Symbol::Args(depth))?;
-    stack.push(Symbol::Term(depth))
-}
-
-/// Pushes the names of so many elements.
-fn push_names(stack: &mut Stack, size: Elem) -> Result<(), AllocError>
-    ensures { OnOk result (stack.new ≡ Symbol.Atom Role.Opens (Test.Mark 40) ∷ Symbol.Elements size ∷ stack.old) }
-{
-    stack.push(Symbol::Elements(size))?;
-    stack.push(Symbol::Atom {
-        role: Role::Opens,
-        test: Test::Mark(b'('),
-    })
-}
-
 /// Pushes what stands behind the size of a block.
 fn push_inside(stack: &mut Stack, version: u8, size: Elem) -> Result<(), AllocError>
     ensures { OnOk result (stack.new ≡ with_naming version size (Symbol.Ops size ∷ stack.old)) }
@@ -219,10 +178,9 @@ fn push_inside(stack: &mut Stack, version: u8, size: Elem) -> Result<(), AllocEr
 fn push_values(stack: &mut Stack, size: Elem, count: u64) -> Result<(), AllocError>
     ensures { OnOk result (stack.new ≡ Symbol.Atom Role.Exact (Test.Mark 61) ∷ Symbol.Entries count size ∷ Symbol.Ops size ∷ stack.old) }
 {
-    stack.push(Symbol::Ops(size))?;
-    stack.push(Symbol::Entries { count, size })?;
-    stack.push(Symbol::Atom {
-        role: Role::Exact,
-        test: Test::Mark(b'='),
-    })
+    stack.push_all(&[
+        atom(Role::Exact, Test::Mark(b'=')),
+        Symbol::Entries { count, size },
+        Symbol::Ops(size),
+    ])
 }

@@ -1,11 +1,13 @@
 -- What is read on the way to a block.
-use Rattle.std.specs.Prelude.{◌≡◌, ℕ, ◌<◌, Bool, true, false, nat_eq, not, List, [], ◌∷◌, length, map, codes, Option, Some, None, Result, Vec}
+use Rattle.std.specs.Prelude.{◌≡◌, ℕ, ◌<◌, Bool, true, false, nat_eq, not, List, [], ◌∷◌, ◌++◌, length, map, codes, Option, Some, None, Result, Vec}
 use Rattle.ua_table.specs.declared.limits.TheConstants.{SIZE}
 use Rattle.ua_table.specs.Algebras.{Operation}
 use Rattle.ua_table.specs.Names.{is_name}
 use Rattle.std.specs.List.{AllByRecursion, IsDistinct, flat_map}
 use Rattle.std.specs.declared.alloc.Global.{Global}
 use Rattle.std.specs.Cmp.Lexicographic.{pointwise}
+use Rattle.ua_forms.specs.Words.{command_words}
+use Rattle.ua_text.specs.Machine.{Forms}
 use Rattle.ua_text.specs.Numbers.{number_value}
 use Rattle.ua_text.specs.Labels.{place_in}
 use Rattle.ua_text.specs.Signs.{Wanted, may_spell, sign, element, Front}
@@ -17,6 +19,10 @@ use Rattle.ua_text.specs.declared.named.Block.{Block}
 use Rattle.ua_text.specs.declared.readers.Miss.{Miss}
 use Rattle.ua_text.specs.declared.symbols.Role.TheVariants as roles
 use Rattle.ua_text.specs.declared.tokens.Tokens.{Tokens}
+
+-- the machine of one block
+abbrev pub block_forms : ℕ → Forms
+block_forms version = record { version = version; unbuilt = command_words; commands = []; provables = []; constructions = []; points = []; choices = (codes "algebra" ∷ []) ∷ [] }
 
 abbrev pub or_else : Option ℕ → Option ℕ → Option ℕ
 or_else (Some v) o = Some v
@@ -47,11 +53,12 @@ abbrev pub TakesOperation : Tokens → Tokens → List (List ℕ) → ℕ → Re
 TakesOperation old new labels size result =
     (o : Operation) (ws : List Wanted) (rest : List Placed) → IsReadable size o → AreLabels labels → Takes old new result (λ table. table ≡ o) (written.operation labels o) ws rest
 
--- so are all operations, up to the end of the block
+-- so are all operations, and the end of the block
 abbrev pub TakesOperations : Tokens → Tokens → List (List ℕ) → ℕ → Result (Vec Operation Global) Miss → Type 0
 TakesOperations old new labels size result =
     (os : List Operation) (ws : List Wanted) (rest : List Placed) → AllByRecursion (IsReadable size) os → AreLabels labels
-    → Takes old new result (λ operations. operations.items ≡ os) (flat_map (written.operation labels) os) (sign roles.Line (codes "end") ∷ ws) rest
+    → Front (tokens_left old) (flat_map (written.operation labels) os ++ sign roles.Line (codes "end") ∷ ws) rest
+    → Gives result (λ operations. (operations.items ≡ os) × Front (tokens_left new) ws rest)
 
 -- so are names, up to a parenthesis
 abbrev pub TakesLabels : Tokens → Tokens → Result (Vec (List ℕ) Global) Miss → Type 0
