@@ -1,44 +1,21 @@
 -- What is written for operands without their places is what is written for them, without places.
+use Rattle.ua_operands.proofs.Vocabulary.{AllByRecursion, flat_map, Place, Role, Placed, Wanted, IsSign, IsAt, token_texts, sign, sign_at, Front, word, further, number, entry, vector, part}
+use Rattle.ua_operands.proofs.Vocabulary.{part_block, part_blocks, names, mode, variable, arguments, identity_behind, identity, points, IsShortEntry, IsShortVector, IsShortBlock, IsShort, IsNamed}
+use Rattle.ua_operands.proofs.Vocabulary.{ArePointsShort}
+use Rattle.ua_script.proofs.Vocabulary.{Word, Number, Entry, Items as Vector, PartText, Variable, IdentityText, Mode, Plain, Least, Count, PointsText, Total, Partial, Constructions, Points, Part}
+use Rattle.ua_script.proofs.Vocabulary.{block, body, Phrase, Phrases, phrase, none, more, nowhere, bare_phrase, bare_phrases, MakeForm, Product, Quotient, Sub, Reduct, Item, Value, Values}
+use Rattle.ua_script.proofs.Vocabulary.{construction, value_text, values_text, word_of, parts_of, Asked, asked, heading, asked_text, item, bare_word, bare_number, bare_entry, bare_vector, bare_part}
+use Rattle.ua_script.proofs.Vocabulary.{bare_identity, bare_construction, bare_points, bare_value, bare_values, bare, bare_item, IsShortConstruction}
 use Rattle.std.proofs.Common.{◌≡◌, ℕ, Bool, true, false, List, [], ◌∷◌, ◌++◌, map, Option, None, Some, refl, sym, ap, ◌∙◌, subst, codes, arith}
-use Rattle.std.specs.List.{AllByRecursion, flat_map}
 use Rattle.std.proofs.lemmas.List.{length-map, map-append}
-use Rattle.ua_text.specs.declared.tokens.Place.{Place}
-use Rattle.ua_text.specs.declared.symbols.Role.{Role}
 use Rattle.ua_text.specs.declared.symbols.Role.TheVariants as roles
-use Rattle.ua_text.specs.declared.symbols.Table.TheVariants.{Constructions, Points}
-use Rattle.ua_text.specs.declared.symbols.Part.{Part}
 use Rattle.ua_text.specs.declared.symbols.Part.TheVariants as parts
-use Rattle.ua_text.specs.Pieces.{Placed}
-use Rattle.ua_text.specs.Signs.{Wanted, IsSign, IsAt, token_texts, sign, sign_at, Front}
-use Rattle.ua_text.specs.Blocks.{block, body}
 use Rattle.ua_text.proofs.Running.{sign_itself}
 use Rattle.ua_text.proofs.PrintedBlocks.{placeless_block}
 use Rattle.ua_text.proofs.WrittenAgain.{Stands, first_of, rest_stands, ArePlaceless, placeless_both}
-use Rattle.ua_term.specs.Phrases.{Phrase, Phrases, phrase, none, more, nowhere, bare_phrase, bare_phrases}
 use Rattle.ua_term.specs.Terms.{mark, term, applied, behind}
-use Rattle.ua_operands.specs.declared.written.Word.{Word}
-use Rattle.ua_operands.specs.declared.written.Number.{Number}
-use Rattle.ua_operands.specs.declared.written.Entry.{Entry}
 use Rattle.ua_operands.specs.declared.written.Entry.TheVariants as entries
-use Rattle.ua_operands.specs.declared.written.Items.{Items as Vector}
-use Rattle.ua_operands.specs.declared.written.PartText.{PartText}
-use Rattle.ua_operands.specs.declared.written.Variable.{Variable}
-use Rattle.ua_operands.specs.declared.written.IdentityText.{IdentityText}
-use Rattle.ua_operands.specs.declared.written.Mode.{Mode}
-use Rattle.ua_operands.specs.declared.written.Mode.TheVariants.{Plain, Least, Count}
-use Rattle.ua_operands.specs.declared.written.PointsText.{PointsText}
-use Rattle.ua_operands.specs.declared.written.PointsText.TheVariants.{Total, Partial}
-use Rattle.ua_operands.specs.Written.{word, further, number, entry, vector, part, part_block, part_blocks, names, mode, variable, arguments, identity_behind, identity, points}
-use Rattle.ua_operands.specs.Reading.{IsShortEntry, IsShortVector, IsShortBlock, IsShort, IsNamed, ArePointsShort}
-use Rattle.ua_script.specs.declared.script.MakeForm.{MakeForm}
-use Rattle.ua_script.specs.declared.script.MakeForm.TheVariants.{Product, Quotient, Sub, Reduct}
-use Rattle.ua_script.specs.declared.script.Item.{Item}
 use Rattle.ua_script.specs.declared.script.Item.TheVariants as items
-use Rattle.ua_script.specs.Operands.{Value, Values, construction, value_text, values_text}
-use Rattle.ua_script.specs.Forms.{word_of, parts_of, Asked, asked}
-use Rattle.ua_script.specs.Grammar.{heading, asked_text, item}
-use Rattle.ua_script.specs.Places.{bare_word, bare_number, bare_entry, bare_vector, bare_part, bare_identity, bare_construction, bare_points, bare_value, bare_values, bare, bare_item}
-use Rattle.ua_script.specs.inner.Reading.{IsShortConstruction}
 use Rattle.ua_script.proofs.ScriptReadings.{Told, AreTold, IsToldItem, bare_text, kept}
 
 -- Tokens that stand nowhere, and what is wanted there. The first word of a command keeps no place.

@@ -1,24 +1,12 @@
 -- The first token of an item.
+use Rattle.ua_operands.proofs.Vocabulary.{flat_map, list_all, is_number, Placed, same, Wanted, sign, Front, IsReadableBlock, begins_with, begins_item, begins_number}
+use Rattle.ua_script.proofs.Vocabulary.{Block, body, Command, Item, values_text, word_of, parts_of, all_forms, Asked, asked, heading, asked_text, command, item, IsReadableItem}
 use Rattle.std.proofs.Common.{◌≡◌, ℕ, Bool, true, false, not, List, [], ◌∷◌, ◌++◌, length, codes, refl, sym, subst, append_assoc, arith}
-use Rattle.std.specs.List.{flat_map, list_all}
 use Rattle.std.proofs.lemmas.Bool.{not-true}
-use Rattle.ua_text.specs.declared.named.Block.{Block}
 use Rattle.ua_text.specs.declared.symbols.Role.TheVariants as roles
-use Rattle.ua_text.specs.Bytes.{is_number}
-use Rattle.ua_text.specs.Pieces.{Placed}
-use Rattle.ua_text.specs.Words.{same}
-use Rattle.ua_text.specs.Signs.{Wanted, sign, Front}
-use Rattle.ua_text.specs.Blocks.{body}
-use Rattle.ua_text.specs.Reading.{IsReadableBlock, begins_with}
 use Rattle.ua_text.proofs.Readable.{readable}
-use Rattle.ua_operands.specs.Reading.{begins_item, begins_number}
-use Rattle.ua_script.specs.declared.script.Command.{Command}
-use Rattle.ua_script.specs.declared.script.Item.{Item}
+use Rattle.ua_operands.proofs.ReadLaws.{Kind}
 use Rattle.ua_script.specs.declared.script.Item.TheVariants as items
-use Rattle.ua_script.specs.Operands.{values_text}
-use Rattle.ua_script.specs.Forms.{word_of, parts_of, all_forms, Asked, asked}
-use Rattle.ua_script.specs.Grammar.{heading, asked_text, command, item}
-use Rattle.ua_script.specs.Reading.{IsReadableItem}
 use Rattle.ua_script.proofs.Table.{each_form}
 
 -- what holds of a command that is asked for, if it does with a certificate and without
@@ -61,6 +49,10 @@ pub item_some : (i : Item) (ts : List Placed) (ws : List Wanted) → length ts �
 item_some (items.Block a) [] ws l f = f
 item_some (items.Command c) [] ws l f = asked_some (asked c) ws f
 item_some i (t ∷ ts) ws l f = absurd (omega arith)
+
+-- the items of a script, up to its end
+abbrev pub item_kind : ℕ → Kind Item
+item_kind v = record { Good = IsReadableItem v; one = item; all = flat_map item; Ends = λ ws. ws ≡ []; more = λ i is. refl; none = refl }
 
 -- what holds of an item that stands there, if it holds of a block and of a command
 pub by_item : {v : ℕ} (G : Item → Type 0) (ts : List Placed) (ws : List Wanted) (i : Item) → IsReadableItem v i → Front ts (item i ++ ws) []

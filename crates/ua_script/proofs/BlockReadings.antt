@@ -1,17 +1,12 @@
 -- At the front of tokens stands at most one block.
+use Rattle.ua_operands.proofs.Vocabulary.{AllByRecursion, flat_map, is_name, Placed, same, Element, Wanted, IsSign, sign, numeral, element, may_spell, AreSpelled, Front, IsBlockAt}
+use Rattle.ua_script.proofs.Vocabulary.{Block, operation, naming, body, IsBlockOperation, IsBlock, MayName}
+use Rattle.std.specs.List.{IsDistinct}
 use Rattle.std.proofs.Common.{◌≡◌, inl, inr, Bool, ℕ, ◌<◌, ◌≤◌, ◌^◌, true, false, List, [], ◌∷◌, ◌++◌, length, map, nat_eq, Some, codes, refl, sym, ap, ◌∙◌, subst, append_assoc, append-nil, arith}
-use Rattle.std.specs.List.{AllByRecursion, flat_map, IsDistinct}
 use Rattle.std.specs.Cmp.Lexicographic.{pointwise}
 use Rattle.std.proofs.lemmas.Bool.{false≢true}
-use Rattle.ua_table.specs.Names.{is_name}
 use Rattle.ua_table.specs.Algebras.{Operation}
-use Rattle.ua_text.specs.declared.named.Block.{Block}
 use Rattle.ua_text.specs.declared.symbols.Role.TheVariants as roles
-use Rattle.ua_text.specs.Pieces.{Placed}
-use Rattle.ua_text.specs.Words.{same}
-use Rattle.ua_text.specs.Signs.{Element, Wanted, IsSign, sign, numeral, element, may_spell, AreSpelled, Front}
-use Rattle.ua_text.specs.Blocks.{operation, naming, body, IsBlockOperation, IsBlock, MayName}
-use Rattle.ua_text.specs.Reading.{IsBlockAt}
 use Rattle.ua_text.specs.inner.Reading.{AreLabels}
 use Rattle.ua_text.proofs.BlocksRead.{limited}
 use Rattle.ua_text.proofs.ReadLaws.{element_is, algebra_is, block_is, body_then}

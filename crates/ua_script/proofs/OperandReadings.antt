@@ -1,37 +1,20 @@
 -- At the front of tokens stands at most one operand of a kind.
+use Rattle.ua_operands.proofs.Vocabulary.{AllByRecursion, flat_map, decimal, is_name, Role, Place, Placed, same, number_value, Wanted, sign, Front, begins_with, word, number, entry, vector, part}
+use Rattle.ua_operands.proofs.Vocabulary.{part_block, part_blocks, names, mode, cond_word, series_word, variable, variable_word, clone_word, identity, IsShort, IsShortEntry, IsShortVector}
+use Rattle.ua_operands.proofs.Vocabulary.{IsShortBlock, IsNamed, begins_number, begins_item}
+use Rattle.ua_script.proofs.Vocabulary.{Word, Number, Entry, Items, PartText, Plain, Least, Count, Variable, IdentityText, Choice, choice_text, value_text}
 use Rattle.std.proofs.Common.{◌≡◌, ℕ, ◌<◌, zero, suc, true, false, List, [], ◌∷◌, ◌++◌, map, Some, None, codes, refl, sym, ap, ◌∙◌, subst}
-use Rattle.std.specs.List.{AllByRecursion, flat_map}
-use Rattle.std.specs.Fmt.{decimal}
 use Rattle.std.proofs.lemmas.Bool.{false≢true}
-use Rattle.ua_table.specs.Names.{is_name}
-use Rattle.ua_text.specs.declared.symbols.Role.{Role}
 use Rattle.ua_text.specs.declared.symbols.Role.TheVariants as roles
 use Rattle.ua_text.specs.declared.symbols.Part.TheVariants as parts
-use Rattle.ua_text.specs.declared.tokens.Place.{Place}
-use Rattle.ua_text.specs.Pieces.{Placed}
-use Rattle.ua_text.specs.Words.{same}
-use Rattle.ua_text.specs.Numbers.{number_value}
-use Rattle.ua_text.specs.Signs.{Wanted, sign, Front}
-use Rattle.ua_text.specs.Reading.{begins_with}
 use Rattle.ua_text.proofs.Digits.{number_read}
 use Rattle.ua_text.proofs.ReadBack.{place_of}
 use Rattle.ua_text.proofs.ReadLaws.{no_number}
 use Rattle.ua_text.proofs.WordLaws.{same_itself}
-use Rattle.ua_operands.specs.declared.written.Word.{Word}
-use Rattle.ua_operands.specs.declared.written.Number.{Number}
-use Rattle.ua_operands.specs.declared.written.Entry.{Entry}
 use Rattle.ua_operands.specs.declared.written.Entry.TheVariants as entries
-use Rattle.ua_operands.specs.declared.written.Items.{Items}
-use Rattle.ua_operands.specs.declared.written.PartText.{PartText}
-use Rattle.ua_operands.specs.declared.written.Mode.TheVariants.{Plain, Least, Count}
-use Rattle.ua_operands.specs.declared.written.Variable.{Variable}
-use Rattle.ua_operands.specs.declared.written.IdentityText.{IdentityText}
-use Rattle.ua_operands.specs.Written.{word, number, entry, vector, part, part_block, part_blocks, names, mode, cond_word, series_word, variable, variable_word, clone_word, identity}
-use Rattle.ua_operands.specs.Reading.{IsShort, IsShortEntry, IsShortVector, IsShortBlock, IsNamed, begins_number, begins_item}
 use Rattle.ua_operands.proofs.ReadLaws.{number_is, word_is, part_is, identity_is, entry_apart, word_apart, inner_apart, variable_apart, names_front, block_front, blocks_front}
 use Rattle.ua_operands.proofs.ReadLaws.{blocks_flat, block_number, tail_number, behind_then, condition_is, series_is, variable_is}
 use Rattle.ua_operands.proofs.CloneLaws.{clone_is}
-use Rattle.ua_script.specs.Operands.{Choice, choice_text, value_text}
 use Rattle.ua_script.proofs.TokenReadings.{IsDetermined, Any, IsTold, NoMore, apart, clash, opens_not, closed, many}
 
 -- ---- one token

@@ -1,40 +1,19 @@
 -- A text is at most one script.
+use Rattle.ua_operands.proofs.Vocabulary.{AllByRecursion, flat_map, list_all, Place, Placed, tokens_of, same, Wanted, sign, AreSpelled, Front, begins_with, word, number, points, ArePointsShort}
+use Rattle.ua_operands.proofs.Vocabulary.{begins_item}
+use Rattle.ua_script.proofs.Vocabulary.{Total, Partial, Constructions, Points, Part, block, IsVersion, MakeForm, Product, Quotient, Sub, Reduct, Command, Item, Script, CommandForm, Value, Values}
+use Rattle.ua_script.proofs.Vocabulary.{choice_text, construction, value_text, values_text, AreValues, word_of, parts_of, all_forms, Asked, asked, made, found_form, finished, heading, asked_text}
+use Rattle.ua_script.proofs.Vocabulary.{command, item, written, version_line, IsOpening, IsItem, IsScript, BareItem, BareBlock, BareCommand, ends, IsShortConstruction, IsShortValue, IsKept, all_end}
+use Rattle.ua_script.proofs.Vocabulary.{Ends}
 use Rattle.std.proofs.Common.{◌≡◌, inl, inr, ℕ, ◌<◌, Bool, true, false, List, [], ◌∷◌, ◌++◌, Some, None, codes, refl, sym, ap, ◌∙◌, subst, append_assoc, append-nil, arith}
-use Rattle.std.specs.List.{AllByRecursion, flat_map, list_all}
 use Rattle.std.proofs.lemmas.Bool.{false≢true, and_parts, not-true}
-use Rattle.ua_text.specs.declared.tokens.Place.{Place}
 use Rattle.ua_text.specs.declared.symbols.Role.TheVariants as roles
-use Rattle.ua_text.specs.declared.symbols.Table.TheVariants.{Constructions, Points}
-use Rattle.ua_text.specs.declared.symbols.Part.{Part}
 use Rattle.ua_text.specs.declared.symbols.Part.TheVariants as parts
-use Rattle.ua_text.specs.Pieces.{Placed, tokens_of}
-use Rattle.ua_text.specs.Words.{same}
-use Rattle.ua_text.specs.Signs.{Wanted, sign, AreSpelled, Front}
-use Rattle.ua_text.specs.Blocks.{block}
-use Rattle.ua_text.specs.Versions.{IsVersion}
-use Rattle.ua_text.specs.Reading.{begins_with}
 use Rattle.ua_text.proofs.ReadBack.{place_of}
 use Rattle.ua_text.proofs.WordLaws.{same_itself}
 use Rattle.ua_text.proofs.SpelledLaws.{spelled_left, spelled_right}
-use Rattle.ua_operands.specs.declared.written.PointsText.TheVariants.{Total, Partial}
-use Rattle.ua_operands.specs.Written.{word, number, points}
-use Rattle.ua_operands.specs.Reading.{ArePointsShort, begins_item}
-use Rattle.ua_script.specs.declared.script.MakeForm.{MakeForm}
-use Rattle.ua_script.specs.declared.script.MakeForm.TheVariants.{Product, Quotient, Sub, Reduct}
-use Rattle.ua_script.specs.declared.script.Command.{Command}
 use Rattle.ua_script.specs.declared.script.Command.TheVariants as commands
-use Rattle.ua_script.specs.declared.script.Item.{Item}
 use Rattle.ua_script.specs.declared.script.Item.TheVariants as items
-use Rattle.ua_script.specs.declared.script.Script.{Script}
-use Rattle.ua_script.specs.declared.forms.CommandForm.{CommandForm}
-use Rattle.ua_script.specs.Operands.{Value, Values, choice_text, construction, value_text, values_text, AreValues}
-use Rattle.ua_script.specs.Forms.{word_of, parts_of, all_forms, Asked, asked, made}
-use Rattle.ua_script.specs.inner.Forms.{found_form, finished}
-use Rattle.ua_script.specs.Grammar.{heading, asked_text, command, item, written, version_line, IsOpening, IsItem, IsScript}
-use Rattle.ua_script.specs.Places.{BareItem, BareBlock, BareCommand}
-use Rattle.ua_script.specs.Reading.{ends}
-use Rattle.ua_script.specs.inner.Reading.{IsShortConstruction, IsShortValue, IsKept, all_end}
-use Rattle.ua_script.specs.inner.Parts.{Ends}
 use Rattle.ua_script.proofs.Beginnings.{begins_not, no_block, asked_begins, asked_some, items_begin, item_some, no_version}
 use Rattle.ua_script.proofs.ConstructionLaws.{first_of, behind, construction_front}
 use Rattle.ua_script.proofs.Operands.{ends_well}

@@ -1,36 +1,17 @@
 -- What holds of every row of the table, and of the commands that are made by it.
+use Rattle.ua_operands.proofs.Vocabulary.{list_all, Place, is_name, Placed, IsAt, same}
+use Rattle.ua_script.proofs.Vocabulary.{Word, Number, Items as Entries, Mode, Plain, Least, Count, Part, Provables, Row, lookup, either, Provable, Command, CommandForm, Values, form_row, word_of}
+use Rattle.ua_script.proofs.Vocabulary.{parts_of, all_forms, question, asked, made, certified, found_form, finished, HasMode, MayAsk, script_forms, without_modes, commands as command_rows}
+use Rattle.ua_script.proofs.Vocabulary.{provables as question_rows, IsKept, all_end}
 use Rattle.std.proofs.Common.{◌≡◌, ℕ, Bool, true, false, ◌&&◌, ◌||◌, not, if◌then◌else◌, List, [], ◌∷◌, map, Option, Some, None, refl, sym, ap, ◌∙◌, subst, codes}
-use Rattle.std.specs.List.{list_all}
 use Rattle.std.proofs.lemmas.Bool.{false≢true, and_parts}
-use Rattle.ua_text.specs.declared.symbols.Part.{Part}
 use Rattle.ua_text.specs.declared.symbols.Part.TheVariants as parts
 use Rattle.ua_text.specs.declared.symbols.Symbol.TheVariants.{Items}
-use Rattle.ua_text.specs.declared.symbols.Table.TheVariants.{Provables}
-use Rattle.ua_text.specs.declared.tokens.Place.{Place}
-use Rattle.ua_table.specs.Names.{is_name}
-use Rattle.ua_text.specs.Pieces.{Placed}
-use Rattle.ua_text.specs.Signs.{IsAt}
 use Rattle.ua_text.proofs.ReadBack.{place_of}
-use Rattle.ua_text.specs.Words.{same}
-use Rattle.ua_text.specs.Machine.{Row, lookup, either}
 use Rattle.ua_text.proofs.WordLaws.{same-true}
-use Rattle.ua_operands.specs.declared.written.Word.{Word}
-use Rattle.ua_operands.specs.declared.written.Number.{Number}
-use Rattle.ua_operands.specs.declared.written.Items.{Items as Entries}
-use Rattle.ua_operands.specs.declared.written.Mode.{Mode}
-use Rattle.ua_operands.specs.declared.written.Mode.TheVariants.{Plain, Least, Count}
-use Rattle.ua_script.specs.declared.script.Provable.{Provable}
 use Rattle.ua_script.specs.declared.script.Provable.TheVariants as provables
-use Rattle.ua_script.specs.declared.script.Command.{Command}
 use Rattle.ua_script.specs.declared.script.Command.TheVariants as commands
-use Rattle.ua_script.specs.declared.forms.CommandForm.{CommandForm}
 use Rattle.ua_script.specs.declared.forms.CommandForm.TheVariants as forms
-use Rattle.ua_script.specs.Operands.{Values}
-use Rattle.ua_script.specs.Forms.{form_row, word_of, parts_of, all_forms, question, asked, made, certified}
-use Rattle.ua_script.specs.inner.Forms.{found_form, finished}
-use Rattle.ua_script.specs.Grammar.{HasMode, MayAsk}
-use Rattle.ua_script.specs.Tables.{script_forms, without_modes, commands as command_rows, provables as question_rows}
-use Rattle.ua_script.specs.inner.Reading.{IsKept, all_end}
 use Rattle.ua_script.proofs.Parts.{all_stop, all_ok, all_simple}
 
 -- each form is found by its word

@@ -1,11 +1,9 @@
 -- At the front of tokens stands at most one term.
+use Rattle.ua_operands.proofs.Vocabulary.{Placed, Wanted, Front}
+use Rattle.ua_script.proofs.Vocabulary.{no_parenthesis_follows, Phrase, Phrases, phrase, none, more}
 use Rattle.std.proofs.Common.{◌≡◌, true, false, not, nat_eq, List, [], ◌∷◌, ◌++◌, codes, refl, sym, ap, ◌∙◌, subst, append-nil}
 use Rattle.std.specs.Cmp.Lexicographic.{pointwise}
 use Rattle.std.proofs.lemmas.Bool.{false≢true}
-use Rattle.ua_text.specs.Pieces.{Placed}
-use Rattle.ua_text.specs.Signs.{Wanted, Front}
-use Rattle.ua_text.specs.Languages.{no_parenthesis_follows}
-use Rattle.ua_term.specs.Phrases.{Phrase, Phrases, phrase, none, more}
 use Rattle.ua_term.specs.Terms.{mark, term, applied, behind}
 use Rattle.ua_term.specs.Reading.{IsEnd, IsTermAt}
 use Rattle.ua_script.proofs.TokenReadings.{Same, apart, clash}

@@ -1,11 +1,7 @@
 -- The same tokens read in two ways: what is read is the same, and so is what is left.
+use Rattle.ua_operands.proofs.Vocabulary.{AllByRecursion, flat_map, Placed, same, begins_with, Spelled, Wanted, IsSign, IsAt, may_spell, Front}
 use Rattle.std.proofs.Common.{◌≡◌, ℕ, true, false, List, [], ◌∷◌, ◌++◌, map, refl, sym, ap, ◌∙◌, subst, append_assoc}
-use Rattle.std.specs.List.{AllByRecursion, flat_map}
 use Rattle.std.proofs.lemmas.Bool.{false≢true}
-use Rattle.ua_text.specs.Pieces.{Placed}
-use Rattle.ua_text.specs.Words.{same}
-use Rattle.ua_text.specs.Reading.{begins_with}
-use Rattle.ua_text.specs.Signs.{Spelled, Wanted, IsSign, IsAt, may_spell, Front}
 use Rattle.ua_text.proofs.Spelling.{no_spell}
 use Rattle.ua_text.proofs.WordLaws.{same_itself}
 
