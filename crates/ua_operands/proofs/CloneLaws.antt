@@ -1,26 +1,17 @@
 -- Clones and points as they stand at the front of tokens.
+use Rattle.ua_operands.proofs.Vocabulary.{flat_map, same, Placed, Wanted, sign, Front, Items, CloneWord, PointsText, Total, Partial, vector, clone_word, points}
 use Rattle.std.proofs.Common.{◌≡◌, ℕ, true, false, List, [], ◌∷◌, ◌++◌, codes, refl, subst, append_assoc}
-use Rattle.std.specs.List.{flat_map}
 use Rattle.std.proofs.lemmas.Bool.{false≢true, true≢false}
 use Rattle.ua_text.specs.declared.symbols.Role.TheVariants as roles
-use Rattle.ua_text.specs.Words.{same}
-use Rattle.ua_text.specs.Pieces.{Placed}
-use Rattle.ua_text.specs.Signs.{Wanted, sign, Front}
-use Rattle.ua_operands.specs.declared.written.Items.{Items}
-use Rattle.ua_operands.specs.declared.written.CloneWord.{CloneWord}
 use Rattle.ua_operands.specs.declared.written.CloneWord.TheVariants.{Term, Polynomial}
-use Rattle.ua_operands.specs.declared.written.PointsText.{PointsText}
-use Rattle.ua_operands.specs.declared.written.PointsText.TheVariants.{Total, Partial}
-use Rattle.ua_operands.specs.Written.{vector, clone_word, points}
 
 pub clone_is : (k c : CloneWord) (t : List ℕ) → t ≡ clone_word k → same t (clone_word c) ≡ true → c ≡ k
 clone_is k c t e h = differ k c (subst (λ z. same z (clone_word c) ≡ true) e h)
   where
     differ : (k c : CloneWord) → same (clone_word k) (clone_word c) ≡ true → c ≡ k
     differ Term Term h = refl
-    differ Term Polynomial h = absurd (false≢true h)
-    differ Polynomial Term h = absurd (false≢true h)
     differ Polynomial Polynomial h = refl
+    differ k c h = absurd (false≢true h)
 
 pub some_clone : {Q : Type 0} (k : CloneWord) (t : List ℕ) → t ≡ clone_word k → same t (codes "term") ≡ false → same t (codes "polynomial") ≡ false → Q
 some_clone Term t e a b = absurd (true≢false (subst (λ z. same z (codes "term") ≡ false) e a))

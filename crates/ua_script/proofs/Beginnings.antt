@@ -1,74 +1,69 @@
--- The first token of a command.
-use Rattle.std.proofs.Common.{◌≡◌, ℕ, Bool, ◌||◌, true, false, List, ◌∷◌, ◌++◌, Option, codes, refl, sym, subst}
-use Rattle.std.proofs.lemmas.Bool.{or_parts, not-true}
+-- The first token of an item.
+use Rattle.ua_operands.proofs.Vocabulary.{flat_map, list_all, is_number, Placed, same, Wanted, sign, Front, IsReadableBlock, begins_with, begins_item, begins_number}
+use Rattle.ua_script.proofs.Vocabulary.{Block, body, Command, Item, values_text, word_of, parts_of, all_forms, Asked, asked, heading, asked_text, command, item, IsReadableItem}
+use Rattle.std.proofs.Common.{◌≡◌, ℕ, Bool, true, false, not, List, [], ◌∷◌, ◌++◌, length, codes, refl, sym, subst, append_assoc, arith}
+use Rattle.std.proofs.lemmas.Bool.{not-true}
 use Rattle.ua_text.specs.declared.symbols.Role.TheVariants as roles
-use Rattle.ua_text.specs.declared.tokens.Place.{Place}
-use Rattle.ua_text.specs.Bytes.{is_number}
-use Rattle.ua_text.specs.Words.{same}
-use Rattle.ua_text.specs.Signs.{Wanted, sign, Spelled, may_spell}
-use Rattle.ua_text.specs.Reading.{begins_with}
-use Rattle.ua_script.specs.declared.script.Command.{Command}
-use Rattle.ua_script.specs.declared.forms.CommandForm.{CommandForm}
-use Rattle.ua_script.specs.Operands.{values_text}
-use Rattle.ua_script.specs.Forms.{word_of, parts_of, asked}
-use Rattle.ua_script.specs.Grammar.{first_word, heading, command}
-use Rattle.ua_operands.specs.Reading.{begins_item, may_be_number}
-use Rattle.ua_script.proofs.Table.{begins_other, no_other}
+use Rattle.ua_text.proofs.Readable.{readable}
+use Rattle.ua_operands.proofs.ReadLaws.{Kind}
+use Rattle.ua_script.specs.declared.script.Item.TheVariants as items
+use Rattle.ua_script.proofs.Table.{each_form}
 
--- so it is none of the words that begin another thing
-pub record IsPlain (text : List ℕ) : Type 0 where
-  pub bracket : same text (codes "[") ≡ false
-  pub least : same text (codes "least") ≡ false
-  pub count : same text (codes "count") ≡ false
-  pub block : same text (codes "algebra") ≡ false
-  pub version : same text (codes "version") ≡ false
-  pub number : is_number text ≡ false
-  pub parenthesis : same text (codes "(") ≡ false
+-- what holds of a command that is asked for, if it does with a certificate and without
+by_heading : (G : List Wanted → Type 0) (a : Asked) (ws : List Wanted) → ((us : List Wanted) → G (heading true (word_of a.form) a.place ++ us)) → ((us : List Wanted) → G (heading false (word_of a.form) a.place ++ us))
+    → G (asked_text a ++ ws)
+by_heading G a ws certified plain = at a.cert
+  where
+    at : (cert : Bool) → G ((heading cert (word_of a.form) a.place ++ values_text (parts_of a.form) a.values) ++ ws)
+    at true = certified (values_text (parts_of a.form) a.values ++ ws)
+    at false = plain (values_text (parts_of a.form) a.values ++ ws)
 
-pub plain : (text : List ℕ) → begins_other text ≡ false → IsPlain text
-plain text h =
-    let o = or_parts (same text (codes "[")) (same text (codes "least") || (same text (codes "count") || (same text (codes "algebra") || (same text (codes "version") || (is_number text || same text (codes "(")))))) h in
-    let p = or_parts (same text (codes "least")) (same text (codes "count") || (same text (codes "algebra") || (same text (codes "version") || (is_number text || same text (codes "("))))) o.1 in
-    let q = or_parts (same text (codes "count")) (same text (codes "algebra") || (same text (codes "version") || (is_number text || same text (codes "(")))) p.1 in
-    let r = or_parts (same text (codes "algebra")) (same text (codes "version") || (is_number text || same text (codes "("))) q.1 in
-    let s = or_parts (same text (codes "version")) (is_number text || same text (codes "(")) r.1 in
-    let t = or_parts (is_number text) (same text (codes "(")) s.1 in
-    record { bracket = o.0; least = p.0; count = q.0; block = r.0; version = s.0; number = t.0; parenthesis = t.1 }
+-- it does not begin with a text that is neither `cert` nor the word of a form
+pub begins_not : (mark : List ℕ) → list_all (λ f. not (same (word_of f) mark)) all_forms ≡ true → same (codes "cert") mark ≡ false → (a : Asked) (ws : List Wanted) → begins_with mark (asked_text a ++ ws) ≡ false
+begins_not mark others cert a ws = by_heading (λ z. begins_with mark z ≡ false) a ws (λ us. cert) (λ us. not-true _ (each_form (λ f. not (same (word_of f) mark)) others a.form))
 
--- a word that is wanted may have no other text
-pub spelled_other : (w : Wanted) (word text : List ℕ) → w.sign ≡ Spelled word → same word text ≡ false → may_spell w.sign text ≡ false
-spelled_other w word text e h = subst (λ z. may_spell z text ≡ false) (sym e) h
-
--- the first token, and those behind it
-pub record Begun (ws : List Wanted) : Type 0 where
-  pub first : Wanted
-  pub rest : List Wanted
-  pub word : List ℕ
-  pub text : ws ≡ first ∷ rest
-  pub spelled : first.sign ≡ Spelled word
-  pub other : begins_other word ≡ false
-
-begun_heading : (f : CommandForm) (cert : Bool) (place : Option Place) (ws : List Wanted) → Begun (heading cert (word_of f) place ++ ws)
-begun_heading f true place ws = record { first = sign roles.Begins (codes "cert"); rest = first_word roles.Form (word_of f) place ∷ ws; word = codes "cert"; text = refl; spelled = refl; other = refl }
-begun_heading f false place ws = record { first = first_word roles.Begins (word_of f) place; rest = ws; word = word_of f; text = refl; spelled = refl; other = not-true (begins_other (word_of f)) (no_other f) }
-
-pub begun : (c : Command) → Begun (command c)
-begun c = let a = asked c in begun_heading a.form a.cert a.place (values_text (parts_of a.form) a.values)
+no_number : (a : Asked) (ws : List Wanted) → begins_number (asked_text a ++ ws) ≡ false
+no_number a ws = by_heading (λ z. begins_number z ≡ false) a ws (λ us. refl) (λ us. not-true _ (each_form (λ f. not (is_number (word_of f))) refl a.form))
 
 -- a command begins with neither a vector, nor a mode, nor a number, nor a parenthesis
-pub command_begins : (c : Command) (ws : List Wanted) → begins_item (command c ++ ws)
-command_begins c ws =
-    let b = begun c in let p = plain b.word b.other in
-    subst (λ z. begins_item (z ++ ws)) (sym b.text) (
-      spelled_other b.first b.word (codes "[") b.spelled p.bracket,
-      spelled_other b.first b.word (codes "least") b.spelled p.least,
-      spelled_other b.first b.word (codes "count") b.spelled p.count,
-      subst (λ z. may_be_number z ≡ false) (sym b.spelled) p.number,
-      spelled_other b.first b.word (codes "(") b.spelled p.parenthesis,
-    )
+pub asked_begins : (a : Asked) (ws : List Wanted) → begins_item (asked_text a ++ ws)
+asked_begins a ws = (begins_not (codes "[") refl refl a ws, begins_not (codes "least") refl refl a ws, begins_not (codes "count") refl refl a ws, no_number a ws, begins_not (codes "(") refl refl a ws)
 
 -- a command is no block
-pub no_block : (c : Command) (ws : List Wanted) → begins_with (codes "algebra") (command c ++ ws) ≡ false
-no_block c ws =
-    let b = begun c in let p = plain (b.word) b.other in
-    subst (λ z. begins_with (codes "algebra") (z ++ ws) ≡ false) (sym b.text) (spelled_other b.first b.word (codes "algebra") b.spelled p.block)
+pub no_block : (a : Asked) (ws : List Wanted) → begins_with (codes "algebra") (asked_text a ++ ws) ≡ false
+no_block a ws = begins_not (codes "algebra") refl refl a ws
+
+pub asked_some : (a : Asked) (ws : List Wanted) → Front [] (asked_text a ++ ws) [] → ⊥
+asked_some a ws f = by_heading (λ z. Front [] z [] → ⊥) a ws (λ us h. h) (λ us h. h) f
+
+-- what begins an item may stand behind a command
+item_begins : (i : Item) (ws : List Wanted) → begins_item (item i ++ ws)
+item_begins (items.Block a) ws = (refl, refl, refl, refl, refl)
+item_begins (items.Command c) ws = asked_begins (asked c) ws
+
+pub items_begin : (is : List Item) → begins_item (flat_map item is ++ [])
+items_begin [] = (refl, refl, refl, refl, refl)
+items_begin (i ∷ is) = subst (λ z. begins_item z) (sym (append_assoc (item i) (flat_map item is) [])) (item_begins i (flat_map item is ++ []))
+
+pub item_some : (i : Item) (ts : List Placed) (ws : List Wanted) → length ts ≡ 0 → Front ts (item i ++ ws) [] → ⊥
+item_some (items.Block a) [] ws l f = f
+item_some (items.Command c) [] ws l f = asked_some (asked c) ws f
+item_some i (t ∷ ts) ws l f = absurd (omega arith)
+
+-- the items of a script, up to its end
+abbrev pub item_kind : ℕ → Kind Item
+item_kind v = record { Good = IsReadableItem v; one = item; all = flat_map item; Ends = λ ws. ws ≡ []; more = λ i is. refl; none = refl }
+
+-- what holds of an item that stands there, if it holds of a block and of a command
+pub by_item : {v : ℕ} (G : Item → Type 0) (ts : List Placed) (ws : List Wanted) (i : Item) → IsReadableItem v i → Front ts (item i ++ ws) []
+    → ((a : Block) → IsReadableBlock v a → Front ts (sign roles.Begins (codes "algebra") ∷ (body a ++ ws)) [] → G (items.Block a))
+    → ((c : Command) → IsReadableItem v (items.Command c) → Front ts (command c ++ ws) [] → G (items.Command c))
+    → G i
+by_item {v} G ts ws (items.Block a) r f block_form command_form = let few = r.few in block_form a (readable v a r.formed r.spelled.1 (omega arith)) f
+by_item {v} G ts ws (items.Command c) r f block_form command_form = command_form c r f
+
+-- an item does not begin with the word of the version
+pub no_version : (is : List Item) → begins_with (codes "version") (flat_map item is) ≡ false
+no_version [] = refl
+no_version (items.Block a ∷ is) = refl
+no_version (items.Command c ∷ is) = begins_not (codes "version") refl refl (asked c) (flat_map item is)

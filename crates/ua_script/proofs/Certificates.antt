@@ -1,25 +1,13 @@
 -- Commands with and without a certificate.
+use Rattle.ua_operands.proofs.Vocabulary.{Role, Place, Placed, Wanted, sign, IsAt, Front, Miss, Gives, begins_with, begins_item}
+use Rattle.ua_script.proofs.Vocabulary.{Command, CommandForm, values_text, word_of, parts_of, asked, certified, finished, first_word, heading, command, MayAsk, IsReadableItem, Beginning, IsMade}
+use Rattle.ua_script.proofs.Vocabulary.{IsKept}
 use Rattle.std.proofs.Common.{◌≡◌, ℕ, Bool, true, false, List, [], ◌∷◌, ◌++◌, Option, None, Some, Result, Ok, Err, codes, refl, sym, ◌∙◌, subst}
 use Rattle.std.proofs.lemmas.Bool.{not-true}
-use Rattle.ua_text.specs.declared.symbols.Role.{Role}
 use Rattle.ua_text.specs.declared.symbols.Role.TheVariants as roles
-use Rattle.ua_text.specs.declared.tokens.Place.{Place}
-use Rattle.ua_text.specs.Pieces.{Placed}
-use Rattle.ua_text.specs.Signs.{Wanted, sign, IsAt, Front}
-use Rattle.ua_text.specs.declared.readers.Miss.{Miss}
-use Rattle.ua_text.specs.Reading.{Gives, begins_with}
 use Rattle.ua_text.proofs.ReadBack.{place_of}
 use Rattle.ua_text.proofs.SpelledLaws.{spelled_right}
-use Rattle.ua_operands.specs.Reading.{begins_item}
-use Rattle.ua_script.specs.declared.script.Command.{Command}
 use Rattle.ua_script.specs.declared.script.Item.TheVariants as items
-use Rattle.ua_script.specs.declared.forms.CommandForm.{CommandForm}
-use Rattle.ua_script.specs.Operands.{values_text}
-use Rattle.ua_script.specs.Forms.{word_of, parts_of, asked, certified}
-use Rattle.ua_script.specs.inner.Forms.{finished}
-use Rattle.ua_script.specs.Grammar.{first_word, heading, command, MayAsk}
-use Rattle.ua_script.specs.Reading.{IsReadableItem}
-use Rattle.ua_script.specs.inner.Reading.{Beginning, IsMade, IsKept}
 use Rattle.ua_script.proofs.Table.{remade, no_cert}
 use Rattle.ua_script.proofs.Shortness.{all_short}
 

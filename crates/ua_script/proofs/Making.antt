@@ -1,18 +1,8 @@
 -- The form whose word was read, and the command that is made of what stands behind it.
+use Rattle.ua_operands.proofs.Vocabulary.{Place, Miss, Placed, Spelled, Wanted, IsSign, IsAt, Front, Gives, begins_item}
+use Rattle.ua_script.proofs.Vocabulary.{Command, CommandForm, Values, values_text, word_of, parts_of, all_forms, made, found_form, AreShort, Standing, IsMade}
 use Rattle.std.proofs.Common.{◌≡◌, ℕ, List, [], ◌++◌, Option, None, Some, Result, Ok, Err, sym, ap, ◌∙◌, subst}
-use Rattle.ua_text.specs.declared.tokens.Place.{Place}
-use Rattle.ua_text.specs.declared.readers.Miss.{Miss}
-use Rattle.ua_text.specs.Pieces.{Placed}
-use Rattle.ua_text.specs.Signs.{Spelled, Wanted, IsSign, IsAt, Front}
-use Rattle.ua_text.specs.Reading.{Gives}
 use Rattle.ua_text.proofs.ReadBack.{place_of}
-use Rattle.ua_operands.specs.Reading.{begins_item}
-use Rattle.ua_script.specs.declared.script.Command.{Command}
-use Rattle.ua_script.specs.declared.forms.CommandForm.{CommandForm}
-use Rattle.ua_script.specs.Operands.{Values, values_text}
-use Rattle.ua_script.specs.Forms.{word_of, parts_of, all_forms, made}
-use Rattle.ua_script.specs.inner.Forms.{found_form}
-use Rattle.ua_script.specs.inner.Reading.{AreShort, Standing, IsMade}
 use Rattle.ua_script.proofs.Table.{found, end}
 use Rattle.ua_script.proofs.Certificates.{kept_at}
 

@@ -1,25 +1,13 @@
 -- What is well formed in a version is well formed in version 2.
+use Rattle.ua_operands.proofs.Vocabulary.{AllByRecursion}
+use Rattle.ua_script.proofs.Vocabulary.{Entry, Items, PointsText, Total, Partial, Block, Constructions, Points, Part, IsBlock, MayName, MakeForm, Item, Script, asked, parts_of, Value, Values, IsValue}
+use Rattle.ua_script.proofs.Vocabulary.{AreValues, IsEntry, IsVector, AreVectors, IsConstruction, ArePoints, IsItem, IsWellFormed, migrated}
 use Rattle.std.proofs.Common.{inl, inr, ℕ, zero, suc, ◌<◌, get_or, length, List, [], ◌∷◌, refl, arith}
-use Rattle.std.specs.List.{AllByRecursion}
-use Rattle.ua_text.specs.declared.named.Block.{Block}
-use Rattle.ua_text.specs.declared.symbols.Table.TheVariants.{Constructions, Points}
-use Rattle.ua_text.specs.declared.symbols.Part.{Part}
 use Rattle.ua_text.specs.declared.symbols.Part.TheVariants as parts
-use Rattle.ua_text.specs.Blocks.{IsBlock, MayName}
 use Rattle.ua_text.proofs.BlocksRead.{limited}
-use Rattle.ua_operands.specs.declared.written.Entry.{Entry}
 use Rattle.ua_operands.specs.declared.written.Entry.TheVariants as entries
-use Rattle.ua_operands.specs.declared.written.Items.{Items}
-use Rattle.ua_operands.specs.declared.written.PointsText.{PointsText}
-use Rattle.ua_operands.specs.declared.written.PointsText.TheVariants.{Total, Partial}
-use Rattle.ua_script.specs.declared.script.MakeForm.{MakeForm}
 use Rattle.ua_script.specs.declared.script.MakeForm.TheVariants as forms
-use Rattle.ua_script.specs.declared.script.Item.{Item}
 use Rattle.ua_script.specs.declared.script.Item.TheVariants as items
-use Rattle.ua_script.specs.declared.script.Script.{Script}
-use Rattle.ua_script.specs.Forms.{asked, parts_of}
-use Rattle.ua_script.specs.Operands.{Value, Values, IsValue, AreValues, IsEntry, IsVector, AreVectors, IsConstruction, ArePoints}
-use Rattle.ua_script.specs.Grammar.{IsItem, IsWellFormed, migrated}
 
 later_names : (version size : ℕ) (names : List (List ℕ)) → MayName version size names → MayName 2 size names
 later_names version size names (inl e) = inl e

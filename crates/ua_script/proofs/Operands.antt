@@ -1,25 +1,12 @@
 -- The operands of a command at the front of tokens, read one by one.
+use Rattle.ua_operands.proofs.Vocabulary.{Miss, Placed, same, Wanted, Front, begins_with, begins_item, Place}
+use Rattle.ua_script.proofs.Vocabulary.{Part, CommandForm, Command, parts_of, made, Values, value_text, values_text, ends, all_end, Standing, IsCommandRead, ForPart, Ends, IsRead}
 use Rattle.std.proofs.Common.{◌≡◌, ◌==◌, ℕ, true, false, List, [], ◌∷◌, ◌++◌, Ok, Err, refl, sym, ap, ◌∙◌, subst, codes, append_assoc}
 use Rattle.std.proofs.lemmas.Bool.{false≢true, and_parts, not-true}
-use Rattle.ua_text.specs.declared.readers.Miss.{Miss}
 use Rattle.ua_text.specs.declared.readers.Miss.TheVariants as misses
-use Rattle.ua_text.specs.declared.symbols.Part.{Part}
 use Rattle.ua_text.specs.declared.symbols.Part.TheVariants as parts
-use Rattle.ua_text.specs.Pieces.{Placed}
-use Rattle.ua_text.specs.Words.{same}
-use Rattle.ua_text.specs.Signs.{Wanted, Front}
-use Rattle.ua_text.specs.Reading.{begins_with}
 use Rattle.ua_term.specs.Reading.{IsEnd}
-use Rattle.ua_operands.specs.Reading.{begins_item}
 use Rattle.ua_operands.proofs.ReadLaws.{begins_after}
-use Rattle.ua_script.specs.declared.forms.CommandForm.{CommandForm}
-use Rattle.ua_script.specs.declared.script.Command.{Command}
-use Rattle.ua_text.specs.declared.tokens.Place.{Place}
-use Rattle.ua_script.specs.Forms.{parts_of, made}
-use Rattle.ua_script.specs.Operands.{Values, value_text, values_text}
-use Rattle.ua_script.specs.Reading.{ends}
-use Rattle.ua_script.specs.inner.Reading.{all_end, Standing, IsCommandRead}
-use Rattle.ua_script.specs.inner.Parts.{ForPart, Ends, IsRead}
 
 -- what begins an item may stand behind a term
 term_ends : (ws : List Wanted) → begins_item ws → IsEnd ws []

@@ -1,12 +1,8 @@
 -- Questions behind `cert`: no part of theirs asks for another answer.
+use Rattle.ua_operands.proofs.Vocabulary.{mode}
+use Rattle.ua_script.proofs.Vocabulary.{Plain, Part, Taken, Values, value_text, values_text, without_modes}
 use Rattle.std.proofs.Common.{◌≡◌, List, [], ◌∷◌, ◌++◌, refl, sym, ap, ◌∙◌}
-use Rattle.ua_text.specs.declared.symbols.Part.{Part}
 use Rattle.ua_text.specs.declared.symbols.Part.TheVariants as parts
-use Rattle.ua_text.specs.Machine.{Taken}
-use Rattle.ua_operands.specs.declared.written.Mode.TheVariants.{Plain}
-use Rattle.ua_operands.specs.Written.{mode}
-use Rattle.ua_script.specs.Operands.{Values, value_text, values_text}
-use Rattle.ua_script.specs.Tables.{without_modes}
 use Rattle.ua_script.proofs.Parts.{after, afters, AllFit}
 use Rattle.ua_script.proofs.Table.{ArePlain}
 

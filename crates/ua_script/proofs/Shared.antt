@@ -72,18 +72,6 @@ place_sync = as_row_sync place.the_field place_shared.the_field_sync
 written_sync : IsSync (as_row written.the_field)
 written_sync = search (sync-Written, name_shared.the_sync, as_row_sync, crosses, sendable)
 
-one : {A : Type 0} → A → A × Unit {0}
-one a = (a, tt)
-
-two : {A B : Type 0} → A → B → A × (B × Unit {0})
-two a b = (a, (b, tt))
-
-three : {A B C : Type 0} → A → B → C → A × (B × (C × Unit {0}))
-three a b c = (a, (b, (c, tt)))
-
-four : {A B C D : Type 0} → A → B → C → D → A × (B × (C × (D × Unit {0})))
-four a b c d = (a, (b, (c, (d, tt))))
-
 -- variant by variant, and each field by field
 pub command_sync : IsSync command.the_row
 command_sync =
@@ -91,55 +79,5 @@ command_sync =
     let vectors_sync : IsSync (as_row (lists.the_field items.the_row)) = search (list_shared.the_sync, sendable, as_row_sync, crosses, items_shared.the_sync) in
     let identities_sync : IsSync (as_row (lists.the_field identity.the_row)) = search (list_shared.the_sync, sendable, as_row_sync, crosses, identity_shared.the_sync) in
     let bytes_sync : IsSync (as_row (lists.the_field u8)) = search (list_shared.the_sync, sendable, as_row_sync, crosses) in
-    variants_sync command.enum (
-      three provable_sync mode_sync flag_sync,
-      (
-        three word_sync number_sync mode_sync,
-        (
-          two word_sync items_sync,
-          (
-            one word_sync,
-            (
-              three word_sync written_sync items_sync,
-              (
-                two word_sync vectors_sync,
-                (
-                  one word_sync,
-                  (
-                    one word_sync,
-                    (
-                      one word_sync,
-                      (
-                        three word_sync number_sync identities_sync,
-                        (
-                          four word_sync number_sync clone_sync points_sync,
-                          (
-                            four word_sync part_sync part_sync part_sync,
-                            (
-                              three word_sync part_sync part_sync,
-                              (
-                                two word_sync series_sync,
-                                (
-                                  three word_sync written_sync written_sync,
-                                  (
-                                    four word_sync word_sync items_sync items_sync,
-                                    (
-                                      two word_sync bytes_sync,
-                                      (three place_sync word_sync making_sync, tt),
-                                    ),
-                                  ),
-                                ),
-                              ),
-                            ),
-                          ),
-                        ),
-                      ),
-                    ),
-                  ),
-                ),
-              ),
-            ),
-          ),
-        ),
-      ),
-    )
+    variants_sync command.enum
+    (assumption (word_sync, number_sync, items_sync, mode_sync, provable_sync, part_sync, series_sync, clone_sync, points_sync, making_sync, place_sync, written_sync, flag_sync, vectors_sync, identities_sync, bytes_sync))

@@ -1,26 +1,13 @@
 -- Operands whose tokens are spelled can be written.
+use Rattle.ua_operands.proofs.Vocabulary.{AllByRecursion, flat_map, sign, AreSpelled, further, number, entry, vector, part, part_blocks, points, names, IsShort, IsShortEntry, IsShortVector}
+use Rattle.ua_operands.proofs.Vocabulary.{IsShortBlock, IsNamed, ArePointsShort}
+use Rattle.ua_script.proofs.Vocabulary.{Word, Number, Entry, Items, PartText, PointsText, Total, Partial, Constructions, Points, Part, MakeForm, Product, Quotient, Sub, Reduct, Value, Values}
+use Rattle.ua_script.proofs.Vocabulary.{value_text, values_text, IsValue, AreValues, IsPart, construction, IsConstruction, IsShortConstruction, IsShortValue, AreShort}
 use Rattle.std.proofs.Common.{ℕ, ◌<◌, List, [], ◌∷◌, ◌++◌, length, map, codes, arith}
-use Rattle.std.specs.List.{AllByRecursion, flat_map}
 use Rattle.ua_text.specs.declared.symbols.Role.TheVariants as roles
-use Rattle.ua_text.specs.declared.symbols.Table.TheVariants.{Constructions, Points}
-use Rattle.ua_text.specs.declared.symbols.Part.{Part}
 use Rattle.ua_text.specs.declared.symbols.Part.TheVariants as parts
-use Rattle.ua_text.specs.Signs.{sign, AreSpelled}
 use Rattle.ua_text.proofs.SpelledLaws.{spelled_left, spelled_right}
-use Rattle.ua_operands.specs.declared.written.Word.{Word}
-use Rattle.ua_operands.specs.declared.written.Number.{Number}
-use Rattle.ua_operands.specs.declared.written.Entry.{Entry}
 use Rattle.ua_operands.specs.declared.written.Entry.TheVariants as entries
-use Rattle.ua_operands.specs.declared.written.Items.{Items}
-use Rattle.ua_operands.specs.declared.written.PartText.{PartText}
-use Rattle.ua_operands.specs.declared.written.PointsText.{PointsText}
-use Rattle.ua_operands.specs.declared.written.PointsText.TheVariants.{Total, Partial}
-use Rattle.ua_script.specs.declared.script.MakeForm.{MakeForm}
-use Rattle.ua_script.specs.declared.script.MakeForm.TheVariants.{Product, Quotient, Sub, Reduct}
-use Rattle.ua_operands.specs.Written.{further, number, entry, vector, part, part_blocks, points, names}
-use Rattle.ua_script.specs.Operands.{Value, Values, value_text, values_text, IsValue, AreValues, IsPart, construction, IsConstruction}
-use Rattle.ua_operands.specs.Reading.{IsShort, IsShortEntry, IsShortVector, IsShortBlock, IsNamed, ArePointsShort}
-use Rattle.ua_script.specs.inner.Reading.{IsShortConstruction, IsShortValue, AreShort}
 
 short_entries : (es : List Entry) → AreSpelled (map entry es) → AllByRecursion IsShortEntry es
 short_entries [] h = tt

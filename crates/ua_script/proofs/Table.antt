@@ -1,64 +1,23 @@
--- What holds of every row of the table, and of the commands that are made by it. A further form is a further line here.
+-- What holds of every row of the table, and of the commands that are made by it.
+use Rattle.ua_operands.proofs.Vocabulary.{list_all, Place, is_name, Placed, IsAt, same}
+use Rattle.ua_script.proofs.Vocabulary.{Word, Number, Items as Entries, Mode, Plain, Least, Count, Part, Provables, Row, lookup, either, Provable, Command, CommandForm, Values, form_row, word_of}
+use Rattle.ua_script.proofs.Vocabulary.{parts_of, all_forms, question, asked, made, certified, found_form, finished, HasMode, MayAsk, script_forms, without_modes, commands as command_rows}
+use Rattle.ua_script.proofs.Vocabulary.{provables as question_rows, IsKept, all_end}
 use Rattle.std.proofs.Common.{◌≡◌, ℕ, Bool, true, false, ◌&&◌, ◌||◌, not, if◌then◌else◌, List, [], ◌∷◌, map, Option, Some, None, refl, sym, ap, ◌∙◌, subst, codes}
-use Rattle.std.specs.List.{list_all}
 use Rattle.std.proofs.lemmas.Bool.{false≢true, and_parts}
-use Rattle.ua_text.specs.declared.symbols.Part.{Part}
 use Rattle.ua_text.specs.declared.symbols.Part.TheVariants as parts
 use Rattle.ua_text.specs.declared.symbols.Symbol.TheVariants.{Items}
-use Rattle.ua_text.specs.declared.symbols.Table.TheVariants.{Provables}
-use Rattle.ua_text.specs.declared.tokens.Place.{Place}
-use Rattle.ua_table.specs.Names.{is_name}
-use Rattle.ua_text.specs.Bytes.{is_number}
-use Rattle.ua_text.specs.Pieces.{Placed}
-use Rattle.ua_text.specs.Signs.{IsAt}
 use Rattle.ua_text.proofs.ReadBack.{place_of}
-use Rattle.ua_text.specs.Words.{same}
-use Rattle.ua_text.specs.Machine.{Row, lookup, either}
 use Rattle.ua_text.proofs.WordLaws.{same-true}
-use Rattle.ua_operands.specs.declared.written.Word.{Word}
-use Rattle.ua_operands.specs.declared.written.Number.{Number}
-use Rattle.ua_operands.specs.declared.written.Items.{Items as Entries}
-use Rattle.ua_operands.specs.declared.written.Mode.{Mode}
-use Rattle.ua_operands.specs.declared.written.Mode.TheVariants.{Plain, Least, Count}
-use Rattle.ua_script.specs.declared.script.Provable.{Provable}
 use Rattle.ua_script.specs.declared.script.Provable.TheVariants as provables
-use Rattle.ua_script.specs.declared.script.Command.{Command}
 use Rattle.ua_script.specs.declared.script.Command.TheVariants as commands
-use Rattle.ua_script.specs.declared.forms.CommandForm.{CommandForm}
 use Rattle.ua_script.specs.declared.forms.CommandForm.TheVariants as forms
-use Rattle.ua_script.specs.Operands.{Values}
-use Rattle.ua_script.specs.Forms.{form_row, word_of, parts_of, all_forms, question, asked, made, certified}
-use Rattle.ua_script.specs.inner.Forms.{found_form, finished}
-use Rattle.ua_script.specs.Grammar.{HasMode, MayAsk}
-use Rattle.ua_script.specs.Tables.{script_forms, without_modes, commands as command_rows, provables as question_rows}
-use Rattle.ua_script.specs.inner.Reading.{IsKept, all_end}
 use Rattle.ua_script.proofs.Parts.{all_stop, all_ok, all_simple}
 
 -- each form is found by its word
 pub found : (f : CommandForm) → found_form (word_of f) all_forms ≡ Some f
 found forms.Close = refl
-found forms.Member = refl
-found forms.Cond = refl
-found forms.Nu = refl
-found forms.Jonsson = refl
-found forms.Hm = refl
-found forms.Free = refl
-found forms.Sub = refl
-found forms.Ones = refl
-found forms.Eval = refl
-found forms.Cg = refl
-found forms.Con = refl
-found forms.Types = refl
-found forms.Day = refl
-found forms.Condition = refl
-found forms.Clone = refl
-found forms.Central = refl
-found forms.Comm = refl
-found forms.Series = refl
-found forms.Holds = refl
-found forms.Hom = refl
-found forms.Make = refl
-found forms.Check = refl
+found f = refl
 
 -- the forms of questions
 abbrev pub is_question : CommandForm → Bool
@@ -85,28 +44,7 @@ Again f p x = asked (made f p x) ≡ record { form = f; cert = false; place = ke
 
 pub again : (f : CommandForm) (p : Place) (x : Values (parts_of f)) → Again f p x
 again forms.Close p x = refl
-again forms.Member p x = refl
-again forms.Cond p x = refl
-again forms.Nu p x = refl
-again forms.Jonsson p x = refl
-again forms.Hm p x = refl
-again forms.Free p x = refl
-again forms.Sub p x = refl
-again forms.Ones p x = refl
-again forms.Eval p x = refl
-again forms.Cg p x = refl
-again forms.Con p x = refl
-again forms.Types p x = refl
-again forms.Day p x = refl
-again forms.Condition p x = refl
-again forms.Clone p x = refl
-again forms.Central p x = refl
-again forms.Comm p x = refl
-again forms.Series p x = refl
-again forms.Holds p x = refl
-again forms.Hom p x = refl
-again forms.Make p x = refl
-again forms.Check p x = refl
+again f p x = refl
 
 any_mode : (a : Word) (w : Number) (gens : List Entries) (m : Mode) → HasMode (provables.Close a w gens) m false
 any_mode a w gens Plain = tt
@@ -115,28 +53,7 @@ any_mode a w gens Count = tt
 
 pub may_ask : (f : CommandForm) (p : Place) (x : Values (parts_of f)) → MayAsk (made f p x)
 may_ask forms.Close p x = any_mode x.0 x.1.0 x.1.1.0 x.1.1.1.0
-may_ask forms.Member p x = tt
-may_ask forms.Cond p x = tt
-may_ask forms.Nu p x = tt
-may_ask forms.Jonsson p x = tt
-may_ask forms.Hm p x = tt
-may_ask forms.Free p x = tt
-may_ask forms.Sub p x = tt
-may_ask forms.Ones p x = tt
-may_ask forms.Eval p x = tt
-may_ask forms.Cg p x = tt
-may_ask forms.Con p x = tt
-may_ask forms.Types p x = tt
-may_ask forms.Day p x = tt
-may_ask forms.Condition p x = tt
-may_ask forms.Clone p x = tt
-may_ask forms.Central p x = tt
-may_ask forms.Comm p x = tt
-may_ask forms.Series p x = tt
-may_ask forms.Holds p x = tt
-may_ask forms.Hom p x = tt
-may_ask forms.Make p x = tt
-may_ask forms.Check p x = tt
+may_ask f p x = tt
 
 -- and so it is behind `cert`
 abbrev pub Certified : (f : CommandForm) → Place → Values (parts_of f) → Type 0
@@ -169,55 +86,24 @@ may_certify f q p x h = absurd (false≢true q)
 -- the other way round: a command is made again of its form and its operands
 pub question_is : (what : Provable) (m : Mode) → is_question (question what m).0 ≡ true
 question_is (provables.Close a w gens) m = refl
-question_is (provables.Member a w gens target) m = refl
-question_is (provables.Cond a name) m = refl
-question_is (provables.Nu a k) m = refl
-question_is (provables.Jonsson a) m = refl
-question_is (provables.Hm a) m = refl
+question_is what m = refl
 
 pub questions_plain : (what : Provable) (m : Mode) → HasMode what m true → ArePlain (parts_of (question what m).0) (question what m).1
 questions_plain (provables.Close a w gens) Plain h = (refl, tt)
-questions_plain (provables.Member a w gens target) Plain h = tt
-questions_plain (provables.Cond a name) Plain h = tt
-questions_plain (provables.Nu a k) Plain h = tt
-questions_plain (provables.Jonsson a) Plain h = tt
-questions_plain (provables.Hm a) Plain h = tt
+questions_plain what Plain h = tt
 questions_plain what m h = absurd h
 
 remade_question : (what : Provable) (m : Mode) (cert : Bool) (p : Place) → HasMode what m cert → finished cert (made (question what m).0 p (question what m).1) ≡ commands.Ask what m cert
 remade_question (provables.Close a w gens) m false p h = refl
 remade_question (provables.Close a w gens) Plain true p h = refl
-remade_question (provables.Member a w gens target) Plain false p h = refl
-remade_question (provables.Member a w gens target) Plain true p h = refl
-remade_question (provables.Cond a name) Plain false p h = refl
-remade_question (provables.Cond a name) Plain true p h = refl
-remade_question (provables.Nu a k) Plain false p h = refl
-remade_question (provables.Nu a k) Plain true p h = refl
-remade_question (provables.Jonsson a) Plain false p h = refl
-remade_question (provables.Jonsson a) Plain true p h = refl
-remade_question (provables.Hm a) Plain false p h = refl
-remade_question (provables.Hm a) Plain true p h = refl
+remade_question what Plain false p h = refl
+remade_question what Plain true p h = refl
 remade_question what m cert p h = absurd h
 
 pub remade : (c : Command) → MayAsk c → (p : Place) → IsKept (asked c).place p → finished (asked c).cert (made (asked c).form p (asked c).values) ≡ c
 remade (commands.Ask what m cert) h p e = remade_question what m cert p h
-remade (commands.Free a k m) h p e = refl
-remade (commands.Sub a set) h p e = refl
-remade (commands.Ones a) h p e = refl
-remade (commands.Eval a t args) h p e = refl
-remade (commands.Cg a pairs) h p e = refl
-remade (commands.Con a) h p e = refl
-remade (commands.Types a) h p e = refl
-remade (commands.Day a) h p e = refl
-remade (commands.Condition a k is) h p e = refl
-remade (commands.Clone a k kind ps) h p e = refl
-remade (commands.Central a alpha beta delta) h p e = refl
-remade (commands.Comm a alpha beta) h p e = refl
-remade (commands.Series a kind) h p e = refl
-remade (commands.Holds a left right) h p e = refl
-remade (commands.Hom a b gens images) h p e = refl
 remade (commands.Make place name what) h p e = ap (λ z. commands.Make z name what) (sym e)
-remade (commands.Check a json) h p e = refl
+remade c h p e = refl
 
 -- behind `cert` stands a question that asks for no other answer
 pub certifiable : (c : Command) → MayAsk c → (asked c).cert ≡ true → (is_question (asked c).form ≡ true) × ArePlain (parts_of (asked c).form) (asked c).values
@@ -236,13 +122,6 @@ test_found u t f (g ∷ fs) h e = let q = and_parts (u g) (list_all u fs) h in a
 
 pub each_form : (u : CommandForm → Bool) → list_all u all_forms ≡ true → (f : CommandForm) → u f ≡ true
 each_form u h f = test_found u (word_of f) f all_forms h (found f)
-
--- a text that begins no command
-abbrev pub begins_other : List ℕ → Bool
-begins_other text = same text (codes "[") || (same text (codes "least") || (same text (codes "count") || (same text (codes "algebra") || (same text (codes "version") || (is_number text || same text (codes "("))))))
-
-pub no_other : (f : CommandForm) → not (begins_other (word_of f)) ≡ true
-no_other f = each_form (λ f. not (begins_other (word_of f))) refl f
 
 pub named : (f : CommandForm) → is_name (word_of f) ≡ true
 named f = each_form (λ f. is_name (word_of f)) refl f

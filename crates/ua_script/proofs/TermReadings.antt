@@ -1,11 +1,9 @@
 -- At the front of tokens stands at most one term.
+use Rattle.ua_operands.proofs.Vocabulary.{Placed, Wanted, Front}
+use Rattle.ua_script.proofs.Vocabulary.{no_parenthesis_follows, Phrase, Phrases, phrase, none, more}
 use Rattle.std.proofs.Common.{◌≡◌, true, false, not, nat_eq, List, [], ◌∷◌, ◌++◌, codes, refl, sym, ap, ◌∙◌, subst, append-nil}
 use Rattle.std.specs.Cmp.Lexicographic.{pointwise}
 use Rattle.std.proofs.lemmas.Bool.{false≢true}
-use Rattle.ua_text.specs.Pieces.{Placed}
-use Rattle.ua_text.specs.Signs.{Wanted, Front}
-use Rattle.ua_text.specs.Languages.{no_parenthesis_follows}
-use Rattle.ua_term.specs.Phrases.{Phrase, Phrases, phrase, none, more}
 use Rattle.ua_term.specs.Terms.{mark, term, applied, behind}
 use Rattle.ua_term.specs.Reading.{IsEnd, IsTermAt}
 use Rattle.ua_script.proofs.TokenReadings.{Same, apart, clash}
@@ -32,22 +30,19 @@ mutual
   one_applied none none ts us vs l r d e f g = (refl, record { left = ts; first = f; second = g })
   one_applied none (more q qs) [] us vs l r d e f g = absurd g
   one_applied none (more q qs) (t ∷ ts) us vs l r d e f g = not_open t ts us l d f g.1
-  one_applied (more p ps) none [] us vs l r d e f g = absurd f
+  one_applied (more p ps) y [] us vs l r d e f g = absurd f
   one_applied (more p ps) none (t ∷ ts) us vs l r d e f g = not_open t ts vs r e g f.1
-  one_applied (more p ps) (more q qs) [] us vs l r d e f g = absurd f
   one_applied (more p ps) (more q qs) (t ∷ ts) us vs l r d e f g =
       let h = one_term p q ts (behind ps ++ us) (behind qs ++ vs) l r (behind_ends ps us l) (behind_ends qs vs r) (apart (term p) (behind ps) us ts l f.3) (apart (term q) (behind qs) vs ts r g.3) in
       let k = one_behind ps qs h.1.left us vs l r h.1.first h.1.second in
       (ap (λ z. more z ps) h.0 ∙ ap (λ z. more q z) k.0, k.1)
 
   one_behind : (x y : Phrases) (ts : List Placed) (us vs : List Wanted) (l r : List Placed) → Front ts (behind x ++ us) l → Front ts (behind y ++ vs) r → Same x y us vs l r
-  one_behind none none [] us vs l r f g = absurd f
+  one_behind none y [] us vs l r f g = absurd f
+  one_behind (more p ps) y [] us vs l r f g = absurd f
   one_behind none none (t ∷ ts) us vs l r f g = (refl, record { left = ts; first = f.3; second = g.3 })
-  one_behind none (more q qs) [] us vs l r f g = absurd f
   one_behind none (more q qs) (t ∷ ts) us vs l r f g = clash (mark false) t.text (codes ")") g.1 refl f.1
-  one_behind (more p ps) none [] us vs l r f g = absurd f
   one_behind (more p ps) none (t ∷ ts) us vs l r f g = clash (mark false) t.text (codes ")") f.1 refl g.1
-  one_behind (more p ps) (more q qs) [] us vs l r f g = absurd f
   one_behind (more p ps) (more q qs) (t ∷ ts) us vs l r f g =
       let h = one_term p q ts (behind ps ++ us) (behind qs ++ vs) l r (behind_ends ps us l) (behind_ends qs vs r) (apart (term p) (behind ps) us ts l f.3) (apart (term q) (behind qs) vs ts r g.3) in
       let k = one_behind ps qs h.1.left us vs l r h.1.first h.1.second in

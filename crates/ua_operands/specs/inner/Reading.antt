@@ -13,7 +13,6 @@ use Rattle.ua_operands.specs.Written.{vector}
 use Rattle.ua_operands.specs.declared.written.Items.{Items}
 use Rattle.ua_operands.specs.declared.written.PointsText.{PointsText}
 use Rattle.ua_operands.specs.declared.written.PointsText.TheVariants.{Partial}
-use Rattle.ua_operands.specs.declared.written.Entry.TheVariants as entries
 
 -- the first token is a number
 abbrev pub is_number_front : List Placed → Bool

@@ -1,8 +1,6 @@
+use Rattle.ua_operands.proofs.Vocabulary.{sign, sign_at, tokens_left, variable, identity_behind}
 use Rattle.std.proofs.Common.{rules, [], ◌∷◌, ◌++◌, codes, refl, sym, ◌∙◌}
 use Rattle.ua_text.specs.declared.symbols.Role.TheVariants as roles
-use Rattle.ua_text.specs.Signs.{sign, sign_at}
-use Rattle.ua_text.specs.Tokens.{tokens_left}
-use Rattle.ua_operands.specs.Written.{variable, identity_behind}
 use Rattle.ua_operands.proofs.ReadLaws.{behind_then, identity_is}
 use Rattle.ua_operands.proofs.identities.identity.Goals as goal
 

@@ -1,10 +1,8 @@
+use Rattle.ua_operands.proofs.Vocabulary.{sign, Shows, variable}
 use Rattle.std.proofs.Common.{◌≡◌, ◌∷◌, [], ◌<◌, length, map, take, codes, sym, subst, arith}
 use Rattle.std.proofs.lemmas.List.{map_more, take_all}
 use Rattle.ua_text.specs.declared.symbols.Role.TheVariants as roles
-use Rattle.ua_text.specs.Signs.{sign}
-use Rattle.ua_text.specs.Printing.{Shows}
 use Rattle.ua_text.proofs.Prints.{shows_both}
-use Rattle.ua_operands.specs.Written.{variable}
 use Rattle.ua_operands.proofs.identities.put_arguments.Goals as goal
 
 pub loop-v-preserved : goal.loop-v-preserved

@@ -1,6 +1,5 @@
+use Rattle.ua_operands.proofs.Vocabulary.{Shows, variable}
 use Rattle.std.proofs.Common.{map, take}
-use Rattle.ua_text.specs.Printing.{Shows}
-use Rattle.ua_operands.specs.Written.{variable}
 use Rattle.ua_operands.proofs.identities.put_arguments.Given as goal
 
 -- the variables so far are printed

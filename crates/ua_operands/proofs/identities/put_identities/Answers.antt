@@ -1,9 +1,7 @@
+use Rattle.ua_operands.proofs.Vocabulary.{flat_map, Shows, identity}
 use Rattle.std.proofs.Common.{◌≡◌, ◌++◌, ◌<◌, length, take, sym, ◌∙◌, ap, subst, arith}
-use Rattle.std.specs.List.{flat_map}
 use Rattle.std.proofs.lemmas.List.{take_all}
-use Rattle.ua_text.specs.Printing.{Shows}
 use Rattle.ua_text.proofs.Prints.{shows_both, flat_push}
-use Rattle.ua_operands.specs.Written.{identity}
 use Rattle.ua_operands.proofs.identities.put_identities.Goals as goal
 
 pub loop-i-preserved : goal.loop-i-preserved

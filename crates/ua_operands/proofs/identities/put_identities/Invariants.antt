@@ -1,7 +1,5 @@
+use Rattle.ua_operands.proofs.Vocabulary.{flat_map, Shows, identity}
 use Rattle.std.proofs.Common.{take}
-use Rattle.std.specs.List.{flat_map}
-use Rattle.ua_text.specs.Printing.{Shows}
-use Rattle.ua_operands.specs.Written.{identity}
 use Rattle.ua_operands.proofs.identities.put_identities.Given as goal
 
 -- the identities so far are printed

@@ -1,9 +1,7 @@
+use Rattle.ua_operands.proofs.Vocabulary.{sign, sign_at, Shows, variable, arguments, identity_behind}
 use Rattle.std.proofs.Common.{◌∷◌, [], codes, subst}
 use Rattle.ua_text.specs.declared.symbols.Role.TheVariants as roles
-use Rattle.ua_text.specs.Signs.{sign, sign_at}
-use Rattle.ua_text.specs.Printing.{Shows}
 use Rattle.ua_text.proofs.Prints.{shows_both, on_ok}
-use Rattle.ua_operands.specs.Written.{variable, arguments, identity_behind}
 use Rattle.ua_operands.proofs.identities.put_identity.Goals as goal
 
 pub returns : goal.returns

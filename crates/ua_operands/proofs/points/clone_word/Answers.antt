@@ -1,8 +1,7 @@
+use Rattle.ua_operands.proofs.Vocabulary.{sign, clone_word}
 use Rattle.std.proofs.Common.{rules, [], sym}
 use Rattle.ua_text.specs.declared.symbols.Role.TheVariants as roles
-use Rattle.ua_text.specs.Signs.{sign}
 use Rattle.ua_operands.specs.declared.written.CloneWord.TheVariants.{Term, Polynomial}
-use Rattle.ua_operands.specs.Written.{clone_word}
 use Rattle.ua_operands.proofs.CloneLaws.{clone_is, some_clone}
 use Rattle.ua_operands.proofs.points.clone_word.Goals as goal
 

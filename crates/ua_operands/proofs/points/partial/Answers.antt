@@ -1,6 +1,5 @@
+use Rattle.ua_operands.proofs.Vocabulary.{flat_map, vector}
 use Rattle.std.proofs.Common.{rules, ◌++◌}
-use Rattle.std.specs.List.{flat_map}
-use Rattle.ua_operands.specs.Written.{vector}
 use Rattle.ua_operands.proofs.points.partial.Goals as goal
 
 pub returns-in_err-first-clause-only : goal.returns-in_err-first-clause-only

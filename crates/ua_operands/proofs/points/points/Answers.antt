@@ -1,9 +1,6 @@
+use Rattle.ua_operands.proofs.Vocabulary.{sign, Front, tokens_left, Gives, ArePointsShort}
 use Rattle.std.proofs.Common.{rules, ◌≡◌, [], sym}
 use Rattle.ua_text.specs.declared.symbols.Role.TheVariants as roles
-use Rattle.ua_text.specs.Signs.{sign, Front}
-use Rattle.ua_text.specs.Tokens.{tokens_left}
-use Rattle.ua_text.specs.Reading.{Gives}
-use Rattle.ua_operands.specs.Reading.{ArePointsShort}
 use Rattle.ua_operands.proofs.CloneLaws.{first_of, behind, points_front, is_total, is_partial, some_points}
 use Rattle.ua_operands.proofs.points.points.Goals as goal
 

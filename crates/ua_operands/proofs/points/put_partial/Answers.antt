@@ -1,9 +1,7 @@
+use Rattle.ua_operands.proofs.Vocabulary.{flat_map, sign, vector}
 use Rattle.std.proofs.Common.{◌∷◌, ◌++◌, [], codes}
-use Rattle.std.specs.List.{flat_map}
 use Rattle.ua_text.specs.declared.symbols.Role.TheVariants as roles
-use Rattle.ua_text.specs.Signs.{sign}
 use Rattle.ua_text.proofs.Prints.{shows_both, on_ok}
-use Rattle.ua_operands.specs.Written.{vector}
 use Rattle.ua_operands.proofs.points.put_partial.Goals as goal
 
 pub returns : goal.returns

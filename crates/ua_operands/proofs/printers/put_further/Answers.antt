@@ -1,10 +1,8 @@
+use Rattle.ua_operands.proofs.Vocabulary.{sign, Shows, further}
 use Rattle.std.proofs.Common.{◌≡◌, ◌∷◌, ◌++◌, [], ◌<◌, length, map, take, sym, ap, ◌∙◌, subst, arith}
 use Rattle.std.proofs.lemmas.List.{map_more, take_all}
 use Rattle.ua_text.specs.declared.symbols.Role.TheVariants as roles
-use Rattle.ua_text.specs.Signs.{sign}
-use Rattle.ua_text.specs.Printing.{Shows}
 use Rattle.ua_text.proofs.Prints.{shows_both}
-use Rattle.ua_operands.specs.Written.{further}
 use Rattle.ua_operands.proofs.printers.put_further.Goals as goal
 
 pub loop-w-preserved : goal.loop-w-preserved

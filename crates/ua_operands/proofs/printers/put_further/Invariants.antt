@@ -1,6 +1,5 @@
+use Rattle.ua_operands.proofs.Vocabulary.{Shows, further}
 use Rattle.std.proofs.Common.{map, take}
-use Rattle.ua_text.specs.Printing.{Shows}
-use Rattle.ua_operands.specs.Written.{further}
 use Rattle.ua_operands.proofs.printers.put_further.Given as goal
 
 -- the names so far are printed

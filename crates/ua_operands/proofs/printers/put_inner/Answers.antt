@@ -1,10 +1,8 @@
+use Rattle.ua_operands.proofs.Vocabulary.{Shows, Number, number}
 use Rattle.std.proofs.Common.{◌≡◌, ◌∷◌, [], ◌<◌, length, map, take, get_or, sym, subst, arith}
 use Rattle.std.proofs.lemmas.List.{map_more, take_all}
 use Rattle.ua_text.specs.declared.symbols.Role.TheVariants as roles
-use Rattle.ua_text.specs.Printing.{Shows}
 use Rattle.ua_text.proofs.Prints.{shows_both}
-use Rattle.ua_operands.specs.declared.written.Number.{Number}
-use Rattle.ua_operands.specs.Written.{number}
 use Rattle.ua_operands.proofs.printers.put_inner.Goals as goal
 
 abbrev none_there : Number

@@ -1,7 +1,6 @@
+use Rattle.ua_operands.proofs.Vocabulary.{Shows, number}
 use Rattle.std.proofs.Common.{map, take}
 use Rattle.ua_text.specs.declared.symbols.Role.TheVariants as roles
-use Rattle.ua_text.specs.Printing.{Shows}
-use Rattle.ua_operands.specs.Written.{number}
 use Rattle.ua_operands.proofs.printers.put_inner.Given as goal
 
 -- the numbers so far are printed

@@ -1,10 +1,7 @@
+use Rattle.ua_operands.proofs.Vocabulary.{sign_at, Shows, Number, part_block, part_blocks}
 use Rattle.std.proofs.Common.{◌≡◌, ◌∷◌, ◌++◌, [], List, codes, sym, subst, ◌∙◌}
 use Rattle.ua_text.specs.declared.symbols.Role.TheVariants as roles
-use Rattle.ua_text.specs.Signs.{sign_at}
-use Rattle.ua_text.specs.Printing.{Shows}
 use Rattle.ua_text.proofs.Prints.{shows_both, on_ok}
-use Rattle.ua_operands.specs.declared.written.Number.{Number}
-use Rattle.ua_operands.specs.Written.{part_block, part_blocks}
 use Rattle.ua_operands.proofs.printers.put_part.Goals as goal
 
 pub returns : goal.returns

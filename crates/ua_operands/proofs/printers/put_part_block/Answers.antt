@@ -1,10 +1,7 @@
+use Rattle.ua_operands.proofs.Vocabulary.{sign, Shows, Number, number, part_block}
 use Rattle.std.proofs.Common.{◌≡◌, ◌∷◌, ◌++◌, [], map, codes, sym, subst}
 use Rattle.ua_text.specs.declared.symbols.Role.TheVariants as roles
-use Rattle.ua_text.specs.Signs.{sign}
-use Rattle.ua_text.specs.Printing.{Shows}
 use Rattle.ua_text.proofs.Prints.{shows_both, on_ok}
-use Rattle.ua_operands.specs.declared.written.Number.{Number}
-use Rattle.ua_operands.specs.Written.{number, part_block}
 use Rattle.ua_operands.proofs.printers.put_part_block.Goals as goal
 
 pub returns : goal.returns

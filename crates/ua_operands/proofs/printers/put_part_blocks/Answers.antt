@@ -1,10 +1,8 @@
+use Rattle.ua_operands.proofs.Vocabulary.{flat_map, Shows, part_block}
 use Rattle.std.proofs.Common.{◌≡◌, ◌++◌, ◌<◌, length, take, sym, ◌∙◌, ap, subst, arith}
-use Rattle.std.specs.List.{flat_map}
 use Rattle.std.proofs.lemmas.List.{take_all}
 use Rattle.ua_text.specs.declared.symbols.Role.TheVariants as roles
-use Rattle.ua_text.specs.Printing.{Shows}
 use Rattle.ua_text.proofs.Prints.{shows_both, flat_push}
-use Rattle.ua_operands.specs.Written.{part_block}
 use Rattle.ua_operands.proofs.ReadLaws.{blocks_flat}
 use Rattle.ua_operands.proofs.printers.put_part_blocks.Goals as goal
 

@@ -1,8 +1,6 @@
+use Rattle.ua_operands.proofs.Vocabulary.{flat_map, Shows, part_block}
 use Rattle.std.proofs.Common.{take}
-use Rattle.std.specs.List.{flat_map}
 use Rattle.ua_text.specs.declared.symbols.Role.TheVariants as roles
-use Rattle.ua_text.specs.Printing.{Shows}
-use Rattle.ua_operands.specs.Written.{part_block}
 use Rattle.ua_operands.proofs.printers.put_part_blocks.Given as goal
 
 -- the blocks so far are printed

@@ -1,10 +1,8 @@
+use Rattle.ua_operands.proofs.Vocabulary.{sign, sign_at, Shows, entry}
 use Rattle.std.proofs.Common.{◌≡◌, ◌∷◌, ◌++◌, [], ◌<◌, length, map, take, codes, sym, ap, ◌∙◌, subst, arith}
 use Rattle.std.proofs.lemmas.List.{map_more, take_all}
 use Rattle.ua_text.specs.declared.symbols.Role.TheVariants as roles
-use Rattle.ua_text.specs.Signs.{sign, sign_at}
-use Rattle.ua_text.specs.Printing.{Shows}
 use Rattle.ua_text.proofs.Prints.{shows_both}
-use Rattle.ua_operands.specs.Written.{entry}
 use Rattle.ua_operands.proofs.printers.put_vector.Goals as goal
 
 pub loop-value-preserved : goal.loop-value-preserved

@@ -1,6 +1,5 @@
+use Rattle.ua_operands.proofs.Vocabulary.{Shows, entry}
 use Rattle.std.proofs.Common.{map, take}
-use Rattle.ua_text.specs.Printing.{Shows}
-use Rattle.ua_operands.specs.Written.{entry}
 use Rattle.ua_operands.proofs.printers.put_vector.Given as goal
 
 -- the values so far are printed

@@ -1,9 +1,7 @@
+use Rattle.ua_operands.proofs.Vocabulary.{flat_map, Shows, vector}
 use Rattle.std.proofs.Common.{◌≡◌, ◌++◌, ◌<◌, length, take, sym, ◌∙◌, ap, subst, arith}
-use Rattle.std.specs.List.{flat_map}
 use Rattle.std.proofs.lemmas.List.{take_all}
-use Rattle.ua_text.specs.Printing.{Shows}
 use Rattle.ua_text.proofs.Prints.{shows_both, flat_push}
-use Rattle.ua_operands.specs.Written.{vector}
 use Rattle.ua_operands.proofs.printers.put_vectors.Goals as goal
 
 pub loop-v-preserved : goal.loop-v-preserved

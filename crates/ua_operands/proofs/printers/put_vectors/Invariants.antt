@@ -1,7 +1,5 @@
+use Rattle.ua_operands.proofs.Vocabulary.{flat_map, Shows, vector}
 use Rattle.std.proofs.Common.{take}
-use Rattle.std.specs.List.{flat_map}
-use Rattle.ua_text.specs.Printing.{Shows}
-use Rattle.ua_operands.specs.Written.{vector}
 use Rattle.ua_operands.proofs.printers.put_vectors.Given as goal
 
 -- the vectors so far are printed

@@ -1,8 +1,7 @@
+use Rattle.ua_operands.proofs.Vocabulary.{sign, cond_word}
 use Rattle.std.proofs.Common.{rules, [], sym}
 use Rattle.ua_text.specs.declared.symbols.Role.TheVariants as roles
-use Rattle.ua_text.specs.Signs.{sign}
 use Rattle.ua_operands.specs.declared.written.CondWord.TheVariants.{Maltsev, Majority, Minority, Pixley}
-use Rattle.ua_operands.specs.Written.{cond_word}
 use Rattle.ua_operands.proofs.ReadLaws.{condition_is, some_condition}
 use Rattle.ua_operands.proofs.readers.condition.Goals as goal
 

@@ -1,8 +1,6 @@
+use Rattle.ua_operands.proofs.Vocabulary.{sign_at, tokens_left, part_blocks}
 use Rattle.std.proofs.Common.{rules, [], ◌++◌, codes, sym, ◌∙◌}
 use Rattle.ua_text.specs.declared.symbols.Role.TheVariants as roles
-use Rattle.ua_text.specs.Signs.{sign_at}
-use Rattle.ua_text.specs.Tokens.{tokens_left}
-use Rattle.ua_operands.specs.Written.{part_blocks}
 use Rattle.ua_operands.proofs.ReadLaws.{blocks_front, part_is}
 use Rattle.ua_operands.proofs.readers.part.Goals as goal
 

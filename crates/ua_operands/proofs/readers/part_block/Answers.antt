@@ -1,7 +1,6 @@
+use Rattle.ua_operands.proofs.Vocabulary.{sign, tokens_left}
 use Rattle.std.proofs.Common.{rules, [], refl, codes, ◌∙◌}
 use Rattle.ua_text.specs.declared.symbols.Role.TheVariants as roles
-use Rattle.ua_text.specs.Signs.{sign}
-use Rattle.ua_text.specs.Tokens.{tokens_left}
 use Rattle.ua_operands.proofs.ReadLaws.{block_front}
 use Rattle.ua_operands.proofs.readers.part_block.Goals as goal
 

@@ -1,8 +1,7 @@
+use Rattle.ua_operands.proofs.Vocabulary.{sign, series_word}
 use Rattle.std.proofs.Common.{rules, [], sym}
 use Rattle.ua_text.specs.declared.symbols.Role.TheVariants as roles
-use Rattle.ua_text.specs.Signs.{sign}
 use Rattle.ua_operands.specs.declared.written.SeriesWord.TheVariants.{Derived, Lower}
-use Rattle.ua_operands.specs.Written.{series_word}
 use Rattle.ua_operands.proofs.ReadLaws.{series_is, some_series}
 use Rattle.ua_operands.proofs.readers.series.Goals as goal
 

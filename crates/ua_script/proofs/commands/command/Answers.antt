@@ -1,9 +1,8 @@
+use Rattle.ua_operands.proofs.Vocabulary.{tokens_left, sign}
+use Rattle.ua_script.proofs.Vocabulary.{asked}
 use Rattle.std.proofs.Common.{rules, ◌≡◌, ◌∷◌, ◌++◌, [], true, false, codes, refl, ◌∙◌}
 use Rattle.ua_text.specs.declared.symbols.Role.TheVariants as roles
 use Rattle.ua_text.specs.declared.readers.Miss.TheVariants as misses
-use Rattle.ua_text.specs.Tokens.{tokens_left}
-use Rattle.ua_text.specs.Signs.{sign}
-use Rattle.ua_script.specs.Forms.{asked}
 use Rattle.ua_script.proofs.Certificates.{operands, word_at, by_certificate, beginning, no_certificate, certified_is, gives_plain}
 use Rattle.ua_script.proofs.commands.command.Goals as goal
 

@@ -1,7 +1,6 @@
+use Rattle.ua_operands.proofs.Vocabulary.{tokens_left, seen}
+use Rattle.ua_script.proofs.Vocabulary.{values_text, parts_of}
 use Rattle.std.proofs.Common.{rules, ◌++◌, []}
-use Rattle.ua_text.specs.Tokens.{tokens_left, seen}
-use Rattle.ua_script.specs.Operands.{values_text}
-use Rattle.ua_script.specs.Forms.{parts_of}
 use Rattle.ua_script.proofs.Making.{word_found, made_behind, none_found}
 use Rattle.ua_script.proofs.commands.plain.Goals as goal
 

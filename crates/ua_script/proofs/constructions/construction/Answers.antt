@@ -1,10 +1,8 @@
+use Rattle.ua_operands.proofs.Vocabulary.{sign, Front, tokens_left}
+use Rattle.ua_script.proofs.Vocabulary.{Product, Quotient, Sub, Reduct, Standing}
 use Rattle.std.proofs.Common.{rules, ◌≡◌, [], ◌++◌, sym, ap}
 use Rattle.ua_text.specs.declared.readers.Miss.TheVariants as misses
 use Rattle.ua_text.specs.declared.symbols.Role.TheVariants as roles
-use Rattle.ua_text.specs.Signs.{sign, Front}
-use Rattle.ua_text.specs.Tokens.{tokens_left}
-use Rattle.ua_script.specs.declared.script.MakeForm.TheVariants.{Product, Quotient, Sub, Reduct}
-use Rattle.ua_script.specs.inner.Reading.{Standing}
 use Rattle.ua_script.proofs.ConstructionLaws.{first_of, parts_in, values_in, behind, construction_front, stands, is_product, is_quotient, is_subalgebra, is_reduct, some_construction}
 use Rattle.ua_script.proofs.constructions.construction.Goals as goal
 

@@ -1,6 +1,5 @@
+use Rattle.ua_script.proofs.Vocabulary.{all_forms, found_form}
 use Rattle.std.proofs.Common.{◌≡◌, drop}
-use Rattle.ua_script.specs.Forms.{all_forms}
-use Rattle.ua_script.specs.inner.Forms.{found_form}
 use Rattle.ua_script.proofs.forms.found_form.Given as goal
 
 -- the word is found among all as among those to come

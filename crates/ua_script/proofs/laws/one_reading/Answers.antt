@@ -4,4 +4,4 @@ use Rattle.ua_script.proofs.TermReadings.{one_term_at}
 use Rattle.ua_script.proofs.laws.one_reading.Goals as goal
 
 pub returns : goal.returns
-returns c = record { script = one_script; block = one_block_at; term = one_term_at }
+returns c = record { script = λ bytes s t few. one_script bytes s t; block = λ v ts l r b c few. one_block_at v ts l r b c; term = one_term_at }

@@ -1,6 +1,5 @@
+use Rattle.ua_operands.proofs.Vocabulary.{names, Shows}
 use Rattle.std.proofs.Common.{subst}
-use Rattle.ua_operands.specs.Written.{names}
-use Rattle.ua_text.specs.Printing.{Shows}
 use Rattle.ua_text.proofs.Prints.{shows_both, on_ok}
 use Rattle.ua_script.proofs.values.ListedWordOperand.put.Goals as goal
 
