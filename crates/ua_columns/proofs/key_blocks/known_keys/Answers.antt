@@ -28,5 +28,6 @@ loop-r-preserved c =
       below = subst (λ n. n < 2 ^ (r + 1)) (sym entered.0) entered.1;
       known = one_more (λ k. bit_or bits (b * 2 ^ r % 4294967296) / 2 ^ k % 2 ≡ 1 → IsSomeKey c.args.keys.now c.args.words c.args.count c.args.block.now k) r
           (λ k less e. c.loop-r.invariant.known k less (sym (bit_below bits b r k less) ∙ ap (λ n. n / 2 ^ k % 2) (sym entered.0) ∙ e))
-          (λ e. some_key c.args.keys.now c.args.block.now c.args.words c.args.count r c.requires.block c.loop-r-test.true (c.is_guessed-is_there.ensures (bit_true t (sym is ∙ sym (bit_at bits b r low small) ∙ ap (λ n. n / 2 ^ r % 2) (sym entered.0) ∙ e))));
+          (λ e. let yes = bit_true t (sym is ∙ sym (bit_at bits b r low small) ∙ ap (λ n. n / 2 ^ r % 2) (sym entered.0) ∙ e) in
+          some_key c.args.keys.now c.args.block.now c.args.words c.args.count r c.requires.block c.loop-r-test.true (c.is_guessed-is_there.ensures yes));
     }

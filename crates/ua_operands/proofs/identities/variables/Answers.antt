@@ -9,7 +9,9 @@ loop-tokens-init c = none_read variable_kind c.args.tokens.now c.new-variables.e
 
 pub returns-in_err-read-clause-only : goal.returns-in_err-read-clause-only
 returns-in_err-read-clause-only c = λ xs ws f.
-    let e = missed_more variable_kind c.loop-tokens.invariant (λ v others g. c.in_err-read.ensures.only v others) (at_mark c.loop-tokens.tokens (codes ")") c.loop-tokens-test.ensures.yes) xs (sign roles.Closes (codes ")") ∷ ws) (all_units xs) refl f in search rules
+    let e = missed_more variable_kind c.loop-tokens.invariant (λ v others g. c.in_err-read.ensures.only v others) (at_mark c.loop-tokens.tokens (codes ")") c.loop-tokens-test.ensures.yes)
+    xs (sign roles.Closes (codes ")") ∷ ws) (all_units xs) refl f in
+    search rules
 
 pub loop-tokens-preserved : goal.loop-tokens-preserved
 loop-tokens-preserved c =
